@@ -1,0 +1,32 @@
+-- Numbers of 32 bits as whole numbers, and the rule for their sum.
+use Prim.Native.Nat.{ℕ, _-_, _%_, _^_}
+use mathlib.Core.Bool.{cond}
+use lib.IntN.{ℤ, pos, negsuc, _+ℤ_, _-ℤ_}
+use lib.Signed.{_≤ℤ_}
+use lib.Dec.{ltb}
+
+-- "a signed 32-bit number": −2147483648 to 2147483647
+pub record InRange (z : ℤ) : Type 0 where
+  pub low : negsuc 2147483647 ≤ℤ z
+  pub high : z ≤ℤ pos 2147483647
+
+-- the remainder of z by 2 ^ 32: 0 to 2 ^ 32 − 1
+unfoldable pub residue : ℤ → ℕ
+residue (pos n) = n % 2 ^ 32
+residue (negsuc n) = (2 ^ 32 - 1) - n % 2 ^ 32
+
+-- the number in range whose remainder by 2 ^ 32 is n, for n below 2 ^ 32
+unfoldable pub signed : ℕ → ℤ
+signed n = cond (ltb n 2147483648) (pos n) (pos n -ℤ pos 4294967296)
+
+-- the one number in range that differs from z by a multiple of 2 ^ 32 (`proofs/Sums.antt`: wrap-in-range, wrap-differs, wrap-only)
+unfoldable pub wrap : ℤ → ℤ
+wrap z = signed (residue z)
+
+-- a rule for sums: what ADD makes of its two numbers
+abbrev pub Rule : Type 0
+Rule = ℤ → ℤ → ℤ
+
+-- document 01: "sums wrap in 32 bits, two's complement"
+unfoldable pub wrapping : Rule
+wrapping a b = wrap (a +ℤ b)

@@ -1,0 +1,45 @@
+// Numbers of 32 bits and sets of 64 registers: the leaves of every layer above.
+ghost use mathlib.Core.Path.{_≡_};
+ghost use Rattle.word.specs.Registers.{member, none, with};
+ghost use Rattle.word.specs.Sum.{wrapping};
+
+// The sum of two numbers, wrapped to 32 bits: the one leaf for ADD.
+pub fn add(a: i32, b: i32) -> i32
+    ensures { λ r. ⌜ r ≡ wrapping a b ⌝ }
+{
+    let s = a as i64 + b as i64;
+    if s > 2147483647 {
+        (s - 4294967296) as i32
+    } else if s < -2147483648 {
+        (s + 4294967296) as i32
+    } else {
+        s as i32
+    }
+}
+
+// The set with no register.
+pub fn empty() -> u64
+    ensures { λ r. ⌜ r ≡ none ⌝ }
+{
+    0
+}
+
+// The set with the register besides. A register of 64 or above leaves the set as it is.
+pub fn insert(set: u64, register: u8) -> u64
+    ensures { λ r. ⌜ r ≡ with set register ⌝ }
+{
+    if register < 64 {
+        return set | (1 << register);
+    }
+    set
+}
+
+// Whether the register is in the set. None of 64 or above is.
+pub fn has(set: u64, register: u8) -> bool
+    ensures { λ r. ⌜ r ≡ member set register ⌝ }
+{
+    if register < 64 {
+        return (set >> register) & 1 == 1;
+    }
+    false
+}
