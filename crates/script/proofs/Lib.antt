@@ -1,0 +1,9 @@
+-- The theorems about scripts.
+pub mod Numbers
+pub mod Nodes
+pub mod Reading
+pub mod Accepts
+pub mod Refuses
+pub mod Transactions
+pub mod Same
+pub mod Soups

@@ -1,0 +1,194 @@
+-- The job reader refuses n at p exactly if document 01's table does. Assumes nothing.
+use Prim.Native.Nat.{ℕ, zero, suc, _+_, _*_, _≤_, _<_}
+use mathlib.Core.Path.{_≡_, refl, sym, ap, subst, subst₂, _∙_}
+use mathlib.Core.Bool.{Bool, true, false, not, _&&_}
+use mathlib.Core.Logic.{_⊎_, inl, inr}
+use mathlib.Core.List.{List, [], _∷_, _++_}
+use native.Mathlib.Decide.{decLt, ℕ-discrete}
+use native.Mathlib.Omega.{arith}
+use lib.Dec.{eqb, leb, ltb, eqb·suc-zero}
+use lib.ListN.{length, drop, take, getD, length-append, length-drop}
+use borrow.Author.Tests.{lt-ltb, le-ltb, le-leb, lt-leb, eq-eqb, ne-eqb, eqb-true, eqb-false, leb-true, leb-false, ltb-true, ltb-false, not-true, not-false}
+use Rattle.script.specs.Tree.{Proc, Sort, process}
+use Rattle.script.specs.Bytes.{Bytes, Node, nodeBytes, jobMark}
+use Rattle.script.specs.Outcome.{Outcome, refused, done, refuse, mapped}
+use Rattle.script.specs.Reader.{Due, Forest, number16, operand, partsThen, grown, forkOf, readNodes, Job, marked, taken, root, readJob}
+use Rattle.script.specs.Refusal.{Permitted, Taken, ValuedN, Long, Marked, Versioned, Counted, Reaches, start, next, AtKind, Refused, cut-header, cut-node, cut-operand, mark, version, count, kind, register, depth, forks, used-up, nodes-over, bytes-over}
+use Rattle.script.proofs.Numbers.{bytes-drop}
+use Rattle.script.proofs.Nodes.{Sees, no-byte, bad-kind, too-deep, cut, bad-register, many-forks, good, node-sees, seen}
+use Rattle.script.proofs.Reading.{read-one, bytes-behind}
+use Rattle.script.proofs.Accepts.{both}
+
+-- what holds wherever the reader has come
+module _ (bs : List ℕ) where
+  place-is : {left : ℕ} {ds : List Due} {f p : ℕ} {rest : List ℕ} → Reaches bs left ds f p rest → p + length rest ≡ length bs
+  place-is (start c) = rw (length-drop 7 bs) (omega (arith, c .before .before .before .long))
+  place-is (next {place = p} {rest = rest} node r v h g) =
+      omega (arith, place-is r, length-append (nodeBytes node) rest)
+
+  forks-are : {left : ℕ} {ds : List Due} {f p : ℕ} {rest : List ℕ} → Reaches bs left ds f p rest → f ≤ 15
+  forks-are (start c) = omega arith
+  forks-are (next node r v h g) = g
+
+  bytes-are : Bytes bs → {left : ℕ} {ds : List Due} {f p : ℕ} {rest : List ℕ} → Reaches bs left ds f p rest → Bytes rest
+  bytes-are b (start c) = bytes-drop 7 b
+  bytes-are b (next {rest = rest} node r v h g) = bytes-behind (nodeBytes node) rest (bytes-are b r)
+
+-- the header's tests, as equations of what the reader tests
+mark-yes : (bs : List ℕ) → 3 ≤ length bs → marked bs ≡ true → take 3 bs ≡ jobMark
+unfolding marked jobMark
+mark-yes [] h e = absurd (omega arith)
+mark-yes (a ∷ []) h e = absurd (omega arith)
+mark-yes (a ∷ b ∷ []) h e = absurd (omega arith)
+mark-yes (a ∷ b ∷ c ∷ bs) h e =
+    let m = both (eqb a 87) _ e in
+    let m′ = both (eqb b 83) _ (m .1) in
+    rw (eqb-true a 87 (m .0), eqb-true b 83 (m′ .0), eqb-true c 74 (m′ .1))
+
+mark-back : (bs : List ℕ) → take 3 bs ≡ jobMark → marked bs ≡ true
+unfolding marked jobMark
+mark-back [] e = absurd (let z : _≡_ {A = ℕ} 0 1 = cc in omega arith)
+mark-back (a ∷ []) e = absurd (let z : _≡_ {A = ℕ} 0 1 = cc in omega arith)
+mark-back (a ∷ b ∷ []) e = absurd (let z : _≡_ {A = ℕ} 0 1 = cc in omega arith)
+mark-back (a ∷ b ∷ c ∷ bs) e =
+    let p : a ≡ 87 = cc in
+    let q : b ≡ 83 = cc in
+    let r : c ≡ 74 = cc in
+    rw (eq-eqb a 87 p, eq-eqb b 83 q, eq-eqb c 74 r)
+
+-- past the header the nodes decide
+header-passed : {bs : List ℕ} → Counted bs → readJob bs ≡ mapped (λ (ts : Forest root). record { version = number16 bs 3; tree = ts .0 }) (readNodes (number16 bs 5) root 0 7 (drop 7 bs))
+unfolding readJob taken
+header-passed {bs} c =
+    rw (
+      le-ltb (length bs) 7 (c .before .before .before .long),
+      mark-back bs (c .before .before .mark),
+      eq-eqb (number16 bs 3) 1 (c .before .version),
+      le-leb 1 (number16 bs 5) (c .some),
+      le-leb (number16 bs 5) 1000 (c .few),
+    )
+
+-- what the reader refuses where it has come, it refuses
+reached : {bs : List ℕ} {left : ℕ} {ds : List Due} {f p n q : ℕ} {rest : List ℕ} → Reaches bs left ds f p rest → readNodes left ds f p rest ≡ refused n q → readJob bs ≡ refused n q
+reached {n = n} {q = q} (start c) e = header-passed c ∙ ap (mapped _) e
+reached {n = n} {q = q} (next {left = left} {d = d} {ds = ds} {forks = f} {place = p} {rest = rest} node r v h g) e =
+    reached r (read-one node left (d .depth) f p ds rest v h g ∙ ap (mapped (grown node (d .depth) ds)) e)
+
+-- a node that is refused
+stuck : {s : Sort} {n f p k q : ℕ} {bs : List ℕ} (left : ℕ) (ds : List Due) → Sees {s = s} n f p bs (refused k q) → readNodes (suc left) (record { sort = s; depth = n } ∷ ds) f p bs ≡ refused k q
+unfolding readNodes
+stuck left ds sees = rw (node-sees sees)
+
+stopped : {bs : List ℕ} {left : ℕ} {d : Due} {ds : List Due} {f p k q : ℕ} {rest : List ℕ} → Reaches bs (suc left) (d ∷ ds) f p rest → Sees {s = d .sort} (d .depth) f p rest (refused k q) → readJob bs ≡ refused k q
+stopped {left = left} {ds = ds} r sees = reached r (stuck left ds sees)
+
+-- what the table refuses, the reader refuses
+pub refused-is-read : {bs : List ℕ} {n p : ℕ} → Refused bs n p → readJob bs ≡ refused n p
+unfolding readJob readNodes taken
+refused-is-read {bs} (cut-header h) = rw (lt-ltb (length bs) 7 h)
+refused-is-read {bs} (cut-node {place = p} r) =
+    let e : p ≡ length bs = omega (arith, place-is bs r) in
+    stopped r no-byte ∙ ap (refused 1) e
+refused-is-read {bs} (cut-operand {place = p} {rest = rest} a q h l) =
+    let e : p + suc (length rest) ≡ length bs = place-is bs (a .2) in
+    stopped (a .2) (cut q h l) ∙ ap (refused 1) e
+refused-is-read {bs} (mark l n) =
+    rw (le-ltb (length bs) 7 (l .long), no-mark (marked bs) refl)
+  where
+    no-mark : (b : Bool) → marked bs ≡ b → marked bs ≡ false
+    no-mark true e = absurd (n (mark-yes bs (omega (arith, l .long)) e))
+    no-mark false e = e
+refused-is-read {bs} (version m n) =
+    rw (le-ltb (length bs) 7 (m .before .long), mark-back bs (m .mark), ne-eqb (number16 bs 3) 1 n)
+refused-is-read {bs} (count v (inl e)) =
+    rw (le-ltb (length bs) 7 (v .before .before .long), mark-back bs (v .before .mark), eq-eqb (number16 bs 3) 1 (v .version), e)
+refused-is-read {bs} (count v (inr l)) =
+    rw (
+      le-ltb (length bs) 7 (v .before .before .long),
+      mark-back bs (v .before .mark),
+      eq-eqb (number16 bs 3) 1 (v .version),
+      le-leb 1 (number16 bs 5) (omega arith),
+      lt-leb (number16 bs 5) 1000 l,
+    )
+refused-is-read (kind a n) = stopped (a .2) (bad-kind n)
+refused-is-read (register a q h o l) = stopped (a .2) (bad-register q h o l)
+refused-is-read (depth a q h) = stopped (a .2) (too-deep q h)
+refused-is-read (forks a q h l) = stopped (a .2) (many-forks q h l)
+refused-is-read (used-up r) = reached r refl
+refused-is-read (nodes-over r) = reached r refl
+refused-is-read (bytes-over {left = zero} {rest = rest} r) = reached r (rw (eqb·suc-zero (length rest)))
+refused-is-read (bytes-over {left = suc left} r) = reached r refl
+
+-- the header is turned down, or passes all its tests
+data Header (bs : List ℕ) : Type 0 where
+  turned-down : {number place : ℕ} → Refused bs number place → Header bs
+  all-passed : Counted bs → Header bs
+
+header : (bs : List ℕ) → Header bs
+header bs = long (decLt (length bs) 7)
+  where
+    counted : Versioned bs → Dec (number16 bs 5 < 1) → Dec (1000 < number16 bs 5) → Header bs
+    counted v (yes h) l = turned-down (count v (inl (omega arith)))
+    counted v (no h) (yes l) = turned-down (count v (inr l))
+    counted v (no h) (no l) = all-passed (record { before = v; some = omega arith; few = omega arith })
+
+    versioned : Marked bs → Dec (number16 bs 3 ≡ 1) → Header bs
+    versioned m (yes e) = counted (record { before = m; version = e }) (decLt (number16 bs 5) 1) (decLt 1000 (number16 bs 5))
+    versioned m (no n) = turned-down (version m n)
+
+    with-mark : Long bs → (t : Bool) → marked bs ≡ t → Header bs
+    with-mark l true e = versioned (record { before = l; mark = mark-yes bs (omega (arith, l .long)) e }) (ℕ-discrete (number16 bs 3) 1)
+    with-mark l false e = turned-down (mark l (λ m. let f = mark-back bs m in absurd (let z : _≡_ {A = ℕ} 0 1 = cc in omega arith)))
+
+    long : Dec (length bs < 7) → Header bs
+    long (yes h) = turned-down (cut-header h)
+    long (no h) = with-mark (record { long = omega arith }) (marked bs) refl
+
+mapped-refused : {A B : Type 0} {k q : ℕ} (g : A → B) (o : Outcome A) → mapped g o ≡ refused k q → o ≡ refused k q
+mapped-refused g (refused n p) e = cc
+mapped-refused g (done a) e = absurd (let z : _≡_ {A = ℕ} 0 1 = cc in omega arith)
+
+-- what the reader refuses, the table refuses
+module _ (bs : List ℕ) (b : Bytes bs) where
+  module _ (left : ℕ) (ih : (ds : List Due) (f p : ℕ) (rest : List ℕ) (k q : ℕ) → Reaches bs left ds f p rest → readNodes left ds f p rest ≡ refused k q → Refused bs k q) where
+    -- a node that is due where the reader has come
+    module _ (s : Sort) (n : ℕ) (ds : List Due) (f p k q : ℕ) where
+      node-stuck : (rest : List ℕ) (number place : ℕ) → Sees {s = s} n f p rest (refused number place) → readNodes (suc left) (record { sort = s; depth = n } ∷ ds) f p rest ≡ refused k q → Refused bs number place → Refused bs k q
+      node-stuck rest number place sees e r =
+          let e′ : refused number place ≡ refused k q = sym (stuck left ds sees) ∙ e in
+          subst₂ (Refused bs) (cc) (cc) r
+
+      node-refused : (rest : List ℕ) (o : Outcome (Node s)) → Sees n f p rest o → Reaches bs (suc left) (record { sort = s; depth = n } ∷ ds) f p rest → readNodes (suc left) (record { sort = s; depth = n } ∷ ds) f p rest ≡ refused k q → Refused bs k q
+      node-refused _ o no-byte r e =
+          let h : length bs ≡ p = omega (arith, place-is bs r) in
+          node-stuck [] 1 p no-byte e (subst (Refused bs 1) h (cut-node r))
+      node-refused _ o (bad-kind {k = x} {rest = rest} h) r e = node-stuck (x ∷ rest) 5 p (bad-kind h) e (kind (left, ds, r) h)
+      node-refused _ o (too-deep {k = x} {rest = rest} h l) r e = node-stuck (x ∷ rest) 7 p (too-deep h l) e (depth (left, ds, r) h l)
+      node-refused _ o (cut {k = x} {rest = rest} h l m) r e =
+          node-stuck (x ∷ rest) 1 (p + suc (length rest)) (cut h l m) e (subst (Refused bs 1) (sym (place-is bs r)) (cut-operand (left, ds, r) h l m))
+      node-refused _ o (bad-register {k = x} {v = v} {rest = rest} h l m w) r e = node-stuck (x ∷ v ∷ rest) 6 (p + 1) (bad-register h l m w) e (register (left, ds, r) h l m w)
+      node-refused _ o (many-forks {rest = rest} h l m) r e = node-stuck (4 ∷ rest) 8 p (many-forks h l m) e (forks (left, ds, r) h l m)
+      node-refused rest o (good node behind v h g eq) r e =
+          ih (partsThen node n ds) (f + forkOf node) (p + length (nodeBytes node)) behind k q (next node (subst (Reaches bs (suc left) (record { sort = s; depth = n } ∷ ds) f p) eq r) v h g) (mapped-refused (grown node n ds) _ (sym (read-one node left n f p ds behind v h g) ∙ (rw eq at e)))
+
+  nodes-refused : (left : ℕ) (ds : List Due) (f p : ℕ) (rest : List ℕ) (k q : ℕ) → Reaches bs left ds f p rest → readNodes left ds f p rest ≡ refused k q → Refused bs k q
+  unfolding readNodes
+  nodes-refused zero [] f p [] k q r e = absurd (let z : _≡_ {A = ℕ} 0 1 = cc in omega arith)
+  nodes-refused zero [] f p (x ∷ rest) k q r e =
+      let e′ : _≡_ {A = Outcome (Forest [])} (refused 9 p) (refused k q) = rw (eqb·suc-zero (length rest)) at e in
+      subst₂ (Refused bs) (cc) (cc) (bytes-over r)
+  nodes-refused zero (d ∷ ds) f p rest k q r e = subst₂ (Refused bs) (cc) (cc) (used-up r)
+  nodes-refused (suc left) [] f p rest k q r e = subst₂ (Refused bs) (cc) (cc) (nodes-over r)
+  nodes-refused (suc left) (d ∷ ds) f p rest k q r e =
+      let w = seen (d .depth) f p (d .sort) rest (bytes-are bs b r) (forks-are bs r) in
+      node-refused left (λ ds f p rest k q r e. nodes-refused left ds f p rest k q r e) (d .sort) (d .depth) ds f p k q rest (w .outcome) (w .sees) r e
+
+  -- what the reader refuses, the table refuses
+  pub read-is-refused : (k q : ℕ) → readJob bs ≡ refused k q → Refused bs k q
+  read-is-refused k q e = go (header bs)
+    where
+      go : Header bs → Refused bs k q
+      go (turned-down {number = n} {place = p} r) =
+          let e′ : readJob bs ≡ refused n p = refused-is-read r in
+          subst₂ (Refused bs) (cc) (cc) r
+      go (all-passed c) = nodes-refused (number16 bs 5) root 0 7 (drop 7 bs) k q (start c) (mapped-refused _ _ (sym (header-passed c) ∙ e))

@@ -1,0 +1,152 @@
+-- What documents 01 and 02 count in a script, each as a fold over its tree.
+use Prim.Native.Nat.{ℕ, zero, suc, _+_, _*_, _-_, max}
+use mathlib.Core.List.{List, [], _∷_, _++_}
+use Rattle.script.specs.Tree.{Tran, ValT, AddT, Read, Write, Proc, ValP, AddP, Atomic, Fork, Sort, process, transaction, Tree}
+use Rattle.word.specs.Registers.{none, with}
+
+-- nodes
+unfoldable pub nodesT : Tran → ℕ
+nodesT (ValT n) = 1
+nodesT (AddT a b) = suc (nodesT a + nodesT b)
+nodesT (Read v) = 1
+nodesT (Write v t) = suc (nodesT t)
+
+unfoldable pub nodesP : Proc → ℕ
+nodesP (ValP n) = 1
+nodesP (AddP a b) = suc (nodesP a + nodesP b)
+nodesP (Atomic t) = suc (nodesT t)
+nodesP (Fork p) = suc (nodesP p)
+
+-- depth, "the root having depth 1"
+unfoldable pub depthT : Tran → ℕ
+depthT (ValT n) = 1
+depthT (AddT a b) = suc (max (depthT a) (depthT b))
+depthT (Read v) = 1
+depthT (Write v t) = suc (depthT t)
+
+unfoldable pub depthP : Proc → ℕ
+depthP (ValP n) = 1
+depthP (AddP a b) = suc (max (depthP a) (depthP b))
+depthP (Atomic t) = suc (depthT t)
+depthP (Fork p) = suc (depthP p)
+
+-- FORK nodes
+unfoldable pub forks : Proc → ℕ
+forks (ValP n) = 0
+forks (AddP a b) = forks a + forks b
+forks (Atomic t) = 0
+forks (Fork p) = suc (forks p)
+
+-- K: ATOMIC nodes, the number of transactions
+unfoldable pub atomics : Proc → ℕ
+atomics (ValP n) = 0
+atomics (AddP a b) = atomics a + atomics b
+atomics (Atomic t) = 1
+atomics (Fork p) = atomics p
+
+-- T: "1 + FORK nodes"
+unfoldable pub threads : Proc → ℕ
+threads p = 1 + forks p
+
+-- L: "nodes + ATOMIC nodes"
+unfoldable pub instructions : Proc → ℕ
+instructions p = nodesP p + atomics p
+
+-- M: "the longest transaction's instructions, BEGIN and COMMIT included", "0 if there is none"
+unfoldable pub longest : Proc → ℕ
+longest (ValP n) = 0
+longest (AddP a b) = max (longest a) (longest b)
+longest (Atomic t) = nodesT t + 2
+longest (Fork p) = longest p
+
+-- demand 3: L + (K−1)×(T−1)×M, "or L if K is 0"
+unfoldable pub bound : Proc → ℕ
+bound p = instructions p + (atomics p - 1) * (threads p - 1) * longest p
+
+-- the code's length in bytes without its mark and version: PUSH 5, ADD 1, READ 2, WRITE 2, BEGIN and COMMIT 1 each, FORK 3
+unfoldable pub codeT : Tran → ℕ
+codeT (ValT n) = 5
+codeT (AddT a b) = codeT a + codeT b + 1
+codeT (Read v) = 2
+codeT (Write v t) = codeT t + 2
+
+unfoldable pub codeP : Proc → ℕ
+codeP (ValP n) = 5
+codeP (AddP a b) = codeP a + codeP b + 1
+codeP (Atomic t) = codeT t + 2
+codeP (Fork p) = codeP p + 3
+
+-- the code's length in bytes, its five bytes of mark and version included
+unfoldable pub codeLength : Proc → ℕ
+codeLength p = 5 + codeP p
+
+-- the greatest stack height of a thread's own code
+unfoldable pub heightT : Tran → ℕ
+heightT (ValT n) = 1
+heightT (AddT a b) = max (heightT a) (suc (heightT b))
+heightT (Read v) = 1
+heightT (Write v t) = heightT t
+
+unfoldable pub heightP : Proc → ℕ
+heightP (ValP n) = 1
+heightP (AddP a b) = max (heightP a) (suc (heightP b))
+heightP (Atomic t) = heightT t
+heightP (Fork p) = 1
+
+-- document 02 No. 1: "the root and each FORK's child in job order"
+unfoldable pub childHeights : Proc → List ℕ
+childHeights (ValP n) = []
+childHeights (AddP a b) = childHeights a ++ childHeights b
+childHeights (Atomic t) = []
+childHeights (Fork p) = heightP p ∷ childHeights p
+
+unfoldable pub heights : Proc → List ℕ
+heights p = heightP p ∷ childHeights p
+
+-- document 02 No. 1: the registers named by READ, put into a set, and those named by WRITE
+unfoldable pub readT : Tran → ℕ → ℕ
+readT (ValT n) set = set
+readT (AddT a b) set = readT b (readT a set)
+readT (Read v) set = with set v
+readT (Write v t) set = readT t set
+
+unfoldable pub readP : Proc → ℕ → ℕ
+readP (ValP n) set = set
+readP (AddP a b) set = readP b (readP a set)
+readP (Atomic t) set = readT t set
+readP (Fork p) set = readP p set
+
+unfoldable pub writtenT : Tran → ℕ → ℕ
+writtenT (ValT n) set = set
+writtenT (AddT a b) set = writtenT b (writtenT a set)
+writtenT (Read v) set = set
+writtenT (Write v t) set = with (writtenT t set) v
+
+unfoldable pub writtenP : Proc → ℕ → ℕ
+writtenP (ValP n) set = set
+writtenP (AddP a b) set = writtenP b (writtenP a set)
+writtenP (Atomic t) set = writtenT t set
+writtenP (Fork p) set = writtenP p set
+
+unfoldable pub registersRead : Proc → ℕ
+registersRead p = readP p none
+
+unfoldable pub registersWritten : Proc → ℕ
+registersWritten p = writtenP p none
+
+-- nodes, depth, FORKs and code bytes of a tree of either sort
+abbrev pub nodes : (s : Sort) → Tree s → ℕ
+nodes process p = nodesP p
+nodes transaction t = nodesT t
+
+abbrev pub depth : (s : Sort) → Tree s → ℕ
+depth process p = depthP p
+depth transaction t = depthT t
+
+abbrev pub forksIn : (s : Sort) → Tree s → ℕ
+forksIn process p = forks p
+forksIn transaction t = 0
+
+abbrev pub code : (s : Sort) → Tree s → ℕ
+code process p = codeP p
+code transaction t = codeT t

@@ -1,0 +1,38 @@
+-- Document 01: which trees are scripts, and the limits of a job.
+use Prim.Native.Nat.{ℕ, _≤_, _<_}
+use Rattle.script.specs.Tree.{Tran, ValT, AddT, Read, Write, Proc, ValP, AddP, Atomic, Fork, Sort, process, transaction, Tree}
+use Rattle.script.specs.Count.{nodesP, depthP, forks}
+use Rattle.word.specs.Sum.{InRange}
+
+-- "n is a signed 32-bit number and v a register, 0 to 63"
+abbrev pub ValuedT : Tran → Type 0
+ValuedT (ValT n) = InRange n
+ValuedT (AddT a b) = ValuedT a × ValuedT b
+ValuedT (Read v) = v < 64
+ValuedT (Write v t) = (v < 64) × ValuedT t
+
+abbrev pub ValuedP : Proc → Type 0
+ValuedP (ValP n) = InRange n
+ValuedP (AddP a b) = ValuedP a × ValuedP b
+ValuedP (Atomic t) = ValuedT t
+ValuedP (Fork p) = ValuedP p
+
+abbrev pub Valued : (s : Sort) → Tree s → Type 0
+Valued process p = ValuedP p
+Valued transaction t = ValuedT t
+
+-- "Node count 1 to 1,000; depth at most 64, the root having depth 1; at most 15 FORKs"
+abbrev pub mostNodes : ℕ
+mostNodes = 1000
+
+abbrev pub mostDepth : ℕ
+mostDepth = 64
+
+abbrev pub mostForks : ℕ
+mostForks = 15
+
+pub record Within (p : Proc) : Type 0 where
+  pub valued : ValuedP p
+  pub few : nodesP p ≤ mostNodes
+  pub flat : depthP p ≤ mostDepth
+  pub narrow : forks p ≤ mostForks

@@ -1,0 +1,20 @@
+-- What a call comes to: a refusal, with document 01's number and place, or its result.
+use Prim.Native.Nat.{ℕ}
+use mathlib.Core.Bool.{Bool, true, false}
+
+pub data Outcome (A : Type 0) : Type 0 where
+  refused : (number place : ℕ) → Outcome A
+  done : A → Outcome A
+
+-- a test in document 01's order: where it is met the call is refused, else what comes behind it decides
+abbrev pub refuse : {A : Type 0} → Bool → ℕ → ℕ → Outcome A → Outcome A
+refuse true number place behind = refused number place
+refuse false number place behind = behind
+
+abbrev pub onward : {A B : Type 0} → Outcome A → (A → Outcome B) → Outcome B
+onward (refused number place) f = refused number place
+onward (done a) f = f a
+
+abbrev pub mapped : {A B : Type 0} → (A → B) → Outcome A → Outcome B
+mapped f (refused number place) = refused number place
+mapped f (done a) = done (f a)

@@ -1,0 +1,162 @@
+-- The job reader: document 01, "Turning a job down", test by test in its order.
+use Prim.Native.Nat.{ℕ, zero, suc, _+_, _*_}
+use mathlib.Core.Bool.{Bool, true, false, cond, not, _&&_, _||_}
+use mathlib.Core.List.{List, [], _∷_}
+use lib.Dec.{eqb, leb, ltb}
+use lib.ListN.{length, drop, getD}
+use Rattle.script.specs.Tree.{Proc, ValP, AddP, Atomic, Fork, Tran, ValT, AddT, Read, Write, Sort, process, transaction, Tree}
+use Rattle.script.specs.Limits.{mostNodes, mostDepth, mostForks}
+use Rattle.script.specs.Bytes.{Node, VALP, ADDP, ATOMIC, FORK, VALT, ADDT, READ, WRITE, nodeBytes}
+use Rattle.script.specs.Outcome.{Outcome, refused, done, refuse, onward, mapped}
+use Rattle.word.specs.Sum.{signed}
+
+-- the number that two bytes hold, and four
+abbrev pub number16 : List ℕ → ℕ → ℕ
+number16 bs i = getD bs i 0 * 256 + getD bs (suc i) 0
+
+abbrev pub number32 : List ℕ → ℕ
+number32 bs = ((getD bs 0 0 * 256 + getD bs 1 0) * 256 + getD bs 2 0) * 256 + getD bs 3 0
+
+-- a part that is due: a process or a transaction, and the depth of its node
+pub record Due : Type 0 where
+  pub sort : Sort
+  pub depth : ℕ
+
+-- a tree for each part that is due
+abbrev pub Forest : List Due → Type 0
+Forest [] = Unit {0}
+Forest (d ∷ ds) = Tree (d .sort) × Forest ds
+
+-- "processes (kinds 1 to 4)", "transactions (5 to 8)"
+unfoldable pub permitted : Sort → ℕ → Bool
+permitted process kind = leb 1 kind && leb kind 4
+permitted transaction kind = leb 5 kind && leb kind 8
+
+-- how many bytes a kind's operand has
+unfoldable pub operand : ℕ → ℕ
+operand kind = cond (eqb kind 1 || eqb kind 5) 4 (cond (eqb kind 7 || eqb kind 8) 1 0)
+
+-- the node of a permitted kind, its operand at the front of what follows
+unfoldable pub nodeOf : (s : Sort) → ℕ → List ℕ → Node s
+nodeOf process kind rest =
+    cond (eqb kind 1) (VALP (signed (number32 rest))) (cond (eqb kind 2) ADDP (cond (eqb kind 3) ATOMIC FORK))
+nodeOf transaction kind rest =
+    cond
+    (eqb kind 5)
+    (VALT (signed (number32 rest)))
+    (cond (eqb kind 6) ADDT (cond (eqb kind 7) (READ (getD rest 0 0)) (WRITE (getD rest 0 0))))
+
+-- a node that is due: "1 if no byte is left, 5, 7, 1 if its operand is cut, 6, 8"
+unfoldable pub nodeAt : (d : Due) (forks place : ℕ) → List ℕ → Outcome (Node (d .sort))
+nodeAt d forks place [] = refused 1 place
+nodeAt d forks place (kind ∷ rest) =
+    refuse
+    (not (permitted (d .sort) kind))
+    5
+    place
+    (refuse
+    (ltb mostDepth (d .depth))
+    7
+    place
+    (refuse
+    (ltb (length rest) (operand kind))
+    1
+    (place + suc (length rest))
+    (refuse
+    (eqb (operand kind) 1 && leb 64 (getD rest 0 0))
+    6
+    (place + 1)
+    (refuse (eqb kind 4 && leb mostForks forks) 8 place (done (nodeOf (d .sort) kind rest))))))
+
+-- what is due behind a node at a depth: its parts, and then what was due before
+abbrev pub partsThen : {s : Sort} → Node s → ℕ → List Due → List Due
+partsThen (VALP n) depth ds = ds
+partsThen ADDP depth ds = record { sort = process; depth = suc depth } ∷ record { sort = process; depth = suc depth } ∷ ds
+partsThen ATOMIC depth ds = record { sort = transaction; depth = suc depth } ∷ ds
+partsThen FORK depth ds = record { sort = process; depth = suc depth } ∷ ds
+partsThen (VALT n) depth ds = ds
+partsThen ADDT depth ds = record { sort = transaction; depth = suc depth } ∷ record { sort = transaction; depth = suc depth } ∷ ds
+partsThen (READ v) depth ds = ds
+partsThen (WRITE v) depth ds = record { sort = transaction; depth = suc depth } ∷ ds
+
+-- the tree of a node and its parts, and then the others
+unfoldable pub grown : {s : Sort} (node : Node s) (depth : ℕ) (ds : List Due) → Forest (partsThen node depth ds) → Tree s × Forest ds
+grown (VALP n) depth ds ts = (ValP n, ts)
+grown ADDP depth ds ts = (AddP (ts .0) (ts .1 .0), ts .1 .1)
+grown ATOMIC depth ds ts = (Atomic (ts .0), ts .1)
+grown FORK depth ds ts = (Fork (ts .0), ts .1)
+grown (VALT n) depth ds ts = (ValT n, ts)
+grown ADDT depth ds ts = (AddT (ts .0) (ts .1 .0), ts .1 .1)
+grown (READ v) depth ds ts = (Read v, ts)
+grown (WRITE v) depth ds ts = (Write v (ts .0), ts .1)
+
+-- 1 for a FORK
+unfoldable pub forkOf : {s : Sort} → Node s → ℕ
+forkOf (VALP n) = 0
+forkOf ADDP = 0
+forkOf ATOMIC = 0
+forkOf FORK = 1
+forkOf (VALT n) = 0
+forkOf ADDT = 0
+forkOf (READ v) = 0
+forkOf (WRITE v) = 0
+
+-- "For each node that is due, left to right: 9 if the count is used up", then the node's own tests; "when the tree is complete: 9 if nodes or bytes are left over".
+-- `left` is what is left of the count, `bs` are the bytes from `place` on.
+unfoldable pub readNodes : (left : ℕ) (ds : List Due) (forks place : ℕ) → List ℕ → Outcome (Forest ds)
+readNodes zero [] forks place bs = refuse (not (eqb (length bs) 0)) 9 place (done tt)
+readNodes zero (d ∷ ds) forks place bs = refused 9 place
+readNodes (suc left) [] forks place bs = refused 9 place
+readNodes (suc left) (d ∷ ds) forks place bs =
+    onward
+    (nodeAt d forks place bs)
+    (λ node. mapped
+    (grown node (d .depth) ds)
+    (readNodes
+    left
+    (partsThen node (d .depth) ds)
+    (forks + forkOf node)
+    (place + length (nodeBytes node))
+    (drop (length (nodeBytes node)) bs)))
+
+-- an accepted job: its version and its tree
+pub record Job : Type 0 where
+  pub version : ℕ
+  pub tree : Proc
+
+-- "not `WSJ`"
+unfoldable pub marked : List ℕ → Bool
+marked bs = eqb (getD bs 0 0) 0x57 && (eqb (getD bs 1 0) 0x53 && eqb (getD bs 2 0) 0x4A)
+
+-- the versions taken
+unfoldable pub taken : ℕ → Bool
+taken version = eqb version 1
+
+-- the root is due at depth 1
+abbrev pub root : List Due
+root = record { sort = process; depth = 1 } ∷ []
+
+-- the job of the tree that was read
+abbrev pub whole : ℕ → Outcome (Forest root) → Outcome Job
+whole version = mapped (λ ts. record { version = version; tree = ts .0 })
+
+-- "Job order: fewer than 7 bytes is 1; then 2, 3, 4", then the nodes
+unfoldable pub readJob : List ℕ → Outcome Job
+readJob bs =
+    refuse
+    (ltb (length bs) 7)
+    1
+    (length bs)
+    (refuse
+    (not (marked bs))
+    2
+    0
+    (refuse
+    (not (taken (number16 bs 3)))
+    3
+    3
+    (refuse
+    (not (leb 1 (number16 bs 5) && leb (number16 bs 5) mostNodes))
+    4
+    5
+    (whole (number16 bs 3) (readNodes (number16 bs 5) root 0 7 (drop 7 bs))))))

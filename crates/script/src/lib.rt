@@ -1,0 +1,1 @@
+// Scripts, their bytes and their meaning: definitions in specs/, theorems in proofs/. No function.
