@@ -1,0 +1,19 @@
+-- `job::Scan::push` meets its contract. Assumes nothing.
+use mathlib.Core.Path.{refl}
+use Rattle.job.specs.Scan.{pushed}
+use borrow.Author.Needs.{needs}
+use Rattle.job.proofs.Scan.push.Statement.{statement}
+use Rattle.job.proofs.Scan.push.Tie as tie
+
+element-write-self : tie.Need-element-write-self
+element-write-self c = search needs
+
+add-self : tie.Need-add-self
+add-self c = search needs
+
+returns : tie.Need-returns
+unfolding pushed
+returns c = refl
+
+pub push-spec : {M : Type 1} → statement M
+push-spec = tie.close (tie.spec element-write-self add-self returns)

@@ -1,0 +1,412 @@
+-- The reader's loop follows `readNodes`: what is due in its array, what it counts, and why it stays within its bounds. Assumes nothing.
+use Prim.Native.Nat.{ℕ, zero, suc, _+_, _*_, _-_, _%_, _≤_, _<_}
+use mathlib.Core.Path.{_≡_, refl, sym, ap, ap₂, subst, _∙_}
+use mathlib.Core.Bool.{Bool, true, false}
+use mathlib.Core.List.{List, [], _∷_, _++_}
+use native.Mathlib.Decide.{decLt}
+use native.Mathlib.Omega.{arith}
+use lib.Dec.{leb}
+use lib.ListN.{length, drop, getD, set, replicate, length-set, length-drop, length-append}
+use lib.Seq.{getD-set-same, getD-set-other, drop-drop}
+use borrow.Author.Tests.{le-leb, lt-leb, eq-eqb, ne-eqb}
+use Rattle.job.specs.declared.Found.{Found}
+use Rattle.job.specs.declared.Found.the-variants.{Kind, Refused}
+use Rattle.job.specs.declared.Reading.{Reading}
+use Rattle.job.specs.declared.Reading.the-variants as reading
+use Rattle.job.specs.declared.Scan.{Scan}
+use Rattle.job.specs.Answer.{answer}
+use Rattle.job.specs.Scan.{sortOf, kindOf, found, codeOf, started, pushed, below, popped, advanced, Ready, part, dueOf}
+use Rattle.script.specs.Tree.{Proc, Sort, process, transaction, Tree}
+use Rattle.script.specs.Count.{codeT, codeP, codeLength, code}
+use Rattle.script.specs.Bytes.{Bytes, bytes32, Node, VALP, ADDP, ATOMIC, FORK, VALT, ADDT, READ, WRITE, nodeBytes}
+use Rattle.script.specs.Outcome.{Outcome, refused, done, mapped}
+use Rattle.script.specs.Reader.{Due, Forest, operand, nodeAt, partsThen, grown, forkOf, readNodes, Job, root, whole}
+use Rattle.script.proofs.Nodes.{Sees, good, node-sees, seen}
+use Rattle.script.proofs.Numbers.{bytes-drop}
+
+-- ---- what is due, in the array
+
+due-set : (a : List ℕ) (n m v : ℕ) → n ≤ m → dueOf (set a m v) n ≡ dueOf a n
+unfolding dueOf
+due-set a zero m v h = refl
+due-set a (suc n) m v h = rw (getD-set-other a m n v 0 (omega arith), due-set a n m v (omega arith))
+
+due-push : (a : List ℕ) (n v : ℕ) → n < length a → dueOf (set a n v) (n + 1) ≡ part v ∷ dueOf a n
+unfolding dueOf
+due-push a n v h =
+    let e : n + 1 ≡ suc n = omega arith in
+    rw (e, getD-set-same a n v 0 h, due-set a n n v (omega arith))
+
+-- a process and a transaction at the depth below n, as the array holds them
+part-process : (n : ℕ) → n ≤ 64 → part (n + 1) ≡ record { sort = process; depth = suc n }
+unfolding part
+part-process n h =
+    let e : (n + 1) % 128 ≡ suc n = omega arith in
+    rw (lt-leb 128 (n + 1) (omega arith), e)
+
+part-transaction : (n : ℕ) → n ≤ 64 → part (n + 1 + 128) ≡ record { sort = transaction; depth = suc n }
+unfolding part
+part-transaction n h =
+    let e : (n + 1 + 128) % 128 ≡ suc n = omega arith in
+    rw (le-leb 128 (n + 1 + 128) (omega arith), e)
+
+-- ---- the bytes of code of a tree for each part that is due
+
+abbrev codeF : (ds : List Due) → Forest ds → ℕ
+codeF [] ts = 0
+codeF (d ∷ ds) ts = code (d .sort) (ts .0) + codeF ds (ts .1)
+
+grown-code : {s : Sort} (node : Node s) (n : ℕ) (ds : List Due) (ts : Forest (partsThen node n ds)) → codeF (record { sort = s; depth = n } ∷ ds) (grown node n ds ts) ≡ codeOf (kindOf node) + codeF (partsThen node n ds) ts
+unfolding grown codeP codeT codeOf kindOf
+grown-code (VALP z) n ds ts = omega arith
+grown-code ADDP n ds ts = omega arith
+grown-code ATOMIC n ds ts = omega arith
+grown-code FORK n ds ts = omega arith
+grown-code (VALT z) n ds ts = omega arith
+grown-code ADDT n ds ts = omega arith
+grown-code (READ v) n ds ts = omega arith
+grown-code (WRITE v) n ds ts = omega arith
+
+-- the answer, when so many bytes of code were counted before
+abbrev told : (version before : ℕ) (ds : List Due) → Outcome (Forest ds) → Reading
+told version before ds (refused number place) = reading.Refused number place
+told version before ds (done ts) = reading.Accepted version (before + codeF ds ts)
+
+told-grown : {s : Sort} (version before : ℕ) (node : Node s) (n : ℕ) (ds : List Due) (o : Outcome (Forest (partsThen node n ds))) → told version before (record { sort = s; depth = n } ∷ ds) (mapped (grown node n ds) o) ≡ told version (before + codeOf (kindOf node)) (partsThen node n ds) o
+told-grown version before node n ds (refused number place) = refl
+told-grown {s} version before node n ds (done ts) =
+    let e : before + codeF (record { sort = s; depth = n } ∷ ds) (grown node n ds ts) ≡ before + codeOf (kindOf node) + codeF (partsThen node n ds) ts = omega (arith, grown-code node n ds ts) in
+    ap (reading.Accepted version) e
+
+told-root : (version : ℕ) (o : Outcome (Forest root)) → told version 5 root o ≡ answer (whole version o)
+unfolding codeLength
+told-root version (refused number place) = refl
+told-root version (done ts) = let e : 5 + (codeP (ts .0) + 0) ≡ 5 + codeP (ts .0) = omega arith in ap (reading.Accepted version) e
+
+-- the answer that the reader still comes to
+comes : (version before left forks place : ℕ) → List Due → List ℕ → Reading
+comes version before left forks place ds bs = told version before ds (readNodes left ds forks place bs)
+
+pub ahead : (version : ℕ) → List ℕ → Scan → Reading
+ahead version job s = comes version (s .code) (s .left) (s .forks) (s .place) (dueOf (s .due) (s .height)) (drop (s .place) job)
+
+pub ahead-start : (version : ℕ) (job : List ℕ) (count : ℕ) → ahead version job (started count) ≡ answer (whole version (readNodes count root 0 7 (drop 7 job)))
+unfolding ahead comes started dueOf part
+ahead-start version job count = told-root version (readNodes count root 0 7 (drop 7 job))
+
+-- ---- one node is read
+
+top-due : (a : List ℕ) (n : ℕ) → 1 ≤ n → dueOf a n ≡ part (getD a (n - 1) 0) ∷ dueOf a (n - 1)
+unfolding dueOf
+top-due a zero h = absurd (omega arith)
+top-due a (suc n) h = let e : suc n - 1 ≡ n = omega arith in rw e
+
+-- the depth of the node on top
+abbrev pub level : Scan → ℕ
+level s = getD (s .due) (s .height - 1) 0 % 128
+
+two-due : (a : List ℕ) (n b : ℕ) → n + 1 < length a → dueOf (set (set a n b) (n + 1) b) (n + 1 + 1) ≡ part b ∷ part b ∷ dueOf a n
+two-due a n b h =
+    due-push (set a n b) (n + 1) b (rw (length-set a n b) h) ∙ ap (λ (l : List Due). part b ∷ l) (due-push a n b (omega arith))
+
+module _ (s : Scan) (some : 1 ≤ s .height) (room : s .height ≤ 64) (long : length (s .due) ≡ 65) (shallow : level s ≤ 64) where
+  advance-due : {t : Sort} (node : Node t) → dueOf (advanced s (kindOf node) .due) (advanced s (kindOf node) .height) ≡ partsThen node (level s) (dueOf (s .due) (s .height - 1))
+  unfolding advanced kindOf pushed popped
+  advance-due (VALP z) = refl
+  advance-due ADDP =
+      two-due (s .due) (s .height - 1) (below s) (omega arith)
+      ∙ ap (λ (d : Due). d ∷ d ∷ dueOf (s .due) (s .height - 1)) (part-process (level s) shallow)
+  advance-due ATOMIC =
+      due-push (s .due) (s .height - 1) (below s + 128) (omega arith)
+      ∙ ap (λ (d : Due). d ∷ dueOf (s .due) (s .height - 1)) (part-transaction (level s) shallow)
+  advance-due FORK =
+      due-push (s .due) (s .height - 1) (below s) (omega arith)
+      ∙ ap (λ (d : Due). d ∷ dueOf (s .due) (s .height - 1)) (part-process (level s) shallow)
+  advance-due (VALT z) = refl
+  advance-due ADDT =
+      two-due (s .due) (s .height - 1) (below s + 128) (omega arith)
+      ∙ ap (λ (d : Due). d ∷ d ∷ dueOf (s .due) (s .height - 1)) (part-transaction (level s) shallow)
+  advance-due (READ v) = refl
+  advance-due (WRITE v) =
+      due-push (s .due) (s .height - 1) (below s + 128) (omega arith)
+      ∙ ap (λ (d : Due). d ∷ dueOf (s .due) (s .height - 1)) (part-transaction (level s) shallow)
+
+size : {t : Sort} (node : Node t) → length (nodeBytes node) ≡ suc (operand (kindOf node))
+unfolding nodeBytes bytes32 operand kindOf
+size (VALP z) = refl
+size ADDP = refl
+size ATOMIC = refl
+size FORK = refl
+size (VALT z) = refl
+size ADDT = refl
+size (READ v) = refl
+size (WRITE v) = refl
+
+-- what else `advanced` changes
+pub record Counts (s : Scan) {t : Sort} (node : Node t) (a : Scan) : Type 0 where
+  pub left : a .left ≡ s .left - 1
+  pub forks : a .forks ≡ s .forks + forkOf node
+  pub place : a .place ≡ s .place + length (nodeBytes node)
+  pub code : a .code ≡ s .code + codeOf (kindOf node)
+  pub small : codeOf (kindOf node) ≤ 5
+
+advance-counts : (s : Scan) {t : Sort} (node : Node t) → Counts s node (advanced s (kindOf node))
+unfolding advanced kindOf pushed popped forkOf nodeBytes bytes32 operand codeOf
+advance-counts s (VALP z) = record { left = refl; forks = omega arith; place = omega arith; code = refl; small = omega arith }
+advance-counts s ADDP = record { left = refl; forks = omega arith; place = omega arith; code = refl; small = omega arith }
+advance-counts s ATOMIC = record { left = refl; forks = omega arith; place = omega arith; code = refl; small = omega arith }
+advance-counts s FORK = record { left = refl; forks = omega arith; place = omega arith; code = refl; small = omega arith }
+advance-counts s (VALT z) = record { left = refl; forks = omega arith; place = omega arith; code = refl; small = omega arith }
+advance-counts s ADDT = record { left = refl; forks = omega arith; place = omega arith; code = refl; small = omega arith }
+advance-counts s (READ v) = record { left = refl; forks = omega arith; place = omega arith; code = refl; small = omega arith }
+advance-counts s (WRITE v) = record { left = refl; forks = omega arith; place = omega arith; code = refl; small = omega arith }
+
+-- ---- the loop's invariant
+
+-- the depth at index i of the array is above i, and at most 65
+pub record Stairs (a : List ℕ) (n : ℕ) : Type 0 where
+  pub high : (i : ℕ) → i < n → i < getD a i 0 % 128
+  pub low : (i : ℕ) → i < n → getD a i 0 % 128 ≤ 65
+
+pub record Fit (job : List ℕ) (s : Scan) : Type 0 where
+  pub stairs : Stairs (s .due) (s .height)
+  pub long : length (s .due) ≡ 65
+  pub few : s .forks ≤ 15
+  pub inside : s .place ≤ length job
+  pub short : s .code + 5 * s .left ≤ 5005
+
+pub record Inv (job : List ℕ) (version count : ℕ) (s : Scan) : Type 0 where
+  pub fit : Fit job s
+  pub same : ahead version job s ≡ answer (whole version (readNodes count root 0 7 (drop 7 job)))
+
+pub inv-start : (job : List ℕ) (version count : ℕ) → 7 ≤ length job → count ≤ 1000 → Inv job version count (started count)
+unfolding started
+inv-start job version count h c =
+    record {
+      fit = record {
+        stairs = record { high = first-high; low = first-low };
+        long = refl;
+        few = omega arith;
+        inside = h;
+        short = omega arith;
+      };
+      same = ahead-start version job count;
+    }
+  where
+    first-high : (i : ℕ) → i < 1 → i < getD (1 ∷ replicate 64 0) i 0 % 128
+    first-high zero l = omega arith
+    first-high (suc i) l = absurd (omega arith)
+
+    first-low : (i : ℕ) → i < 1 → getD (1 ∷ replicate 64 0) i 0 % 128 ≤ 65
+    first-low zero l = omega arith
+    first-low (suc i) l = absurd (omega arith)
+
+pub height-most : {job : List ℕ} {s : Scan} → Fit job s → s .height ≤ 65
+height-most {s = s} f = go (decLt 65 (s .height))
+  where
+    go : Dec (65 < s .height) → s .height ≤ 65
+    go (yes l) = omega (arith, f .stairs .high 65 l, f .stairs .low 65 l)
+    go (no l) = omega arith
+
+stairs-less : {a : List ℕ} {n : ℕ} (m : ℕ) → m ≤ n → Stairs a n → Stairs a m
+stairs-less m h t = record { high = λ i l. t .high i (omega arith); low = λ i l. t .low i (omega arith) }
+
+stairs-push : {a : List ℕ} {n : ℕ} (v : ℕ) → n < length a → n < v % 128 → v % 128 ≤ 65 → Stairs a n → Stairs (set a n v) (n + 1)
+stairs-push {a} {n} v h p q t = record { high = λ i l. high i l (decLt i n); low = λ i l. low i l (decLt i n) }
+  where
+    high : (i : ℕ) → i < n + 1 → Dec (i < n) → i < getD (set a n v) i 0 % 128
+    high i l (yes m) = rw (getD-set-other a n i v 0 (omega arith)) (t .high i m)
+    high i l (no m) = let e : i ≡ n = omega arith in rw (e, getD-set-same a n v 0 h) p
+
+    low : (i : ℕ) → i < n + 1 → Dec (i < n) → getD (set a n v) i 0 % 128 ≤ 65
+    low i l (yes m) = rw (getD-set-other a n i v 0 (omega arith)) (t .low i m)
+    low i l (no m) = let e : i ≡ n = omega arith in rw (e, getD-set-same a n v 0 h) q
+
+module _ (job : List ℕ) (s : Scan) (some : 1 ≤ s .height) (f : Fit job s) (shallow : level s ≤ 64) where
+  pub room : s .height ≤ 64
+  room = omega (arith, f .stairs .high (s .height - 1) (omega arith))
+
+  -- the stairs below the node on top, with one part or two put on
+  rest-stairs : Stairs (s .due) (s .height - 1)
+  rest-stairs = stairs-less (s .height - 1) (omega arith) (f .stairs)
+
+  one-stair : (v : ℕ) → v % 128 ≡ level s + 1 → Stairs (set (s .due) (s .height - 1) v) (s .height - 1 + 1)
+  one-stair v e =
+      stairs-push v (omega (arith, f .long, room)) (omega (arith, f .stairs .high (s .height - 1) (omega arith))) (omega arith) rest-stairs
+
+  two-stairs : (v : ℕ) → v % 128 ≡ level s + 1 → Stairs (set (set (s .due) (s .height - 1) v) (s .height - 1 + 1) v) (s .height - 1 + 1 + 1)
+  two-stairs v e =
+      stairs-push v (rw (length-set (s .due) (s .height - 1) v) (omega (arith, f .long, room))) (omega (arith, f .stairs .high (s .height - 1) (omega arith))) (omega arith) (one-stair v e)
+
+  advance-stairs : {t : Sort} (node : Node t) → Stairs (advanced s (kindOf node) .due) (advanced s (kindOf node) .height)
+  unfolding advanced kindOf pushed popped
+  advance-stairs (VALP z) = rest-stairs
+  advance-stairs ADDP = two-stairs (below s) (omega arith)
+  advance-stairs ATOMIC = one-stair (below s + 128) (omega arith)
+  advance-stairs FORK = one-stair (below s) (omega arith)
+  advance-stairs (VALT z) = rest-stairs
+  advance-stairs ADDT = two-stairs (below s + 128) (omega arith)
+  advance-stairs (READ v) = rest-stairs
+  advance-stairs (WRITE v) = one-stair (below s + 128) (omega arith)
+
+  advance-long : {t : Sort} (node : Node t) → length (advanced s (kindOf node) .due) ≡ 65
+  unfolding advanced kindOf pushed popped
+  advance-long (VALP z) = f .long
+  advance-long ADDP = simp length-set (f .long)
+  advance-long ATOMIC = simp length-set (f .long)
+  advance-long FORK = simp length-set (f .long)
+  advance-long (VALT z) = f .long
+  advance-long ADDT = simp length-set (f .long)
+  advance-long (READ v) = f .long
+  advance-long (WRITE v) = simp length-set (f .long)
+
+-- ---- the answers
+
+-- the node that is due on top
+abbrev pub due-node : (job : List ℕ) (s : Scan) → Outcome (Node (part (getD (s .due) (s .height - 1) 0) .sort))
+due-node job s = nodeAt (part (getD (s .due) (s .height - 1) 0)) (s .forks) (s .place) (drop (s .place) job)
+
+-- a node that passed its tests
+record Passed {t : Sort} (n f : ℕ) (bs : List ℕ) (node : Node t) : Type 0 where
+  flat : n ≤ 64
+  few : f + forkOf node ≤ 15
+  fits : length (nodeBytes node) ≤ length bs
+
+passed : (t : Sort) (n f p : ℕ) (bs : List ℕ) (node : Node t) → Bytes bs → f ≤ 15 → nodeAt (record { sort = t; depth = n }) f p bs ≡ done node → Passed n f bs node
+passed t n f p bs node b l e = let w = seen n f p t bs b l in go (w .outcome) (w .sees) (sym (node-sees (w .sees)) ∙ e)
+  where
+    go : (o : Outcome (Node t)) → Sees n f p bs o → o ≡ done node → Passed n f bs node
+    go (refused k q) sees e = absurd (let z : _≡_ {A = ℕ} 0 1 = cc in omega arith)
+    go (done _) (good node′ rest v h g text) e =
+        subst
+        (Passed n f bs)
+        (cc)
+        (record { flat = h; few = g; fits = rw (text, length-append (nodeBytes node′) rest) (omega arith) })
+
+comes-on : (version before left forks place : ℕ) (d : Due) (ds : List Due) (bs : List ℕ) (node : Node (d .sort)) → nodeAt d forks place bs ≡ done node → comes version before (suc left) forks place (d ∷ ds) bs ≡ comes version (before + codeOf (kindOf node)) left (forks + forkOf node) (place + length (nodeBytes node)) (partsThen node (d .depth) ds) (drop (length (nodeBytes node)) bs)
+unfolding comes readNodes
+comes-on version before left forks place d ds bs node e =
+    rw e (told-grown version before node (d .depth) ds (readNodes left (partsThen node (d .depth) ds) (forks + forkOf node) (place + length (nodeBytes node)) (drop (length (nodeBytes node)) bs)))
+
+comes-refused : (version before left forks place : ℕ) (d : Due) (ds : List Due) (bs : List ℕ) (number at′ : ℕ) → nodeAt d forks place bs ≡ refused number at′ → comes version before (suc left) forks place (d ∷ ds) bs ≡ reading.Refused number at′
+unfolding comes readNodes
+comes-refused version before left forks place d ds bs number at′ e = rw e
+
+comes-used : (version before forks place : ℕ) (d : Due) (ds : List Due) (bs : List ℕ) → comes version before 0 forks place (d ∷ ds) bs ≡ reading.Refused 9 place
+unfolding comes readNodes
+comes-used version before forks place d ds bs = refl
+
+comes-over : (version before left forks place : ℕ) (bs : List ℕ) → comes version before (suc left) forks place [] bs ≡ reading.Refused 9 place
+unfolding comes readNodes
+comes-over version before left forks place bs = refl
+
+comes-longer : (version before forks place : ℕ) (bs : List ℕ) → 0 < length bs → comes version before 0 forks place [] bs ≡ reading.Refused 9 place
+unfolding comes readNodes
+comes-longer version before forks place bs h = rw (ne-eqb (length bs) 0 (omega arith))
+
+comes-end : (version before forks place : ℕ) (bs : List ℕ) → length bs ≡ 0 → comes version before 0 forks place [] bs ≡ reading.Accepted version before
+unfolding comes readNodes
+comes-end version before forks place bs h = let e : before + 0 ≡ before = omega arith in rw (eq-eqb (length bs) 0 h, e)
+
+none-due : (a : List ℕ) (n : ℕ) → n ≡ 0 → dueOf a n ≡ []
+unfolding dueOf
+none-due a n e = rw e
+
+found-kind : {t : Sort} (o : Outcome (Node t)) (kind : ℕ) → found o ≡ Kind kind → (node : Node t) × (o ≡ done node) × (kindOf node ≡ kind)
+found-kind (refused n p) kind e = absurd (let z : _≡_ {A = ℕ} 0 1 = cc in omega arith)
+found-kind (done node) kind e = (node, refl, cc)
+
+found-refused : {t : Sort} (o : Outcome (Node t)) (number at′ : ℕ) → found o ≡ Refused number at′ → o ≡ refused number at′
+found-refused (refused n p) number at′ e = cc
+found-refused (done node) number at′ e = absurd (let z : _≡_ {A = ℕ} 0 1 = cc in omega arith)
+
+module _ (job : List ℕ) (version count : ℕ) (s : Scan) (b : Bytes job) (inv : Inv job version count s) where
+  -- the answer of the whole job
+  abbrev final : Reading
+  final = answer (whole version (readNodes count root 0 7 (drop 7 job)))
+
+  still : comes version (s .code) (s .left) (s .forks) (s .place) (dueOf (s .due) (s .height)) (drop (s .place) job) ≡ final
+  unfolding ahead
+  still = inv .same
+
+  -- the tree ended
+  pub nodes-left : s .height ≡ 0 → 1 ≤ s .left → reading.Refused 9 (s .place) ≡ final
+  nodes-left h l =
+      let d : dueOf (s .due) (s .height) ≡ [] = none-due (s .due) (s .height) h in
+      let n : s .left ≡ suc (s .left - 1) = omega arith in
+      cc (still, comes-over version (s .code) (s .left - 1) (s .forks) (s .place) (drop (s .place) job))
+
+  pub bytes-left : s .height ≡ 0 → s .left ≡ 0 → s .place < length job → reading.Refused 9 (s .place) ≡ final
+  bytes-left h l p =
+      let d : dueOf (s .due) (s .height) ≡ [] = none-due (s .due) (s .height) h in
+      cc (still, comes-longer version (s .code) (s .forks) (s .place) (drop (s .place) job) (rw (length-drop (s .place) job) (omega arith)))
+
+  pub complete : s .height ≡ 0 → s .left ≡ 0 → length job ≤ s .place → reading.Accepted version (s .code) ≡ final
+  complete h l p =
+      let d : dueOf (s .due) (s .height) ≡ [] = none-due (s .due) (s .height) h in
+      cc (still, comes-end version (s .code) (s .forks) (s .place) (drop (s .place) job) (rw (length-drop (s .place) job) (omega arith)))
+
+  -- a node is due
+  module _ (some : 1 ≤ s .height) where
+    abbrev top : Due
+    top = part (getD (s .due) (s .height - 1) 0)
+
+    abbrev others : List Due
+    others = dueOf (s .due) (s .height - 1)
+
+    pub used-up : s .left ≡ 0 → reading.Refused 9 (s .place) ≡ final
+    used-up l =
+        let d : dueOf (s .due) (s .height) ≡ top ∷ others = top-due (s .due) (s .height) some in
+        cc (still, comes-used version (s .code) (s .forks) (s .place) top others (drop (s .place) job))
+
+    pub node-refused : 1 ≤ s .left → (number at′ : ℕ) → found (due-node job s) ≡ Refused number at′ → reading.Refused number at′ ≡ final
+    node-refused l number at′ e =
+        let d : dueOf (s .due) (s .height) ≡ top ∷ others = top-due (s .due) (s .height) some in
+        let n : s .left ≡ suc (s .left - 1) = omega arith in
+        cc (still, comes-refused version (s .code) (s .left - 1) (s .forks) (s .place) top others (drop (s .place) job) number at′ (found-refused (due-node job s) number at′ e))
+
+    facts : (node : Node (top .sort)) → due-node job s ≡ done node → Passed (level s) (s .forks) (drop (s .place) job) node
+    unfolding part
+    facts node e = passed (top .sort) (level s) (s .forks) (s .place) (drop (s .place) job) node (bytes-drop (s .place) b) (inv .fit .few) e
+
+    follows : 1 ≤ s .left → (node : Node (top .sort)) → due-node job s ≡ done node → level s ≤ 64 → Counts s node (advanced s (kindOf node)) → ahead version job (advanced s (kindOf node)) ≡ final
+    unfolding ahead part
+    follows l node o flat c =
+        let d : dueOf (s .due) (s .height) ≡ top ∷ others = top-due (s .due) (s .height) some in
+        let n : s .left ≡ suc (s .left - 1) = omega arith in
+        let a = advance-due s some (room job s some (inv .fit) flat) (inv .fit .long) flat node in
+        let t : drop (advanced s (kindOf node) .place) job ≡ drop (length (nodeBytes node)) (drop (s .place) job) = ap (λ (q : ℕ). drop q job) (c .place) ∙ sym (drop-drop (length (nodeBytes node)) (s .place) job) in
+        cc (still, comes-on version (s .code) (s .left - 1) (s .forks) (s .place) top others (drop (s .place) job) node o)
+
+    pub node-ready : length job < 18446744073709551616 → 1 ≤ s .left → (kind : ℕ) → found (due-node job s) ≡ Kind kind → Ready s kind
+    node-ready small l kind e =
+        let k = found-kind (due-node job s) kind e in
+        let p = facts (k .0) (k .1) in
+        record {
+          some = some;
+          room = room job s some (inv .fit) (p .flat);
+          uncounted = l;
+          shallow = p .flat;
+          few = inv .fit .few;
+          early = omega (arith, p .fits, length-drop (s .place) job, inv .fit .inside, size (k .0), ap operand (k .2));
+          short = omega (arith, inv .fit .short);
+        }
+
+    pub node-read : 1 ≤ s .left → (kind : ℕ) → found (due-node job s) ≡ Kind kind → Inv job version count (advanced s kind)
+    node-read l kind e =
+        let k = found-kind (due-node job s) kind e in
+        let p = facts (k .0) (k .1) in
+        subst (λ (n : ℕ). Inv job version count (advanced s n)) (k .2) (read (k .0) (k .1) p (advance-counts s (k .0)))
+      where
+        read : (node : Node (top .sort)) → due-node job s ≡ done node → Passed (level s) (s .forks) (drop (s .place) job) node → Counts s node (advanced s (kindOf node)) → Inv job version count (advanced s (kindOf node))
+        read node o p c =
+            record {
+              fit = record {
+                stairs = advance-stairs job s some (inv .fit) (p .flat) node;
+                long = advance-long job s some (inv .fit) (p .flat) node;
+                few = omega (arith, p .few, c .forks);
+                inside = omega (arith, p .fits, c .place, length-drop (s .place) job, inv .fit .inside);
+                short = omega (arith, c .code, c .left, c .small, inv .fit .short);
+              };
+              same = follows l node o (p .flat) c;
+            }

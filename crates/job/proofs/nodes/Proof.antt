@@ -1,0 +1,97 @@
+-- `job::nodes` meets its contract: the loop follows `readNodes`, and what is left of the count falls. Assumes nothing.
+use Prim.Native.Nat.{ℕ}
+use mathlib.Core.Path.{sym, ap, subst, _∙_}
+use mathlib.Core.List.{List}
+use native.Mathlib.Omega.{arith}
+use lib.ListN.{getD}
+use mir.Syntax.{w8}
+use mir.Val.{Fits}
+use Rattle.job.specs.declared.Scan.{Scan}
+use Rattle.job.specs.Scan.{part}
+use Rattle.script.specs.Bytes.{Bytes}
+use Rattle.job.proofs.Advance.{one-less}
+use Rattle.job.proofs.Walk.{Inv, inv-start, height-most, used-up, node-refused, node-ready, node-read, nodes-left, bytes-left, complete}
+use Rattle.job.proofs.nodes.Statement.{statement}
+use Rattle.job.proofs.nodes.Tie as tie
+
+bytes-of : (job : List ℕ) → ((i : ℕ) → Fits w8 (getD job i 0)) → Bytes job
+bytes-of job h = record { small = λ i l. omega (arith, h i) }
+
+abbrev left-of : Scan → ℕ
+left-of s = s .left
+
+abbrev Inv-loop : tie.InvT-loop
+Inv-loop job version count s₀ s = Inv job version count s
+
+abbrev μ-loop : tie.MeasureT-loop
+μ-loop job version count s₀ s = s .left
+
+start-requires : tie.Need-start-requires Inv-loop μ-loop
+start-requires c κs = tt
+
+loop-holds : tie.Need-loop-holds Inv-loop μ-loop
+loop-holds c = let a = c .before .before .args in subst (Inv (a .job .now) (a .version) (a .count)) (sym (c .start .ensures)) (inv-start (a .job .now) (a .version) (a .count) (c .before .before .pre .0) (c .before .before .pre .1))
+
+returns : tie.Need-returns Inv-loop μ-loop
+returns c = used-up (c .before .before .before .before .before .args .job .now) (c .before .before .before .before .before .args .version) (c .before .before .before .before .before .args .count) (c .before .before .loop .s) (bytes-of (c .before .before .before .before .before .args .job .now) (c .before .before .before .before .shared-slice-known .given)) (c .before .before .loop .inv) (c .before .loop-test .taken) (c .if1 .taken)
+
+sub-top : tie.Need-sub-top Inv-loop μ-loop
+sub-top c = c .before .loop-test .taken
+
+element-copy-out-part : tie.Need-element-copy-out-part Inv-loop μ-loop
+element-copy-out-part c = omega (arith, height-most (c .before .before .loop .inv .fit))
+
+node-requires : tie.Need-node-requires Inv-loop μ-loop
+node-requires c κs = tt
+
+enum-known-found : tie.Need-enum-known-found Inv-loop μ-loop
+enum-known-found c = c .match .keys1
+
+advance-requires : tie.Need-advance-requires Inv-loop μ-loop
+unfolding part
+advance-requires c κs = node-ready (c .before .before .before .before .before .before .before .before .before .before .args .job .now) (c .before .before .before .before .before .before .before .before .before .before .args .version) (c .before .before .before .before .before .before .before .before .before .before .args .count) (c .before .before .before .before .before .before .before .loop .s) (bytes-of (c .before .before .before .before .before .before .before .before .before .before .args .job .now) (c .before .before .before .before .before .before .before .before .before .shared-slice-known .given)) (c .before .before .before .before .before .before .before .loop .inv) (c .before .before .before .before .before .before .loop-test .taken) (omega arith) (omega arith) _ (sym (c .before .before .before .node .ensures) ∙ c .before .found .given .1)
+
+loop-less : tie.Need-loop-less Inv-loop μ-loop
+loop-less c = rw (ap left-of (c .advance .ensures) ∙ one-less _ _) (omega arith)
+
+loop-again : tie.Need-loop-again Inv-loop μ-loop
+unfolding part
+loop-again c = subst (Inv _ _ _) (sym (c .advance .ensures)) (node-read (c .before .before .before .before .before .before .before .before .before .before .before .args .job .now) (c .before .before .before .before .before .before .before .before .before .before .before .args .version) (c .before .before .before .before .before .before .before .before .before .before .before .args .count) (c .before .before .before .before .before .before .before .before .loop .s) (bytes-of (c .before .before .before .before .before .before .before .before .before .before .before .args .job .now) (c .before .before .before .before .before .before .before .before .before .before .shared-slice-known .given)) (c .before .before .before .before .before .before .before .before .loop .inv) (c .before .before .before .before .before .before .before .loop-test .taken) (omega arith) _ (sym (c .before .before .before .before .node .ensures) ∙ c .before .before .found .given .1))
+
+enum-known-found-2 : tie.Need-enum-known-found-2 Inv-loop μ-loop
+enum-known-found-2 c = c .match .keys2
+
+returns-2 : tie.Need-returns-2 Inv-loop μ-loop
+unfolding part
+returns-2 c = node-refused (c .before .before .before .before .before .before .before .before .before .before .args .job .now) (c .before .before .before .before .before .before .before .before .before .before .args .version) (c .before .before .before .before .before .before .before .before .before .before .args .count) (c .before .before .before .before .before .before .before .loop .s) (bytes-of (c .before .before .before .before .before .before .before .before .before .before .args .job .now) (c .before .before .before .before .before .before .before .before .before .shared-slice-known .given)) (c .before .before .before .before .before .before .before .loop .inv) (c .before .before .before .before .before .before .loop-test .taken) (omega arith) _ _ (sym (c .before .before .before .node .ensures) ∙ c .before .found2 .given .1)
+
+returns-3 : tie.Need-returns-3 Inv-loop μ-loop
+returns-3 c = nodes-left (c .before .before .before .before .before .args .job .now) (c .before .before .before .before .before .args .version) (c .before .before .before .before .before .args .count) (c .before .before .loop .s) (bytes-of (c .before .before .before .before .before .args .job .now) (c .before .before .before .before .shared-slice-known .given)) (c .before .before .loop .inv) (omega arith) (c .if2 .taken)
+
+returns-4 : tie.Need-returns-4 Inv-loop μ-loop
+returns-4 c = bytes-left (c .before .before .before .before .before .before .args .job .now) (c .before .before .before .before .before .before .args .version) (c .before .before .before .before .before .before .args .count) (c .before .before .before .loop .s) (bytes-of (c .before .before .before .before .before .before .args .job .now) (c .before .before .before .before .before .shared-slice-known .given)) (c .before .before .before .loop .inv) (omega arith) (omega arith) (c .if3 .taken)
+
+returns-5 : tie.Need-returns-5 Inv-loop μ-loop
+returns-5 c = complete (c .before .before .before .before .before .before .args .job .now) (c .before .before .before .before .before .before .args .version) (c .before .before .before .before .before .before .args .count) (c .before .before .before .loop .s) (bytes-of (c .before .before .before .before .before .before .args .job .now) (c .before .before .before .before .before .shared-slice-known .given)) (c .before .before .before .loop .inv) (omega arith) (omega arith) (c .if3 .left)
+
+pub nodes-spec : {M : Type 1} → statement M
+nodes-spec =
+    tie.close
+    (tie.spec
+    Inv-loop
+    μ-loop
+    start-requires
+    loop-holds
+    returns
+    sub-top
+    element-copy-out-part
+    node-requires
+    enum-known-found
+    advance-requires
+    loop-less
+    loop-again
+    enum-known-found-2
+    returns-2
+    returns-3
+    returns-4
+    returns-5)

@@ -1,0 +1,90 @@
+-- `job::read_job` meets its contract: the header's tests, then the nodes. Assumes nothing.
+use mathlib.Core.Path.{sym, _∙_}
+use borrow.Author.Tests.{not-true, not-false}
+use Rattle.script.specs.Reader.{marked}
+use Rattle.job.proofs.Header.{cut, bad-mark, bad-version, no-count, many, passed}
+use borrow.Author.Needs.{needs}
+use Rattle.job.proofs.read_job.Statement.{statement}
+use Rattle.job.proofs.read_job.Tie as tie
+
+returns : tie.Need-returns
+returns c = cut (c .before .before .args .job .now) (c .if1 .taken)
+
+shared-slice-read-marked : tie.Need-shared-slice-read-marked
+shared-slice-read-marked c = search needs
+
+shared-slice-read-marked-2 : tie.Need-shared-slice-read-marked-2
+shared-slice-read-marked-2 c = search needs
+
+shared-slice-read-marked-3 : tie.Need-shared-slice-read-marked-3
+shared-slice-read-marked-3 c = search needs
+
+marked-requires : tie.Need-marked-requires
+marked-requires c κs = search needs
+
+returns-2 : tie.Need-returns-2
+unfolding marked
+returns-2 c = bad-mark (c .before .before .before .before .before .before .before .args .job .now) (c .before .before .before .before .before .if1 .left) (sym (c .before .marked .ensures) ∙ not-true _ (c .if2 .taken))
+
+shared-slice-read-number16 : tie.Need-shared-slice-read-number16
+shared-slice-read-number16 c = search needs
+
+shared-slice-read-number16-2 : tie.Need-shared-slice-read-number16-2
+shared-slice-read-number16-2 c = search needs
+
+number16-requires : tie.Need-number16-requires
+number16-requires c κs = search needs
+
+returns-3 : tie.Need-returns-3
+unfolding marked
+returns-3 c = bad-version (c .before .before .before .before .before .before .before .before .before .before .before .args .job .now) (c .before .before .before .before .before .before .before .before .before .if1 .left) (sym (c .before .before .before .before .before .marked .ensures) ∙ not-false _ (c .before .before .before .before .if2 .left)) (λ e. c .if3 .taken (c .before .number16 .ensures ∙ e))
+
+shared-slice-read-number16-3 : tie.Need-shared-slice-read-number16-3
+shared-slice-read-number16-3 c = search needs
+
+shared-slice-read-number16-4 : tie.Need-shared-slice-read-number16-4
+shared-slice-read-number16-4 c = search needs
+
+number16-requires-2 : tie.Need-number16-requires-2
+number16-requires-2 c κs = search needs
+
+returns-4 : tie.Need-returns-4
+unfolding marked
+returns-4 c = no-count (c .before .before .before .before .before .before .before .before .before .before .before .before .before .before .before .args .job .now) (c .before .before .before .before .before .before .before .before .before .before .before .before .before .if1 .left) (sym (c .before .before .before .before .before .before .before .before .before .marked .ensures) ∙ not-false _ (c .before .before .before .before .before .before .before .before .if2 .left)) (sym (c .before .before .before .before .before .number16 .ensures) ∙ c .before .before .before .before .if3 .left) (sym (c .before .number162 .ensures) ∙ c .if4 .taken)
+
+returns-5 : tie.Need-returns-5
+unfolding marked
+returns-5 c = many (c .before .before .before .before .before .before .before .before .before .before .before .before .before .before .before .before .args .job .now) (c .before .before .before .before .before .before .before .before .before .before .before .before .before .before .if1 .left) (sym (c .before .before .before .before .before .before .before .before .before .before .marked .ensures) ∙ not-false _ (c .before .before .before .before .before .before .before .before .before .if2 .left)) (sym (c .before .before .before .before .before .before .number16 .ensures) ∙ c .before .before .before .before .before .if3 .left) (rw (c .before .before .number162 .ensures) at (c .if5 .taken))
+
+cast-nodes : tie.Need-cast-nodes
+cast-nodes c = search needs
+
+nodes-requires : tie.Need-nodes-requires
+nodes-requires c κs = search needs
+
+returns-6 : tie.Need-returns-6
+unfolding marked
+returns-6 c = c .nodes .ensures ∙ (rw (c .before .before .before .before .before .before .before .number16 .ensures, c .before .before .before .number162 .ensures) (passed (c .before .before .before .before .before .before .before .before .before .before .before .before .before .before .before .before .before .args .job .now) (c .before .before .before .before .before .before .before .before .before .before .before .before .before .before .before .if1 .left) (sym (c .before .before .before .before .before .before .before .before .before .before .before .marked .ensures) ∙ not-false _ (c .before .before .before .before .before .before .before .before .before .before .if2 .left)) (sym (c .before .before .before .before .before .before .before .number16 .ensures) ∙ c .before .before .before .before .before .before .if3 .left) (λ e. c .before .before .if4 .left (c .before .before .before .number162 .ensures ∙ e)) (rw (c .before .before .before .number162 .ensures) at (c .before .if5 .left))))
+
+pub read-job-spec : {M : Type 1} → statement M
+read-job-spec =
+    tie.close
+    (tie.spec
+    returns
+    shared-slice-read-marked
+    shared-slice-read-marked-2
+    shared-slice-read-marked-3
+    marked-requires
+    returns-2
+    shared-slice-read-number16
+    shared-slice-read-number16-2
+    number16-requires
+    returns-3
+    shared-slice-read-number16-3
+    shared-slice-read-number16-4
+    number16-requires-2
+    returns-4
+    returns-5
+    cast-nodes
+    nodes-requires
+    returns-6)
