@@ -1,11 +1,11 @@
 -- The tests of the header, on the job. Assumes nothing.
 use Prim.Native.Nat.{ℕ, _≤_, _<_}
-use mathlib.Core.Path.{_≡_, refl}
-use mathlib.Core.Bool.{true, false}
+use mathlib.Core.Path.{_≡_}
+use mathlib.Core.Bool.{true, false, _&&_}
 use mathlib.Core.List.{List}
-use native.Mathlib.Omega.{arith}
+use lib.Dec.{leb}
 use lib.ListN.{length, drop}
-use borrow.Author.Tests.{lt-ltb, le-ltb, le-leb, lt-leb, eq-eqb, ne-eqb}
+use borrow.Author.Tests.{lt-ltb, le-ltb, eq-eqb, ne-eqb}
 use Rattle.job.specs.declared.Reading.the-variants.{Refused}
 use Rattle.job.specs.Answer.{answer}
 use Rattle.script.specs.Reader.{number16, readNodes, readJob, marked, taken, root, whole}
@@ -26,28 +26,10 @@ module _ (job : List ℕ) where
       bad-version n = rw (le-ltb (length job) 7 long, mark, ne-eqb (number16 job 3) 1 n)
 
       module _ (version : number16 job 3 ≡ 1) where
-        pub no-count : number16 job 5 ≡ 0 → Refused 4 5 ≡ answer (readJob job)
+        pub bad-count : (leb 1 (number16 job 5) && leb (number16 job 5) 1000) ≡ false → Refused 4 5 ≡ answer (readJob job)
         unfolding readJob taken
-        no-count e = rw (le-ltb (length job) 7 long, mark, eq-eqb (number16 job 3) 1 version, e)
+        bad-count e = rw (le-ltb (length job) 7 long, mark, eq-eqb (number16 job 3) 1 version, e)
 
-        pub many : 1000 < number16 job 5 → Refused 4 5 ≡ answer (readJob job)
+        pub passed : (leb 1 (number16 job 5) && leb (number16 job 5) 1000) ≡ true → answer (whole (number16 job 3) (readNodes (number16 job 5) root 0 7 (drop 7 job))) ≡ answer (readJob job)
         unfolding readJob taken
-        many h =
-            rw (
-              le-ltb (length job) 7 long,
-              mark,
-              eq-eqb (number16 job 3) 1 version,
-              le-leb 1 (number16 job 5) (omega arith),
-              lt-leb (number16 job 5) 1000 h,
-            )
-
-        pub passed : (number16 job 5 ≡ 0 → ⊥) → number16 job 5 ≤ 1000 → answer (whole (number16 job 3) (readNodes (number16 job 5) root 0 7 (drop 7 job))) ≡ answer (readJob job)
-        unfolding readJob taken
-        passed n h =
-            rw (
-              le-ltb (length job) 7 long,
-              mark,
-              eq-eqb (number16 job 3) 1 version,
-              le-leb 1 (number16 job 5) (omega arith),
-              le-leb (number16 job 5) 1000 h,
-            )
+        passed e = rw (le-ltb (length job) 7 long, mark, eq-eqb (number16 job 3) 1 version, e)

@@ -1,14 +1,14 @@
 -- The reader's loop follows `readNodes`: what is due in its array, what it counts, and why it stays within its bounds. Assumes nothing.
 use Prim.Native.Nat.{ℕ, zero, suc, _+_, _*_, _-_, _%_, _≤_, _<_}
 use mathlib.Core.Path.{_≡_, refl, sym, ap, ap₂, subst, _∙_}
-use mathlib.Core.Bool.{Bool, true, false}
+use mathlib.Core.Bool.{Bool, true, false, _||_}
 use mathlib.Core.List.{List, [], _∷_, _++_}
 use native.Mathlib.Decide.{decLt}
 use native.Mathlib.Omega.{arith}
-use lib.Dec.{leb}
+use lib.Dec.{leb, ltb}
 use lib.ListN.{length, drop, getD, set, replicate, length-set, length-drop, length-append}
 use lib.Seq.{getD-set-same, getD-set-other, drop-drop}
-use borrow.Author.Tests.{le-leb, lt-leb, eq-eqb, ne-eqb}
+use borrow.Author.Tests.{le-leb, lt-leb, eq-eqb, ne-eqb, le-ltb, ltb-false}
 use Rattle.job.specs.declared.Found.{Found}
 use Rattle.job.specs.declared.Found.the-variants.{Kind, Refused}
 use Rattle.job.specs.declared.Reading.{Reading}
@@ -320,6 +320,10 @@ found-refused : {t : Sort} (o : Outcome (Node t)) (number at′ : ℕ) → found
 found-refused (refused n p) number at′ e = cc
 found-refused (done node) number at′ e = absurd (let z : _≡_ {A = ℕ} 0 1 = cc in omega arith)
 
+neither : (a b : Bool) → (a || b) ≡ false → (a ≡ false) × (b ≡ false)
+neither true b e = absurd (let z : _≡_ {A = ℕ} 0 1 = cc in omega arith)
+neither false b e = (refl, e)
+
 module _ (job : List ℕ) (version count : ℕ) (s : Scan) (b : Bytes job) (inv : Inv job version count s) where
   -- the answer of the whole job
   abbrev final : Reading
@@ -330,21 +334,28 @@ module _ (job : List ℕ) (version count : ℕ) (s : Scan) (b : Bytes job) (inv 
   still = inv .same
 
   -- the tree ended
-  pub nodes-left : s .height ≡ 0 → 1 ≤ s .left → reading.Refused 9 (s .place) ≡ final
-  nodes-left h l =
-      let d : dueOf (s .due) (s .height) ≡ [] = none-due (s .due) (s .height) h in
-      let n : s .left ≡ suc (s .left - 1) = omega arith in
-      cc (still, comes-over version (s .code) (s .left - 1) (s .forks) (s .place) (drop (s .place) job))
+  none : s .height ≡ 0 → dueOf (s .due) (s .height) ≡ []
+  none h = none-due (s .due) (s .height) h
 
-  pub bytes-left : s .height ≡ 0 → s .left ≡ 0 → s .place < length job → reading.Refused 9 (s .place) ≡ final
-  bytes-left h l p =
-      let d : dueOf (s .due) (s .height) ≡ [] = none-due (s .due) (s .height) h in
-      cc (still, comes-longer version (s .code) (s .forks) (s .place) (drop (s .place) job) (rw (length-drop (s .place) job) (omega arith)))
+  pub over : s .height ≡ 0 → (ltb 0 (s .left) || ltb (s .place) (length job)) ≡ true → reading.Refused 9 (s .place) ≡ final
+  over h e = go (decLt 0 (s .left)) (decLt (s .place) (length job))
+    where
+      go : Dec (0 < s .left) → Dec (s .place < length job) → reading.Refused 9 (s .place) ≡ final
+      go (yes l) p =
+          let n : s .left ≡ suc (s .left - 1) = omega arith in
+          cc (still, none h, comes-over version (s .code) (s .left - 1) (s .forks) (s .place) (drop (s .place) job))
+      go (no l) (yes p) =
+          let n : s .left ≡ 0 = omega arith in
+          cc (still, none h, comes-longer version (s .code) (s .forks) (s .place) (drop (s .place) job) (rw (length-drop (s .place) job) (omega arith)))
+      go (no l) (no p) =
+          let f : false ≡ true = rw (le-ltb 0 (s .left) (omega arith), le-ltb (s .place) (length job) (omega arith)) at e in
+          absurd (let z : _≡_ {A = ℕ} 0 1 = cc in omega arith)
 
-  pub complete : s .height ≡ 0 → s .left ≡ 0 → length job ≤ s .place → reading.Accepted version (s .code) ≡ final
-  complete h l p =
-      let d : dueOf (s .due) (s .height) ≡ [] = none-due (s .due) (s .height) h in
-      cc (still, comes-end version (s .code) (s .forks) (s .place) (drop (s .place) job) (rw (length-drop (s .place) job) (omega arith)))
+  pub complete : s .height ≡ 0 → (ltb 0 (s .left) || ltb (s .place) (length job)) ≡ false → reading.Accepted version (s .code) ≡ final
+  complete h e =
+      let p = neither (ltb 0 (s .left)) (ltb (s .place) (length job)) e in
+      let n : s .left ≡ 0 = omega (arith, ltb-false 0 (s .left) (p .0)) in
+      cc (still, none h, comes-end version (s .code) (s .forks) (s .place) (drop (s .place) job) (rw (length-drop (s .place) job) (omega (arith, ltb-false (s .place) (length job) (p .1)))))
 
   -- a node is due
   module _ (some : 1 ≤ s .height) where

@@ -1,8 +1,8 @@
 // The job reader: which bytes are a job, and what is refused with which number at which place.
 ghost use Prim.Native.Nat.{_*_, _+_, _<_, _≤_};
-ghost use lib.Dec.{eqb};
+ghost use lib.Dec.{eqb, leb, ltb};
 ghost use lib.ListN.{drop, length};
-ghost use mathlib.Core.Bool.{_&&_};
+ghost use mathlib.Core.Bool.{_&&_, _||_};
 ghost use mathlib.Core.Path.{_≡_};
 ghost use Rattle.job.specs.Answer.{answer};
 ghost use Rattle.job.specs.Scan.{Ready, advanced, codeOf, found, pushed, sortOf, started};
@@ -157,6 +157,16 @@ impl Scan {
     }
 }
 
+// Whether nodes of the count or bytes of the job are left over where the tree ended.
+fn left_over(left: usize, end: usize, length: usize) -> bool
+    ensures { λ r. ⌜ r ≡ ltb 0 left || ltb end length ⌝ }
+{
+    if left > 0 {
+        return true;
+    }
+    end < length
+}
+
 // The nodes of a job, as many as its count.
 fn nodes(job: &[u8], version: u16, count: usize) -> Reading
     requires { ⌜ (7 ≤ length (now job)) × (count ≤ 1000) ⌝ }
@@ -180,12 +190,9 @@ fn nodes(job: &[u8], version: u16, count: usize) -> Reading
             }
         }
     }
-    let place = s.place;
-    if s.left > 0 {
-        return Reading::Refused(9, place);
-    }
-    if place < job.len() {
-        return Reading::Refused(9, place);
+    let end = s.place;
+    if left_over(s.left, end, job.len()) {
+        return Reading::Refused(9, end);
     }
     let code = s.code;
     Reading::Accepted(version, code)
@@ -214,13 +221,20 @@ pub fn read_job(job: &[u8]) -> Reading
         return Reading::Refused(3, 3);
     }
     let count = number16(job[5], job[6]);
-    if count == 0 {
-        return Reading::Refused(4, 5);
-    }
-    if count > 1000 {
+    if !counted(count) {
         return Reading::Refused(4, 5);
     }
     nodes(job, version, count as usize)
+}
+
+// Whether a node count is 1 to 1,000.
+fn counted(count: u16) -> bool
+    ensures { λ r. ⌜ r ≡ leb 1 count && leb count 1000 ⌝ }
+{
+    if count < 1 {
+        return false;
+    }
+    count <= 1000
 }
 
 // Whether the first three bytes are the mark `WSJ`.

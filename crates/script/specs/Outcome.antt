@@ -1,6 +1,7 @@
 -- What a call comes to: a refusal, with document 01's number and place, or its result.
 use Prim.Native.Nat.{ℕ}
 use mathlib.Core.Bool.{Bool, true, false}
+use mathlib.Core.List.{List, [], _∷_}
 
 pub data Outcome (A : Type 0) : Type 0 where
   refused : (number place : ℕ) → Outcome A
@@ -10,6 +11,14 @@ pub data Outcome (A : Type 0) : Type 0 where
 abbrev pub refuse : {A : Type 0} → Bool → ℕ → ℕ → Outcome A → Outcome A
 refuse true number place behind = refused number place
 refuse false number place behind = behind
+
+-- a row of tests, the first one that is met deciding
+pub data Test : Type 0 where
+  test : (met : Bool) (number place : ℕ) → Test
+
+abbrev pub tests : {A : Type 0} → List Test → Outcome A → Outcome A
+tests [] behind = behind
+tests (test met number place ∷ rows) behind = refuse met number place (tests rows behind)
 
 abbrev pub onward : {A B : Type 0} → Outcome A → (A → Outcome B) → Outcome B
 onward (refused number place) f = refused number place

@@ -7,7 +7,7 @@ use lib.ListN.{length, drop, getD}
 use Rattle.script.specs.Tree.{Proc, ValP, AddP, Atomic, Fork, Tran, ValT, AddT, Read, Write, Sort, process, transaction, Tree}
 use Rattle.script.specs.Limits.{mostNodes, mostDepth, mostForks}
 use Rattle.script.specs.Bytes.{Node, VALP, ADDP, ATOMIC, FORK, VALT, ADDT, READ, WRITE, nodeBytes}
-use Rattle.script.specs.Outcome.{Outcome, refused, done, refuse, onward, mapped}
+use Rattle.script.specs.Outcome.{Outcome, refused, done, refuse, test, tests, onward, mapped}
 use Rattle.word.specs.Sum.{signed}
 
 -- the number that two bytes hold, and four
@@ -50,23 +50,14 @@ nodeOf transaction kind rest =
 unfoldable pub nodeAt : (d : Due) (forks place : ℕ) → List ℕ → Outcome (Node (d .sort))
 nodeAt d forks place [] = refused 1 place
 nodeAt d forks place (kind ∷ rest) =
-    refuse
-    (not (permitted (d .sort) kind))
-    5
-    place
-    (refuse
-    (ltb mostDepth (d .depth))
-    7
-    place
-    (refuse
-    (ltb (length rest) (operand kind))
-    1
-    (place + suc (length rest))
-    (refuse
-    (eqb (operand kind) 1 && leb 64 (getD rest 0 0))
-    6
-    (place + 1)
-    (refuse (eqb kind 4 && leb mostForks forks) 8 place (done (nodeOf (d .sort) kind rest))))))
+    tests
+    (test (not (permitted (d .sort) kind)) 5 place
+    ∷ test (ltb mostDepth (d .depth)) 7 place
+    ∷ test (ltb (length rest) (operand kind)) 1 (place + suc (length rest))
+    ∷ test (eqb (operand kind) 1 && leb 64 (getD rest 0 0)) 6 (place + 1)
+    ∷ test (eqb kind 4 && leb mostForks forks) 8 place
+    ∷ [])
+    (done (nodeOf (d .sort) kind rest))
 
 -- what is due behind a node at a depth: its parts, and then what was due before
 abbrev pub partsThen : {s : Sort} → Node s → ℕ → List Due → List Due
@@ -143,20 +134,10 @@ whole version = mapped (λ ts. record { version = version; tree = ts .0 })
 -- "Job order: fewer than 7 bytes is 1; then 2, 3, 4", then the nodes
 unfoldable pub readJob : List ℕ → Outcome Job
 readJob bs =
-    refuse
-    (ltb (length bs) 7)
-    1
-    (length bs)
-    (refuse
-    (not (marked bs))
-    2
-    0
-    (refuse
-    (not (taken (number16 bs 3)))
-    3
-    3
-    (refuse
-    (not (leb 1 (number16 bs 5) && leb (number16 bs 5) mostNodes))
-    4
-    5
-    (whole (number16 bs 3) (readNodes (number16 bs 5) root 0 7 (drop 7 bs))))))
+    tests
+    (test (ltb (length bs) 7) 1 (length bs)
+    ∷ test (not (marked bs)) 2 0
+    ∷ test (not (taken (number16 bs 3))) 3 3
+    ∷ test (not (leb 1 (number16 bs 5) && leb (number16 bs 5) mostNodes)) 4 5
+    ∷ [])
+    (whole (number16 bs 3) (readNodes (number16 bs 5) root 0 7 (drop 7 bs)))

@@ -10,7 +10,7 @@ use Rattle.job.specs.declared.Scan.{Scan}
 use Rattle.job.specs.Scan.{part}
 use Rattle.script.specs.Bytes.{Bytes}
 use Rattle.job.proofs.Advance.{one-less}
-use Rattle.job.proofs.Walk.{Inv, inv-start, height-most, used-up, node-refused, node-ready, node-read, nodes-left, bytes-left, complete}
+use Rattle.job.proofs.Walk.{Inv, inv-start, height-most, used-up, node-refused, node-ready, node-read, over, complete}
 use Rattle.job.proofs.nodes.Statement.{statement}
 use Rattle.job.proofs.nodes.Tie as tie
 
@@ -65,14 +65,14 @@ returns-2 : tie.Need-returns-2 Inv-loop μ-loop
 unfolding part
 returns-2 c = node-refused (c .before .before .before .before .before .before .before .before .before .before .args .job .now) (c .before .before .before .before .before .before .before .before .before .before .args .version) (c .before .before .before .before .before .before .before .before .before .before .args .count) (c .before .before .before .before .before .before .before .loop .s) (bytes-of (c .before .before .before .before .before .before .before .before .before .before .args .job .now) (c .before .before .before .before .before .before .before .before .before .shared-slice-known .given)) (c .before .before .before .before .before .before .before .loop .inv) (c .before .before .before .before .before .before .loop-test .taken) (omega arith) _ _ (sym (c .before .before .before .node .ensures) ∙ c .before .found2 .given .1)
 
+left-over-requires : tie.Need-left-over-requires Inv-loop μ-loop
+left-over-requires c κs = tt
+
 returns-3 : tie.Need-returns-3 Inv-loop μ-loop
-returns-3 c = nodes-left (c .before .before .before .before .before .args .job .now) (c .before .before .before .before .before .args .version) (c .before .before .before .before .before .args .count) (c .before .before .loop .s) (bytes-of (c .before .before .before .before .before .args .job .now) (c .before .before .before .before .shared-slice-known .given)) (c .before .before .loop .inv) (omega arith) (c .if2 .taken)
+returns-3 c = over (c .before .before .before .before .before .before .args .job .now) (c .before .before .before .before .before .before .args .version) (c .before .before .before .before .before .before .args .count) (c .before .before .before .loop .s) (bytes-of (c .before .before .before .before .before .before .args .job .now) (c .before .before .before .before .before .shared-slice-known .given)) (c .before .before .before .loop .inv) (omega arith) (sym (c .before .left-over .ensures) ∙ c .if2 .taken)
 
 returns-4 : tie.Need-returns-4 Inv-loop μ-loop
-returns-4 c = bytes-left (c .before .before .before .before .before .before .args .job .now) (c .before .before .before .before .before .before .args .version) (c .before .before .before .before .before .before .args .count) (c .before .before .before .loop .s) (bytes-of (c .before .before .before .before .before .before .args .job .now) (c .before .before .before .before .before .shared-slice-known .given)) (c .before .before .before .loop .inv) (omega arith) (omega arith) (c .if3 .taken)
-
-returns-5 : tie.Need-returns-5 Inv-loop μ-loop
-returns-5 c = complete (c .before .before .before .before .before .before .args .job .now) (c .before .before .before .before .before .before .args .version) (c .before .before .before .before .before .before .args .count) (c .before .before .before .loop .s) (bytes-of (c .before .before .before .before .before .before .args .job .now) (c .before .before .before .before .before .shared-slice-known .given)) (c .before .before .before .loop .inv) (omega arith) (omega arith) (c .if3 .left)
+returns-4 c = complete (c .before .before .before .before .before .before .args .job .now) (c .before .before .before .before .before .before .args .version) (c .before .before .before .before .before .before .args .count) (c .before .before .before .loop .s) (bytes-of (c .before .before .before .before .before .before .args .job .now) (c .before .before .before .before .before .shared-slice-known .given)) (c .before .before .before .loop .inv) (omega arith) (sym (c .before .left-over .ensures) ∙ c .if2 .left)
 
 pub nodes-spec : {M : Type 1} → statement M
 nodes-spec =
@@ -92,6 +92,6 @@ nodes-spec =
     loop-again
     enum-known-found-2
     returns-2
+    left-over-requires
     returns-3
-    returns-4
-    returns-5)
+    returns-4)

@@ -1,8 +1,12 @@
 -- `job::read_job` meets its contract: the header's tests, then the nodes. Assumes nothing.
-use mathlib.Core.Path.{sym, _∙_}
-use borrow.Author.Tests.{not-true, not-false}
+use Prim.Native.Nat.{ℕ}
+use mathlib.Core.Bool.{_&&_}
+use lib.Dec.{leb}
+use mathlib.Core.Path.{sym, ap, _∙_}
+use borrow.Author.Tests.{not-true, not-false, leb-true}
+use Rattle.script.proofs.Accepts.{both}
 use Rattle.script.specs.Reader.{marked}
-use Rattle.job.proofs.Header.{cut, bad-mark, bad-version, no-count, many, passed}
+use Rattle.job.proofs.Header.{cut, bad-mark, bad-version, bad-count, passed}
 use borrow.Author.Needs.{needs}
 use Rattle.job.proofs.read_job.Statement.{statement}
 use Rattle.job.proofs.read_job.Tie as tie
@@ -48,23 +52,22 @@ shared-slice-read-number16-4 c = search needs
 number16-requires-2 : tie.Need-number16-requires-2
 number16-requires-2 c κs = search needs
 
+counted-requires : tie.Need-counted-requires
+counted-requires c κs = search needs
+
 returns-4 : tie.Need-returns-4
 unfolding marked
-returns-4 c = no-count (c .before .before .before .before .before .before .before .before .before .before .before .before .before .before .before .args .job .now) (c .before .before .before .before .before .before .before .before .before .before .before .before .before .if1 .left) (sym (c .before .before .before .before .before .before .before .before .before .marked .ensures) ∙ not-false _ (c .before .before .before .before .before .before .before .before .if2 .left)) (sym (c .before .before .before .before .before .number16 .ensures) ∙ c .before .before .before .before .if3 .left) (sym (c .before .number162 .ensures) ∙ c .if4 .taken)
-
-returns-5 : tie.Need-returns-5
-unfolding marked
-returns-5 c = many (c .before .before .before .before .before .before .before .before .before .before .before .before .before .before .before .before .args .job .now) (c .before .before .before .before .before .before .before .before .before .before .before .before .before .before .if1 .left) (sym (c .before .before .before .before .before .before .before .before .before .before .marked .ensures) ∙ not-false _ (c .before .before .before .before .before .before .before .before .before .if2 .left)) (sym (c .before .before .before .before .before .before .number16 .ensures) ∙ c .before .before .before .before .before .if3 .left) (rw (c .before .before .number162 .ensures) at (c .if5 .taken))
+returns-4 c = bad-count (c .before .before .before .before .before .before .before .before .before .before .before .before .before .before .before .before .args .job .now) (c .before .before .before .before .before .before .before .before .before .before .before .before .before .before .if1 .left) (sym (c .before .before .before .before .before .before .before .before .before .before .marked .ensures) ∙ not-false _ (c .before .before .before .before .before .before .before .before .before .if2 .left)) (sym (c .before .before .before .before .before .before .number16 .ensures) ∙ c .before .before .before .before .before .if3 .left) (rw (ap (λ (n : ℕ). leb 1 n && leb n 1000) (c .before .before .number162 .ensures)) at (sym (c .before .counted .ensures) ∙ not-true _ (c .if4 .taken)))
 
 cast-nodes : tie.Need-cast-nodes
 cast-nodes c = search needs
 
 nodes-requires : tie.Need-nodes-requires
-nodes-requires c κs = search needs
+nodes-requires c κs = let n = c .before .before .number162 .result in let t = both (leb 1 n) (leb n 1000) (sym (c .before .counted .ensures) ∙ not-false _ (c .if4 .left)) in (c .before .before .before .before .before .before .before .before .before .before .before .before .before .before .if1 .left, leb-true n 1000 (t .1))
 
-returns-6 : tie.Need-returns-6
+returns-5 : tie.Need-returns-5
 unfolding marked
-returns-6 c = c .nodes .ensures ∙ (rw (c .before .before .before .before .before .before .before .number16 .ensures, c .before .before .before .number162 .ensures) (passed (c .before .before .before .before .before .before .before .before .before .before .before .before .before .before .before .before .before .args .job .now) (c .before .before .before .before .before .before .before .before .before .before .before .before .before .before .before .if1 .left) (sym (c .before .before .before .before .before .before .before .before .before .before .before .marked .ensures) ∙ not-false _ (c .before .before .before .before .before .before .before .before .before .before .if2 .left)) (sym (c .before .before .before .before .before .before .before .number16 .ensures) ∙ c .before .before .before .before .before .before .if3 .left) (λ e. c .before .before .if4 .left (c .before .before .before .number162 .ensures ∙ e)) (rw (c .before .before .before .number162 .ensures) at (c .before .if5 .left))))
+returns-5 c = c .nodes .ensures ∙ (rw (c .before .before .before .before .before .before .before .number16 .ensures, c .before .before .before .number162 .ensures) (passed (c .before .before .before .before .before .before .before .before .before .before .before .before .before .before .before .before .before .args .job .now) (c .before .before .before .before .before .before .before .before .before .before .before .before .before .before .before .if1 .left) (sym (c .before .before .before .before .before .before .before .before .before .before .before .marked .ensures) ∙ not-false _ (c .before .before .before .before .before .before .before .before .before .before .if2 .left)) (sym (c .before .before .before .before .before .before .before .number16 .ensures) ∙ c .before .before .before .before .before .before .if3 .left) (rw (ap (λ (n : ℕ). leb 1 n && leb n 1000) (c .before .before .before .number162 .ensures)) at (sym (c .before .before .counted .ensures) ∙ not-false _ (c .before .if4 .left)))))
 
 pub read-job-spec : {M : Type 1} → statement M
 read-job-spec =
@@ -83,8 +86,8 @@ read-job-spec =
     shared-slice-read-number16-3
     shared-slice-read-number16-4
     number16-requires-2
+    counted-requires
     returns-4
-    returns-5
     cast-nodes
     nodes-requires
-    returns-6)
+    returns-5)
