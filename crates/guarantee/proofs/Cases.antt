@@ -1,13 +1,16 @@
 -- The table of worked cases holds, by computation. Assumes nothing.
 use mathlib.Core.Path.{refl}
 use Rattle.guarantee.specs.Cases.{Cases}
+use Rattle.code.specs.Compile.{compileT, compileP}
+use Rattle.code.specs.Bytes.{instructionBytes, instructionsBytes, codeMark, codeBytes, compiled}
+use Rattle.code.specs.Reader.{operand as codeOperand, opOf, opAt, doOp, closed, readOps, within, marked as codeMarked, readCode}
 use Rattle.script.specs.Bytes.{nodeBytes, bytes16, bytes32, bytesT, bytesP, jobMark, jobBytes}
-use Rattle.script.specs.Count.{nodesT, nodesP, forks, atomics, threads, instructions, longest, bound, codeT, codeP, codeLength}
+use Rattle.script.specs.Count.{nodesT, nodesP, depthT, depthP, forks, atomics, threads, instructions, longest, bound, codeT, codeP, codeLength}
 use Rattle.script.specs.Reader.{permitted, operand, nodeOf, nodeAt, grown, forkOf, readNodes, marked, taken, readJob}
 use Rattle.word.specs.Sum.{residue, signed, wrap, wrapping}
 
 pub cases : Cases
-unfolding wrapping wrap signed residue readJob readNodes nodeAt nodeOf permitted operand grown forkOf marked taken jobBytes jobMark bytesP bytesT nodeBytes bytes16 bytes32 nodesP nodesT forks atomics threads instructions longest bound codeT codeP codeLength
+unfolding wrapping wrap signed residue readJob readNodes nodeAt nodeOf permitted operand grown forkOf marked taken jobBytes jobMark bytesP bytesT nodeBytes bytes16 bytes32 nodesP nodesT forks atomics threads instructions longest bound codeT codeP codeLength compiled codeBytes codeMark compileP compileT instructionBytes instructionsBytes readCode readOps closed doOp opAt opOf codeOperand codeMarked within depthT depthP
 cases =
     record {
       below-range = refl;
@@ -23,6 +26,10 @@ cases =
       seven-read = refl;
       whole-read = refl;
       whole-written = refl;
+      seven-code = refl;
       whole-code = refl;
+      whole-back = refl;
+      whole-length = refl;
+      whole-size = refl;
       whole-bound = refl;
     }

@@ -3,11 +3,14 @@ use Prim.Native.Nat.{ℕ}
 use mathlib.Core.Path.{_≡_}
 use mathlib.Core.List.{List, [], _∷_, _++_}
 use lib.IntN.{ℤ, pos, negsuc}
+use lib.ListN.{length}
 use Rattle.script.specs.Tree.{Proc, ValP, AddP, Atomic, Fork, ValT, AddT, Read, Write}
 use Rattle.script.specs.Bytes.{jobBytes}
 use Rattle.script.specs.Count.{bound, codeLength}
 use Rattle.script.specs.Outcome.{Outcome, refused, done}
 use Rattle.script.specs.Reader.{Job, readJob}
+use Rattle.code.specs.Bytes.{compiled}
+use Rattle.code.specs.Reader.{readCode}
 use Rattle.word.specs.Sum.{wrapping}
 
 -- job version 1, and so many nodes
@@ -34,6 +37,13 @@ wholeTree = AddP increment increment
 abbrev pub wholeJob : List ℕ
 wholeJob = header 13 (0x02 ∷ (incrementBytes ++ incrementBytes))
 
+-- its code
+abbrev pub incrementCode : List ℕ
+incrementCode = 0x07 ∷ 0x00 ∷ 0x0C ∷ 0x05 ∷ 0x03 ∷ 0x00 ∷ 0x01 ∷ 0x00 ∷ 0x00 ∷ 0x00 ∷ 0x01 ∷ 0x02 ∷ 0x04 ∷ 0x00 ∷ 0x06 ∷ []
+
+abbrev pub wholeCode : List ℕ
+wholeCode = 0x57 ∷ 0x53 ∷ 0x43 ∷ 0x00 ∷ 0x01 ∷ (incrementCode ++ (incrementCode ++ (0x02 ∷ [])))
+
 pub record Cases : Type 0 where
   -- sums
   pub below-range : wrapping (negsuc 2147483647) (negsuc 0) ≡ pos 2147483647
@@ -51,5 +61,11 @@ pub record Cases : Type 0 where
   pub seven-read : readJob seven ≡ accepted (ValP (pos 7))
   pub whole-read : readJob wholeJob ≡ accepted wholeTree
   pub whole-written : jobBytes 1 wholeTree ≡ wholeJob
-  pub whole-code : codeLength wholeTree ≡ 36
+  -- their code
+  pub seven-code : compiled (record { version = 1; tree = ValP (pos 7) }) ≡ 0x57 ∷ 0x53 ∷ 0x43 ∷ 0x00 ∷ 0x01 ∷ 0x01 ∷ 0x00 ∷ 0x00 ∷ 0x00 ∷ 0x07 ∷ []
+  pub whole-code : compiled (record { version = 1; tree = wholeTree }) ≡ wholeCode
+  pub whole-back : readCode wholeCode ≡ accepted wholeTree
+  pub whole-length : codeLength wholeTree ≡ 36
+  pub whole-size : length wholeCode ≡ 36
+  -- the step bound
   pub whole-bound : bound wholeTree ≡ 27

@@ -7,6 +7,8 @@ use native.Mathlib.Omega.{arith}
 use lib.IntN.{ℤ}
 use lib.ListN.{length, drop, getD, length-drop}
 use lib.Seq.{getD-drop}
+use mir.Syntax.{w8}
+use mir.Val.{Fits}
 use Rattle.script.specs.Bytes.{Bytes, bytes16, bytes32}
 use Rattle.script.specs.Reader.{number16, number32}
 use Rattle.word.specs.Sum.{InRange, residue, signed}
@@ -53,6 +55,10 @@ module _ (a b c d : ℕ) (pa : a < 256) (pb : b < 256) (pc : c < 256) (pd : d < 
   -- four bytes, from the number that they hold
   pub number-written : bytes32 (residue (signed (((a * 256 + b) * 256 + c) * 256 + d))) ≡ a ∷ b ∷ c ∷ d ∷ []
   number-written = ap bytes32 (residue-signed (((a * 256 + b) * 256 + c) * 256 + d) small32) ∙ bytes32-number32
+
+-- a lent slice of bytes is bytes
+pub bytes-of : (bs : List ℕ) → ((i : ℕ) → Fits w8 (getD bs i 0)) → Bytes bs
+bytes-of bs h = record { small = λ i l. omega (arith, h i) }
 
 -- the bytes behind the first n are bytes, and so are those behind a first one
 pub bytes-drop : {bs : List ℕ} (n : ℕ) → Bytes bs → Bytes (drop n bs)

@@ -4,18 +4,13 @@ use mathlib.Core.Path.{sym, ap, subst, _∙_}
 use mathlib.Core.List.{List}
 use native.Mathlib.Omega.{arith}
 use lib.ListN.{getD}
-use mir.Syntax.{w8}
-use mir.Val.{Fits}
+use Rattle.script.proofs.Numbers.{bytes-of}
 use Rattle.job.specs.declared.Scan.{Scan}
 use Rattle.job.specs.Scan.{part}
-use Rattle.script.specs.Bytes.{Bytes}
 use Rattle.job.proofs.Advance.{one-less}
 use Rattle.job.proofs.Walk.{Inv, inv-start, height-most, used-up, node-refused, node-ready, node-read, over, complete}
 use Rattle.job.proofs.nodes.Statement.{statement}
 use Rattle.job.proofs.nodes.Tie as tie
-
-bytes-of : (job : List ℕ) → ((i : ℕ) → Fits w8 (getD job i 0)) → Bytes job
-bytes-of job h = record { small = λ i l. omega (arith, h i) }
 
 abbrev left-of : Scan → ℕ
 left-of s = s .left

@@ -1,0 +1,6 @@
+-- Stack code: the source's instructions and compiler, the code's bytes, foreign code, and reading back.
+pub mod Compile
+pub mod Bytes
+pub mod Counts
+pub mod Reader
+pub mod Scan

@@ -1,0 +1,251 @@
+-- A good scan stays within its arrays and its limits. Assumes nothing.
+use Prim.Native.Nat.{ℕ, zero, suc, _+_, _*_, _-_, _≤_, _<_, max}
+use mathlib.Core.Path.{_≡_, refl, sym, ap, subst, _∙_}
+use mathlib.Core.Bool.{Bool, true, false, cond}
+use mathlib.Core.List.{List}
+use native.Mathlib.Decide.{decLt, ℕ-discrete}
+use native.Mathlib.Omega.{arith}
+use lib.ListN.{length, getD, set, length-set}
+use Rattle.scan.specs.declared.Op.the-variants as op
+use Rattle.scan.specs.declared.Scan.{Scan}
+use Rattle.scan.specs.View.{Fit, bad, placed, setTo, topTo, kindAt, reachAt, addTo, writeTo, commitTo, joined, closeTo, movedTo, opened, forkTo, erase, stepTo}
+use Rattle.code.specs.Reader.{Op, push, add, read, write, begin, commit, fork, sizeOf}
+use Rattle.scan.proofs.Branches.{add-low, add-part, add-other, add-done, write-low, write-outside, write-other, write-done, commit-low, commit-outside, commit-above, commit-below, commit-done, close-low, close-above, close-below, close-done, fork-bad, fork-done, when-true, when-false}
+use Rattle.scan.proofs.Steps.{set-good, top-place, add-place, write-place, commit-place, top-forked, top-forks}
+
+abbrev pub good-of : Scan → Bool
+good-of s = s .good
+
+-- a scan that is bad is not good
+never-good : (s : Scan) {r : Scan} → bad s ≡ r → r .good ≡ true → ⊥
+unfolding bad
+never-good s e g =
+    let f : false ≡ true = ap good-of e ∙ g in
+    let z : _≡_ {A = ℕ} 0 1 = cc in
+    omega arith
+
+placed-fit : (s : Scan) (h k r : ℕ) (i : Bool) (n f z : ℕ) → Fit s → h < 64 → s .nodes + n ≤ 1000 → s .forks + f ≤ 15 → z ≤ 5 * n → Fit (placed s h k r i n f z)
+unfolding placed
+placed-fit s h k r i n f z t l m q w =
+    record {
+      kinds = length-set (s .kinds) h k ∙ t .kinds;
+      reaches = length-set (s .reaches) h r ∙ t .reaches;
+      ends = t .ends;
+      low = omega arith;
+      some = omega (arith, t .some);
+      few = q;
+      noded = m;
+      sized = omega (arith, t .sized);
+      early = t .early;
+    }
+
+set-fit : (s : Scan) (h k r : ℕ) (i : Bool) (n f z : ℕ) → Fit s → (r ≤ 64 → h < 64) → z ≤ 5 * n → setTo s h k r i n f z .good ≡ true → Fit (setTo s h k r i n f z)
+set-fit s h k r i n f z t room w g =
+    let p = set-good s h k r i n f z g in
+    subst Fit (sym (p .3)) (placed-fit s h k r i n f z t (room (p .0)) (p .1) (p .2) w)
+
+top-fit : (s : Scan) (k : ℕ) (i : Bool) (f z : ℕ) → Fit s → z ≤ 5 → topTo s k i f z .good ≡ true → Fit (topTo s k i f z)
+unfolding topTo
+top-fit s k i f z t w g = set-fit s (s .height) k (s .height + 1) i 1 f z t (λ l. omega arith) (omega arith) g
+
+module _ (s : Scan) (t : Fit s) where
+  add-fit : addTo s .good ≡ true → Fit (addTo s)
+  add-fit g = height (decLt (s .height) 2)
+    where
+      alike : 2 ≤ s .height → 2 ≤ kindAt s 2 → Dec (kindAt s 1 ≡ kindAt s 2) → Fit (addTo s)
+      alike h k (yes e) =
+          let d = add-done s h k e in
+          subst Fit d (set-fit s (s .height - 2) (kindAt s 2) (max (reachAt s 2 + 1) (reachAt s 1)) (s .inside) 1 0 1 t (λ l. omega (arith, t .low)) (omega arith) (ap good-of d ∙ g))
+      alike h k (no n) = absurd (never-good s (add-other s h k n) g)
+
+      parts : 2 ≤ s .height → Dec (kindAt s 2 < 2) → Fit (addTo s)
+      parts h (yes k) = absurd (never-good s (add-part s h k) g)
+      parts h (no k) = alike h (omega arith) (ℕ-discrete (kindAt s 1) (kindAt s 2))
+
+      height : Dec (s .height < 2) → Fit (addTo s)
+      height (yes h) = absurd (never-good s (add-low s h) g)
+      height (no h) = parts (omega arith) (decLt (kindAt s 2) 2)
+
+  write-fit : writeTo s .good ≡ true → Fit (writeTo s)
+  write-fit g = height (decLt (s .height) 1)
+    where
+      kind : 1 ≤ s .height → s .inside ≡ true → Dec (kindAt s 1 ≡ 3) → Fit (writeTo s)
+      kind h i (yes e) =
+          let d = write-done s h i e in
+          subst Fit d (set-fit s (s .height - 1) 3 (reachAt s 1 + 1) true 1 0 2 t (λ l. omega (arith, t .low)) (omega arith) (ap good-of d ∙ g))
+      kind h i (no n) = absurd (never-good s (write-other s h i n) g)
+
+      inside : 1 ≤ s .height → (b : Bool) → s .inside ≡ b → Fit (writeTo s)
+      inside h true i = kind h i (ℕ-discrete (kindAt s 1) 3)
+      inside h false i = absurd (never-good s (write-outside s h i) g)
+
+      height : Dec (s .height < 1) → Fit (writeTo s)
+      height (yes h) = absurd (never-good s (write-low s h) g)
+      height (no h) = inside (omega arith) (s .inside) refl
+
+  commit-fit : commitTo s .good ≡ true → Fit (commitTo s)
+  commit-fit g = height (decLt (s .height) 2)
+    where
+      below : 2 ≤ s .height → s .inside ≡ true → kindAt s 1 ≡ 3 → Dec (kindAt s 2 ≡ 0) → Fit (commitTo s)
+      below h i e (yes f) =
+          let d = commit-done s h i e f in
+          subst Fit d (set-fit s (s .height - 2) 2 (reachAt s 1) false 0 0 0 t (λ l. omega (arith, t .low)) (omega arith) (ap good-of d ∙ g))
+      below h i e (no n) = absurd (never-good s (commit-below s h i e n) g)
+
+      above : 2 ≤ s .height → s .inside ≡ true → Dec (kindAt s 1 ≡ 3) → Fit (commitTo s)
+      above h i (yes e) = below h i e (ℕ-discrete (kindAt s 2) 0)
+      above h i (no n) = absurd (never-good s (commit-above s h i n) g)
+
+      inside : 2 ≤ s .height → (b : Bool) → s .inside ≡ b → Fit (commitTo s)
+      inside h true i = above h i (ℕ-discrete (kindAt s 1) 3)
+      inside h false i = absurd (never-good s (commit-outside s h i) g)
+
+      height : Dec (s .height < 2) → Fit (commitTo s)
+      height (yes h) = absurd (never-good s (commit-low s h) g)
+      height (no h) = inside (omega arith) (s .inside) refl
+
+  -- a child's end that is good is a join
+  pub record Closing : Type 0 where
+    pub high : 2 ≤ s .height
+    pub above : kindAt s 1 ≡ 2
+    pub below : kindAt s 2 ≡ 1
+    pub is : joined s ≡ closeTo s
+
+  pub closing : closeTo s .good ≡ true → Closing
+  closing g = height (decLt (s .height) 2)
+    where
+      below : 2 ≤ s .height → kindAt s 1 ≡ 2 → Dec (kindAt s 2 ≡ 1) → Closing
+      below h e (yes f) = record { high = h; above = e; below = f; is = close-done s h e f }
+      below h e (no n) = absurd (never-good s (close-below s h e n) g)
+
+      above : 2 ≤ s .height → Dec (kindAt s 1 ≡ 2) → Closing
+      above h (yes e) = below h e (ℕ-discrete (kindAt s 2) 1)
+      above h (no n) = absurd (never-good s (close-above s h n) g)
+
+      height : Dec (s .height < 2) → Closing
+      height (yes h) = absurd (never-good s (close-low s h) g)
+      height (no h) = above (omega arith) (ℕ-discrete (kindAt s 1) 2)
+
+  joined-fit : 2 ≤ s .height → Fit (joined s)
+  unfolding joined
+  joined-fit h =
+      record {
+        kinds = length-set (s .kinds) (s .height - 2) 2 ∙ t .kinds;
+        reaches = length-set (s .reaches) (s .height - 2) (reachAt s 1) ∙ t .reaches;
+        ends = t .ends;
+        low = omega (arith, t .low);
+        some = omega (arith, t .some);
+        few = t .few;
+        noded = t .noded;
+        sized = t .sized;
+        early = t .early;
+      }
+
+  pub close-fit : closeTo s .good ≡ true → Fit (closeTo s)
+  close-fit g = let c = closing g in subst Fit (c .is) (joined-fit (c .high))
+
+moved-fit : (s : Scan) (size : ℕ) → Fit s → s .place + size ≤ 5005 → Fit (movedTo s size)
+unfolding movedTo
+moved-fit s size t l =
+    record { kinds = t .kinds; reaches = t .reaches; ends = t .ends; low = t .low; some = t .some; few = t .few; noded = t .noded; sized = t .sized; early = l }
+
+moved-good : (s : Scan) (size : ℕ) → movedTo s size .good ≡ true → s .good ≡ true
+unfolding movedTo
+moved-good s size g = g
+
+opened-fit : (s : Scan) (n : ℕ) → Fit s → s .forked + 1 ≤ s .forks → s .place + 3 ≤ 5005 → Fit (opened s n)
+unfolding opened
+opened-fit s n t q l =
+    record { kinds = t .kinds; reaches = t .reaches; ends = length-set (s .ends) (s .forked) (s .place + 3 + n) ∙ t .ends; low = t .low; some = q; few = t .few; noded = t .noded; sized = t .sized; early = l }
+
+-- one instruction
+pub step-fit : (s : Scan) (o : Op) → Fit s → stepTo s (erase o) .good ≡ true → s .place + sizeOf o ≤ 5005 → Fit (stepTo s (erase o))
+unfolding stepTo
+step-fit s (push n) t g l = go (s .inside) refl
+  where
+    topped : (k : ℕ) (i : Bool) → movedTo (topTo s k i 0 5) 5 .good ≡ true → Fit (movedTo (topTo s k i 0 5) 5)
+    topped k i h = moved-fit (topTo s k i 0 5) 5 (top-fit s k i 0 5 t (omega arith) (moved-good (topTo s k i 0 5) 5 h)) (omega (arith, top-place s k i 0 5))
+
+    go : (b : Bool) → s .inside ≡ b → Fit (cond (s .inside) (movedTo (topTo s 3 true 0 5) 5) (movedTo (topTo s 2 false 0 5) 5))
+    go true i = let d = when-true (s .inside) (movedTo (topTo s 3 true 0 5) 5) (movedTo (topTo s 2 false 0 5) 5) i in subst Fit d (topped 3 true (ap good-of d ∙ g))
+    go false i = let d = when-false (s .inside) (movedTo (topTo s 3 true 0 5) 5) (movedTo (topTo s 2 false 0 5) 5) i in subst Fit d (topped 2 false (ap good-of d ∙ g))
+step-fit s add t g l = moved-fit (addTo s) 1 (add-fit s t (moved-good (addTo s) 1 g)) (omega (arith, add-place s))
+step-fit s (read v) t g l = go (s .inside) refl
+  where
+    go : (b : Bool) → s .inside ≡ b → Fit (cond (s .inside) (movedTo (topTo s 3 true 0 2) 2) (bad s))
+    go true i =
+        let d = when-true (s .inside) (movedTo (topTo s 3 true 0 2) 2) (bad s) i in
+        subst Fit d (moved-fit (topTo s 3 true 0 2) 2 (top-fit s 3 true 0 2 t (omega arith) (moved-good (topTo s 3 true 0 2) 2 (ap good-of d ∙ g))) (omega (arith, top-place s 3 true 0 2)))
+    go false i = absurd (never-good s (when-false (s .inside) (movedTo (topTo s 3 true 0 2) 2) (bad s) i) g)
+step-fit s (write v) t g l = moved-fit (writeTo s) 2 (write-fit s t (moved-good (writeTo s) 2 g)) (omega (arith, write-place s))
+step-fit s begin t g l = go (s .inside) refl
+  where
+    go : (b : Bool) → s .inside ≡ b → Fit (cond (s .inside) (bad s) (movedTo (topTo s 0 true 0 1) 1))
+    go true i = absurd (never-good s (when-true (s .inside) (bad s) (movedTo (topTo s 0 true 0 1) 1) i) g)
+    go false i =
+        let d = when-false (s .inside) (bad s) (movedTo (topTo s 0 true 0 1) 1) i in
+        subst Fit d (moved-fit (topTo s 0 true 0 1) 1 (top-fit s 0 true 0 1 t (omega arith) (moved-good (topTo s 0 true 0 1) 1 (ap good-of d ∙ g))) (omega (arith, top-place s 0 true 0 1)))
+step-fit s commit t g l = moved-fit (commitTo s) 1 (commit-fit s t (moved-good (commitTo s) 1 g)) (omega (arith, commit-place s))
+step-fit s (fork n) t g l = go (s .inside) refl
+  where
+    u : Scan
+    u = topTo s 1 false 1 1
+
+    opens : (b : Bool) → u .good ≡ b → forkTo u n .good ≡ true → Fit (forkTo u n)
+    opens true h k =
+        let f = top-fit s 1 false 1 1 t (omega arith) h in
+        subst Fit (fork-done u n h) (opened-fit u n f (omega (arith, top-forked s 1 false 1 1 h, top-forks s 1 false 1 1 h, t .some)) (omega (arith, top-place s 1 false 1 1)))
+    opens false h k = absurd (let e : false ≡ true = sym h ∙ (ap good-of (fork-bad u n h) ∙ k) in let z : _≡_ {A = ℕ} 0 1 = cc in omega arith)
+
+    go : (b : Bool) → s .inside ≡ b → Fit (cond (s .inside) (bad s) (forkTo u n))
+    go true i = absurd (never-good s (when-true (s .inside) (bad s) (forkTo u n) i) g)
+    go false i = let d = when-false (s .inside) (bad s) (forkTo u n) i in subst Fit d (opens (u .good) refl (ap good-of d ∙ g))
+
+pub foreign-bad : (s : Scan) → stepTo s op.Foreign .good ≡ true → ⊥
+unfolding stepTo
+foreign-bad s g = never-good s refl g
+
+-- a good scan is one instruction further
+moved-place : (s : Scan) (size : ℕ) → movedTo s size .place ≡ s .place + size
+unfolding movedTo
+moved-place s size = refl
+
+opened-place : (s : Scan) (n : ℕ) → opened s n .place ≡ s .place + 3
+unfolding opened
+opened-place s n = refl
+
+abbrev place-of : Scan → ℕ
+place-of s = s .place
+
+pub step-place : (s : Scan) (o : Op) → stepTo s (erase o) .good ≡ true → stepTo s (erase o) .place ≡ s .place + sizeOf o
+unfolding stepTo
+step-place s (push n) g = go (s .inside) refl
+  where
+    go : (b : Bool) → s .inside ≡ b → cond (s .inside) (movedTo (topTo s 3 true 0 5) 5) (movedTo (topTo s 2 false 0 5) 5) .place ≡ s .place + 5
+    go true i = sym (ap place-of (when-true (s .inside) (movedTo (topTo s 3 true 0 5) 5) (movedTo (topTo s 2 false 0 5) 5) i)) ∙ (moved-place (topTo s 3 true 0 5) 5 ∙ ap (λ (n : ℕ). n + 5) (top-place s 3 true 0 5))
+    go false i = sym (ap place-of (when-false (s .inside) (movedTo (topTo s 3 true 0 5) 5) (movedTo (topTo s 2 false 0 5) 5) i)) ∙ (moved-place (topTo s 2 false 0 5) 5 ∙ ap (λ (n : ℕ). n + 5) (top-place s 2 false 0 5))
+step-place s add g = moved-place (addTo s) 1 ∙ ap (λ (n : ℕ). n + 1) (add-place s)
+step-place s (read v) g = go (s .inside) refl
+  where
+    go : (b : Bool) → s .inside ≡ b → cond (s .inside) (movedTo (topTo s 3 true 0 2) 2) (bad s) .place ≡ s .place + 2
+    go true i = sym (ap place-of (when-true (s .inside) (movedTo (topTo s 3 true 0 2) 2) (bad s) i)) ∙ (moved-place (topTo s 3 true 0 2) 2 ∙ ap (λ (n : ℕ). n + 2) (top-place s 3 true 0 2))
+    go false i = absurd (never-good s (when-false (s .inside) (movedTo (topTo s 3 true 0 2) 2) (bad s) i) g)
+step-place s (write v) g = moved-place (writeTo s) 2 ∙ ap (λ (n : ℕ). n + 2) (write-place s)
+step-place s begin g = go (s .inside) refl
+  where
+    go : (b : Bool) → s .inside ≡ b → cond (s .inside) (bad s) (movedTo (topTo s 0 true 0 1) 1) .place ≡ s .place + 1
+    go true i = absurd (never-good s (when-true (s .inside) (bad s) (movedTo (topTo s 0 true 0 1) 1) i) g)
+    go false i = sym (ap place-of (when-false (s .inside) (bad s) (movedTo (topTo s 0 true 0 1) 1) i)) ∙ (moved-place (topTo s 0 true 0 1) 1 ∙ ap (λ (n : ℕ). n + 1) (top-place s 0 true 0 1))
+step-place s commit g = moved-place (commitTo s) 1 ∙ ap (λ (n : ℕ). n + 1) (commit-place s)
+step-place s (fork n) g = go (s .inside) refl
+  where
+    u : Scan
+    u = topTo s 1 false 1 1
+
+    opens : (b : Bool) → u .good ≡ b → forkTo u n .good ≡ true → forkTo u n .place ≡ s .place + 3
+    opens true h k = sym (ap place-of (fork-done u n h)) ∙ (opened-place u n ∙ ap (λ (m : ℕ). m + 3) (top-place s 1 false 1 1))
+    opens false h k = absurd (let e : false ≡ true = sym h ∙ (ap good-of (fork-bad u n h) ∙ k) in let z : _≡_ {A = ℕ} 0 1 = cc in omega arith)
+
+    go : (b : Bool) → s .inside ≡ b → cond (s .inside) (bad s) (forkTo u n) .place ≡ s .place + 3
+    go true i = absurd (never-good s (when-true (s .inside) (bad s) (forkTo u n) i) g)
+    go false i = let d = when-false (s .inside) (bad s) (forkTo u n) i in sym (ap place-of d) ∙ opens (u .good) refl (ap good-of d ∙ g)

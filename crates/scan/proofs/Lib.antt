@@ -1,0 +1,8 @@
+-- Why the scan's functions do what their mirrors say, and why these follow code/specs/Scan.antt.
+pub mod Decode
+pub mod Branches
+pub mod Steps
+pub mod Views
+pub mod Fits
+pub mod Loops
+pub mod Whole

@@ -1,0 +1,85 @@
+-- From the scan to the answer. Assumes nothing.
+use Prim.Native.Nat.{ℕ, suc, _+_, _*_, _≤_, _<_}
+use mathlib.Core.Path.{_≡_, refl, sym, ap, _∙_}
+use mathlib.Core.Bool.{Bool, true, false}
+use mathlib.Core.List.{List}
+use native.Mathlib.Omega.{arith}
+use lib.ListN.{length, drop, length-drop}
+use borrow.Author.Tests.{lt-ltb, le-ltb, eq-eqb, ne-eqb}
+use Rattle.scan.specs.declared.Scan.{Scan}
+use Rattle.scan.specs.declared.Scanned.{Scanned}
+use Rattle.scan.specs.declared.Scanned.the-variants as scanned
+use Rattle.scan.specs.Answer.{told}
+use Rattle.scan.specs.View.{view, ifGood, viewed}
+use Rattle.code.specs.Bytes.{IsCode}
+use Rattle.code.specs.Reader.{foreign, marked, readCode}
+use Rattle.code.specs.Scan.{started, scanOps, Summary, summary, scanCode}
+use Rattle.code.specs.Scan as list
+use Rattle.code.proofs.Flat.{code-length}
+use Rattle.code.proofs.ReadBack.{read-is-code, code-small}
+use Rattle.code.proofs.Scans.{scan-is-read}
+use Rattle.script.specs.Bytes.{Bytes}
+use Rattle.script.specs.Count.{codeLength, nodesP}
+use Rattle.script.specs.Outcome.{Outcome, refused, done, mapped}
+use Rattle.script.specs.Reader.{Job, number16, taken}
+use Rattle.scan.proofs.Loops.{scan-fuel}
+
+-- the answer, from the summary
+abbrev summed : Outcome Summary → Scanned
+summed (refused number place) = scanned.Foreign
+summed (done s) = scanned.Job (s .version) (s .nodes) (s .size)
+
+told-summed : (o : Outcome Job) → summed (mapped summary o) ≡ told o
+unfolding summary
+told-summed (refused number place) = refl
+told-summed (done j) = refl
+
+told-is : (code : List ℕ) → summed (scanCode code) ≡ told (readCode code)
+told-is code = ap summed (scan-is-read code) ∙ told-summed (readCode code)
+
+module _ (code : List ℕ) (bytes : Bytes code) where
+  pub too-short : length code < 5 → scanned.Foreign ≡ told (readCode code)
+  unfolding readCode
+  too-short h = rw (lt-ltb (length code) 5 h)
+
+  -- the code of a job within the limits is at most 5,005 bytes long
+  pub too-long : 5005 < length code → scanned.Foreign ≡ told (readCode code)
+  unfolding codeLength
+  too-long h = go (readCode code) refl
+    where
+      go : (o : Outcome Job) → readCode code ≡ o → scanned.Foreign ≡ told o
+      go (refused n p) e = refl
+      go (done j) e =
+          let c : IsCode code j = read-is-code code j bytes e in
+          let l : length code ≡ codeLength (j .tree) = ap length (c .text) ∙ code-length j in
+          absurd (far j (c .within .few) (rw l at h))
+        where
+          far : (j : Job) → nodesP (j .tree) ≤ 1000 → 5005 < codeLength (j .tree) → ⊥
+          far j few m = omega (arith, code-small (j .tree))
+
+  module _ (long : 5 ≤ length code) where
+    pub bad-mark : marked code ≡ false → scanned.Foreign ≡ told (readCode code)
+    unfolding readCode
+    bad-mark e = rw (le-ltb (length code) 5 long, e)
+
+    module _ (mark : marked code ≡ true) where
+      pub bad-version : (number16 code 3 ≡ 1 → ⊥) → scanned.Foreign ≡ told (readCode code)
+      unfolding readCode taken
+      bad-version n = rw (le-ltb (length code) 5 long, mark, ne-eqb (number16 code 3) 1 n)
+
+      module _ (version : number16 code 3 ≡ 1) (s : Scan) (v : viewed s ≡ scanOps (suc (length (drop 5 code))) started (drop 5 code)) where
+        whole : mapped (λ (t : list.Scan). record { version = number16 code 3; nodes = t .nodes; size = t .size }) (viewed s) ≡ scanCode code
+        unfolding scanCode taken
+        whole =
+            let f : scanOps (suc (length (drop 5 code))) started (drop 5 code) ≡ scanOps (suc (length code)) started (drop 5 code) = scan-fuel (suc (length (drop 5 code))) (suc (length code)) started (drop 5 code) (omega arith) (omega (arith, length-drop 5 code)) in
+            rw (le-ltb (length code) 5 long, mark, eq-eqb (number16 code 3) 1 version) (ap (mapped (λ (t : list.Scan). record { version = number16 code 3; nodes = t .nodes; size = t .size })) (v ∙ f))
+
+        pub is-foreign : s .good ≡ false → scanned.Foreign ≡ told (readCode code)
+        is-foreign b =
+            let w : viewed s ≡ foreign = ap (λ (t : Bool). ifGood t (view s)) b in
+            ap (λ (o : Outcome list.Scan). summed (mapped (λ (t : list.Scan). record { version = number16 code 3; nodes = t .nodes; size = t .size }) o)) (sym w) ∙ (ap summed whole ∙ told-is code)
+
+        pub is-job : s .good ≡ true → scanned.Job (number16 code 3) (s .nodes) (s .size) ≡ told (readCode code)
+        is-job b =
+            let w : viewed s ≡ done (view s) = ap (λ (t : Bool). ifGood t (view s)) b in
+            ap (λ (o : Outcome list.Scan). summed (mapped (λ (t : list.Scan). record { version = number16 code 3; nodes = t .nodes; size = t .size }) o)) (sym w) ∙ (ap summed whole ∙ told-is code)
