@@ -1,8 +1,8 @@
 -- The theorems about stack code.
 pub mod Flat
-pub mod Counted
 pub mod Ops
 pub mod ReadBack
 pub mod Foreign
+pub mod Heights
 pub mod Texts
 pub mod Scans

@@ -1,0 +1,6 @@
+-- The laws that the proofs of `decompiler` cite.
+pub mod Lists
+pub mod Next
+pub mod Follow
+pub mod Turns
+pub mod Whole

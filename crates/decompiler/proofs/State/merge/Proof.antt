@@ -1,0 +1,22 @@
+-- `decompiler::State::merge` meets its contract. Assumes nothing.
+use mathlib.Core.Path.{refl}
+use Rattle.decompiler.specs.State.{merged}
+use borrow.Author.Needs.{needs}
+use Rattle.decompiler.proofs.State.merge.Statement.{statement}
+use Rattle.decompiler.proofs.State.merge.Tie as tie
+
+sub-self : tie.Need-sub-self
+sub-self c = search needs
+
+add-self : tie.Need-add-self
+add-self c = search needs
+
+add-self-2 : tie.Need-add-self-2
+add-self-2 c = search needs
+
+returns : tie.Need-returns
+unfolding merged
+returns c = refl
+
+pub merge-spec : {M : Type 1} → statement M
+merge-spec = tie.close (tie.spec sub-self add-self add-self-2 returns)

@@ -1,0 +1,22 @@
+-- `decompiler::State::open` meets its contract. Assumes nothing.
+use mathlib.Core.Path.{refl}
+use Rattle.decompiler.specs.State.{opened}
+use borrow.Author.Needs.{needs}
+use Rattle.decompiler.proofs.State.open.Statement.{statement}
+use Rattle.decompiler.proofs.State.open.Tie as tie
+
+mul-self : tie.Need-mul-self
+mul-self c = search needs
+
+element-write-self : tie.Need-element-write-self
+element-write-self c = search needs
+
+add-self : tie.Need-add-self
+add-self c = search needs
+
+returns : tie.Need-returns
+unfolding opened
+returns c = refl
+
+pub open-spec : {M : Type 1} → statement M
+open-spec = tie.close (tie.spec mul-self element-write-self add-self returns)

@@ -1,0 +1,30 @@
+-- `decompiler::insert_two` meets its contract. Assumes nothing.
+use native.Mathlib.Omega.{arith}
+use lib.ListN.{length-set}
+use Rattle.decompiler.proofs.Lists.{insert-two}
+use borrow.Author.Needs.{needs}
+use Rattle.decompiler.proofs.insert_two.Statement.{statement}
+use Rattle.decompiler.proofs.insert_two.Tie as tie
+
+shift-requires : tie.Need-shift-requires
+shift-requires c κs = search needs
+
+slice-write-out : tie.Need-slice-write-out
+slice-write-out c = search needs
+
+add-out : tie.Need-add-out
+add-out c = search needs
+
+slice-write-out-2 : tie.Need-slice-write-out-2
+slice-write-out-2 c = simp length-set (omega arith)
+
+same-length : tie.Need-same-length
+same-length c = search needs
+
+returns : tie.Need-returns
+returns c = rw (c .before .before .shift .ensures) (insert-two (c .before .before .before .before .before .args .start) (c .before .before .before .before .before .args .end) (c .before .before .before .before .before .args .first) (c .before .before .before .before .before .args .second) (c .before .before .before .before .before .args .out .now) (omega arith) (omega arith))
+
+pub insert-two-spec : {M : Type 1} → statement M
+insert-two-spec =
+    tie.close
+    (tie.spec shift-requires slice-write-out add-out slice-write-out-2 same-length returns)

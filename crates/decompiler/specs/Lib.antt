@@ -1,0 +1,4 @@
+-- What the contracts of `decompiler` cite.
+pub mod Parts
+pub mod State
+pub mod Walk

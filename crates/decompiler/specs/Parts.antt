@@ -1,0 +1,31 @@
+-- What is written to the front of a list, and what is put between its parts.
+use Prim.Native.Nat.{ℕ, _+_, _-_}
+use mathlib.Core.Bool.{Bool, true, false}
+use mathlib.Core.List.{List, _∷_, _++_}
+use lib.ListN.{length, take, drop, getD}
+use Rattle.script.specs.Bytes.{jobMark, bytes16}
+
+-- a text at the front of what was there before
+unfoldable pub onto : List ℕ → List ℕ → List ℕ
+onto text before = text ++ drop (length text) before
+
+-- bytes at a place, in the place of those that stood there
+unfoldable pub placed : ℕ → List ℕ → List ℕ → List ℕ
+placed i bs xs = take i xs ++ (bs ++ drop (i + length bs) xs)
+
+-- the part from i to e moved on
+unfoldable pub shifted : (i e by : ℕ) → List ℕ → List ℕ
+shifted i e by xs = take (i + by) xs ++ (take (e - i) (drop i xs) ++ drop (e + by) xs)
+
+-- bytes put in front of the part from i to e
+unfoldable pub inserted : (i e : ℕ) → List ℕ → List ℕ → List ℕ
+inserted i e bs xs = take i xs ++ (bs ++ (take (e - i) (drop i xs) ++ drop (e + length bs) xs))
+
+-- the header of the job that this code is of
+unfoldable pub header : List ℕ → ℕ → List ℕ
+header code nodes = jobMark ++ (getD code 3 0 ∷ getD code 4 0 ∷ bytes16 nodes)
+
+-- a process's kind byte, and the same node's as a transaction
+abbrev pub kindOf : Bool → ℕ → ℕ
+kindOf true kind = kind + 4
+kindOf false kind = kind
