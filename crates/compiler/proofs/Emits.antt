@@ -5,7 +5,7 @@ use mathlib.Core.List.{List, [], _∷_, _++_, append-assoc, append-nil}
 use native.Mathlib.Omega.{arith}
 use lib.ListN.{length, drop, getD, length-append, length-drop, length-take}
 use Rattle.compiler.specs.declared.Part.{Part}
-use Rattle.compiler.specs.Delivered.{onto}
+use Rattle.delivery.specs.Delivered.{onto}
 use Rattle.compiler.specs.Emit.{Emitted, Has, Ready, code, fork, part, placed, push, read}
 use Rattle.compiler.proofs.Lists.{rest, rest-length, back, lent, placed-onto, onto-placed, onto-length}
 use Rattle.compiler.proofs.Nodes.{PushAt, ReadAt, OneAt, TwoAt, AtomicAt, ForkAt, WriteAt}

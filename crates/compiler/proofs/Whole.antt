@@ -7,9 +7,10 @@ use lib.ListN.{length, drop, getD}
 use borrow.Author.Tests.{lt-ltb, le-ltb}
 use mir.Syntax.{w8}
 use mir.Val.{Fits}
-use Rattle.compiler.specs.declared.Answer.the-variants.{Done, Refused}
+use Rattle.delivery.specs.declared.Answer.the-variants.{Done, Refused}
 use Rattle.compiler.specs.declared.Part.{Part}
-use Rattle.compiler.specs.Delivered.{onto, delivered, compileTo}
+use Rattle.compiler.specs.CompileTo.{compileTo}
+use Rattle.delivery.specs.Delivered.{onto, delivered}
 use Rattle.compiler.specs.Emit.{Emitted, Has, Ready, code, header}
 use Rattle.compiler.proofs.Lists.{rest, rest-length, back, lent, placed-onto, onto-length}
 use Rattle.code.specs.Bytes.{codeMark, codeBytes, compiled}

@@ -4,7 +4,7 @@ use mathlib.Core.Path.{_≡_}
 use mathlib.Core.List.{List, [], _∷_, _++_}
 use lib.ListN.{length, take, drop, getD}
 use Rattle.compiler.specs.declared.Part.{Part}
-use Rattle.compiler.specs.Delivered.{onto}
+use Rattle.delivery.specs.Delivered.{onto}
 use Rattle.code.specs.Compile.{ε, compileT, compileP}
 use Rattle.code.specs.Bytes.{instructionsBytes, codeMark}
 use Rattle.script.specs.Tree.{Sort, process, transaction, Tree}

@@ -1,3 +1,3 @@
 -- What the contracts of `compiler` cite.
-pub mod Delivered
+pub mod CompileTo
 pub mod Emit

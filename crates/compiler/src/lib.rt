@@ -3,18 +3,13 @@ ghost use Prim.Native.Nat.{_+_, _/_, _%_, _≤_};
 ghost use lib.ListN.{length};
 ghost use mathlib.Core.List.{[], _∷_};
 ghost use mathlib.Core.Path.{_≡_};
-ghost use Rattle.compiler.specs.Delivered.{compileTo, onto};
+ghost use Rattle.compiler.specs.CompileTo.{compileTo};
+ghost use Rattle.decompiler.specs.ReadBackTo.{readBackTo};
+ghost use Rattle.delivery.specs.Delivered.{onto};
 ghost use Rattle.compiler.specs.Emit.{Emitted, Has, Ready, fork, header, part as answer, placed, push, read};
 ghost use Rattle.script.specs.Tree.{Sort, Tree};
+use delivery::Answer;
 use job::Reading;
-
-// What compiling or reading back comes to.
-pub enum Answer {
-    // so many bytes of the output, counted from its start, are the result
-    Done(usize),
-    // document 01's number, and the place
-    Refused(u8, usize),
-}
 
 // What emitting a node comes to: the place behind the node in the job, and how many bytes of code were written.
 struct Part {
@@ -181,4 +176,11 @@ pub fn compile(job: &[u8], out: &mut [u8]) -> Answer
             Answer::Done(length)
         }
     }
+}
+
+// Reads code back into the front of `out`. Total: any bytes, any output.
+pub fn read_back(code: &[u8], out: &mut [u8]) -> Answer
+    ensures { λ r. ⌜ readBackTo (now (code .entry)) (now (out .entry)) ≡ record { answer = r; output = now (out .exit) } ⌝ }
+{
+    decompiler::read_back(code, out)
 }

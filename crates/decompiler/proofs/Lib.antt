@@ -4,3 +4,4 @@ pub mod Next
 pub mod Follow
 pub mod Turns
 pub mod Whole
+pub mod Answers

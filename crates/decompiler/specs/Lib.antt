@@ -2,3 +2,4 @@
 pub mod Parts
 pub mod State
 pub mod Walk
+pub mod ReadBackTo

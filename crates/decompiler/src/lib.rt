@@ -4,6 +4,7 @@ ghost use lib.ListN.{drop, getD, length};
 ghost use mathlib.Core.Bool.{false, true};
 ghost use mathlib.Core.List.{List, [], _++_, _∷_};
 ghost use mathlib.Core.Path.{_≡_};
+ghost use Rattle.decompiler.specs.ReadBackTo.{readBackTo};
 ghost use Rattle.decompiler.specs.Parts.{header, inserted, kindOf, onto, placed, shifted};
 ghost use Rattle.decompiler.specs.State.{Moves, Room, atEnd, grown, merged, opened, pushed, shut, started};
 ghost use Rattle.decompiler.specs.Walk.{Due, Ready, Walk, Walked};
@@ -12,6 +13,8 @@ ghost use Rattle.script.specs.Bytes.{jobBytes};
 ghost use Rattle.script.specs.Outcome.{done};
 ghost use Rattle.script.specs.Reader.{Job};
 ghost use Rattle.script.specs.Tree.{Proc};
+use delivery::Answer;
+use scan::Scanned;
 
 // How far the pass has come. `starts` has, for each part on the stack, where it starts in the job; `ends` has where each open FORK's child ends.
 struct State {
@@ -278,5 +281,22 @@ fn restore(code: &[u8], nodes: usize, out: &mut [u8])
     let mut s = State::start();
     while s.place < code.len() {
         s = step(code, s, out);
+    }
+}
+
+// Reads code back into the front of `out`. Total: any bytes, any output.
+pub fn read_back(code: &[u8], out: &mut [u8]) -> Answer
+    ensures { λ r. ⌜ readBackTo (now (code .entry)) (now (out .entry)) ≡ record { answer = r; output = now (out .exit) } ⌝ }
+{
+    let scanned = scan::scan_code(code);
+    match scanned {
+        Scanned::Foreign => Answer::Refused(11, 0),
+        Scanned::Job(_, nodes, size) => {
+            if out.len() < size {
+                return Answer::Refused(10, 0);
+            }
+            restore(code, nodes, out);
+            Answer::Done(size)
+        }
     }
 }

@@ -3,11 +3,9 @@ use Prim.Native.Nat.{ℕ}
 use mathlib.Core.List.{List, _++_}
 use lib.Dec.{ltb}
 use lib.ListN.{length, drop}
-use Rattle.compiler.specs.declared.Answer.{Answer}
-use Rattle.compiler.specs.declared.Answer.the-variants.{Done, Refused}
-use Rattle.code.specs.Bytes.{compiled}
-use Rattle.script.specs.Outcome.{Outcome, refused, done, refuse, onward, mapped}
-use Rattle.script.specs.Reader.{readJob}
+use Rattle.delivery.specs.declared.Answer.{Answer}
+use Rattle.delivery.specs.declared.Answer.the-variants.{Done, Refused}
+use Rattle.script.specs.Outcome.{Outcome, refused, done, refuse, onward}
 
 pub record Delivered : Type 0 where
   pub answer : Answer
@@ -28,7 +26,3 @@ settled (done result) before = record { answer = Done (length result); output = 
 
 unfoldable pub delivered : Outcome (List ℕ) → (before : List ℕ) → Delivered
 delivered outcome before = settled (onward outcome (fitting before)) before
-
--- compiling: the job's refusals, 1 to 9, "Then 10"
-unfoldable pub compileTo : (job before : List ℕ) → Delivered
-compileTo job before = delivered (mapped compiled (readJob job)) before

@@ -1,0 +1,30 @@
+-- A refusal leaves the output as it was, and a result leaves what is behind it as it was. Assumes nothing.
+use Prim.Native.Nat.{ℕ}
+use mathlib.Core.Path.{_≡_, refl}
+use mathlib.Core.List.{List}
+use native.Mathlib.Omega.{arith}
+use lib.ListN.{length, drop}
+use lib.Seq.{drop-append-seam}
+use Rattle.delivery.specs.declared.Answer.the-variants.{Done, Refused}
+use Rattle.delivery.specs.Delivered.{fitting, settled, delivered}
+use Rattle.script.specs.Outcome.{Outcome, refused, done, onward}
+
+settled-keeps : (o : Outcome (List ℕ)) (before : List ℕ) (n p : ℕ) → settled o before .answer ≡ Refused n p → settled o before .output ≡ before
+settled-keeps (refused number place) before n p e = refl
+settled-keeps (done result) before n p e = absurd (let z : _≡_ {A = ℕ} 0 1 = cc in omega arith)
+
+-- "A refusal .. alters no lent memory"
+pub refused-keeps : (o : Outcome (List ℕ)) (before : List ℕ) (n p : ℕ) → delivered o before .answer ≡ Refused n p → delivered o before .output ≡ before
+unfolding delivered
+refused-keeps o before n p e = settled-keeps (onward o (fitting before)) before n p e
+
+settled-behind : (o : Outcome (List ℕ)) (before : List ℕ) (n : ℕ) → settled o before .answer ≡ Done n → drop n (settled o before .output) ≡ drop n before
+settled-behind (refused number place) before n e = absurd (let z : _≡_ {A = ℕ} 0 1 = cc in omega arith)
+settled-behind (done result) before n e =
+    let l : length result ≡ n = cc in
+    rw (← l) (drop-append-seam result (drop (length result) before))
+
+-- "only as many bytes of the output as they need, counted from its start"
+pub behind-keeps : (o : Outcome (List ℕ)) (before : List ℕ) (n : ℕ) → delivered o before .answer ≡ Done n → drop n (delivered o before .output) ≡ drop n before
+unfolding delivered
+behind-keeps o before n e = settled-behind (onward o (fitting before)) before n e

@@ -1,0 +1,2 @@
+-- What a call comes to that writes its result to the front of a lent output.
+pub mod Delivered
