@@ -38,8 +38,8 @@ pub fn insert(set: u64, register: u8) -> u64
 pub fn has(set: u64, register: u8) -> bool
     ensures { λ r. ⌜ r ≡ member set register ⌝ }
 {
-    if register < 64 {
-        return (set >> register) & 1 == 1;
+    if register > 63 {
+        return false;
     }
-    false
+    (set >> register) & 1 == 1
 }

@@ -7,14 +7,14 @@ use Rattle.word.proofs.Sets.{member-low, member-high}
 use Rattle.word.proofs.has.Statement.{statement}
 use Rattle.word.proofs.has.Tie as tie
 
+returns : tie.Need-returns
+returns c = sym (member-high _ _ (omega arith))
+
 shr-result : tie.Need-shr-result
 shr-result c = search needs
 
-returns : tie.Need-returns
-returns c = rw (and-mask _ 1) (sym (member-low _ _ (omega arith)))
-
 returns-2 : tie.Need-returns-2
-returns-2 c = sym (member-high _ _ (omega arith))
+returns-2 c = rw (and-mask _ 1) (sym (member-low _ _ (omega arith)))
 
 pub has-spec : {M : Type 1} → statement M
-has-spec = tie.close (tie.spec shr-result returns returns-2)
+has-spec = tie.close (tie.spec returns shr-result returns-2)
