@@ -198,13 +198,6 @@ fn nodes(job: &[u8], version: u16, count: usize) -> Reading
     Reading::Accepted(version, code)
 }
 
-// The number that two bytes hold.
-fn number16(high: u8, low: u8) -> u16
-    ensures { λ r. ⌜ r ≡ high * 256 + low ⌝ }
-{
-    high as u16 * 256 + low as u16
-}
-
 // Reads a job. Total: every byte string is answered.
 pub fn read_job(job: &[u8]) -> Reading
     ensures { λ r. ⌜ r ≡ answer (readJob (now (job .entry))) ⌝ }
@@ -216,11 +209,11 @@ pub fn read_job(job: &[u8]) -> Reading
     if !marked(job[0], job[1], job[2]) {
         return Reading::Refused(2, 0);
     }
-    let version = number16(job[3], job[4]);
+    let version = word::number16(job[3], job[4]);
     if version != 1 {
         return Reading::Refused(3, 3);
     }
-    let count = number16(job[5], job[6]);
+    let count = word::number16(job[5], job[6]);
     if !counted(count) {
         return Reading::Refused(4, 5);
     }

@@ -58,13 +58,6 @@ fn operand(opcode: u8) -> usize
     }
 }
 
-// The number that two bytes hold.
-fn number16(high: u8, low: u8) -> u16
-    ensures { λ r. ⌜ r ≡ high * 256 + low ⌝ }
-{
-    high as u16 * 256 + low as u16
-}
-
 // The instruction at a place.
 fn op_at(code: &[u8], place: usize) -> Op
     ensures { λ r. ⌜ r ≡ erased (opAt (drop place (now (code .entry)))) ⌝ }
@@ -95,7 +88,7 @@ fn op_at(code: &[u8], place: usize) -> Op
         }
         5 => Op::Begin,
         6 => Op::Commit,
-        7 => Op::Fork(number16(code[place + 1], code[place + 2]) as usize),
+        7 => Op::Fork(word::number16(code[place + 1], code[place + 2]) as usize),
         _ => Op::Foreign,
     }
 }
@@ -437,7 +430,7 @@ pub fn scan_code(code: &[u8]) -> Scanned
     if !marked(code[0], code[1], code[2]) {
         return Scanned::Foreign;
     }
-    let version = number16(code[3], code[4]);
+    let version = word::number16(code[3], code[4]);
     if version != 1 {
         return Scanned::Foreign;
     }

@@ -1,4 +1,5 @@
 // Numbers of 32 bits and sets of 64 registers: the leaves of every layer above.
+ghost use Prim.Native.Nat.{_*_, _+_};
 ghost use mathlib.Core.Path.{_≡_};
 ghost use Rattle.word.specs.Registers.{member, none, with};
 ghost use Rattle.word.specs.Sum.{wrapping};
@@ -42,4 +43,11 @@ pub fn has(set: u64, register: u8) -> bool
         return false;
     }
     (set >> register) & 1 == 1
+}
+
+// The number that two bytes hold, the high one first.
+pub fn number16(high: u8, low: u8) -> u16
+    ensures { λ r. ⌜ r ≡ high * 256 + low ⌝ }
+{
+    high as u16 * 256 + low as u16
 }
