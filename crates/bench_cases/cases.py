@@ -1,10 +1,13 @@
 #!/usr/bin/env python3
 """Writes the files stdin and stdout of this program, beside this one.
 
-The job reader here is a second implementation, written from document 01 alone. Each case also states
-its answer by hand, and the two are compared before anything is written.
+The job reader, the compiler and the way back here are a second implementation, written from document
+01 alone. Each case also states its answer by hand, and the two are compared before anything is written.
 """
 import os
+import sys
+
+sys.setrecursionlimit(20000)
 
 # ---- nodes and trees: a node is (kind, operand bytes, parts)
 
@@ -136,6 +139,152 @@ def refused(number, place):
     return ("refused", number, place)
 
 
+# ---- the compiler
+
+
+def code_of(tree):
+    """The tree's code, without mark and version."""
+    kind, operand, parts = tree
+    codes = [code_of(p) for p in parts]
+    if kind in (VALP_KIND, VALT_KIND):
+        return b"\x01" + operand
+    if kind in (ADDP_KIND, ADDT_KIND):
+        return codes[0] + codes[1] + b"\x02"
+    if kind == READ_KIND:
+        return b"\x03" + operand
+    if kind == WRITE_KIND:
+        return codes[0] + b"\x04" + operand
+    if kind == ATOMIC_KIND:
+        return b"\x05" + codes[0] + b"\x06"
+    return b"\x07" + len(codes[0]).to_bytes(2, "big") + codes[0]
+
+
+def tree_at(data, at):
+    """The tree whose root is at this place of an accepted job, and the place behind it."""
+    kind = data[at]
+    size, permitted, _ = KINDS[kind]
+    operand, at = data[at + 1 : at + 1 + size], at + 1 + size
+    parts = []
+    for _ in permitted:
+        part, at = tree_at(data, at)
+        parts.append(part)
+    return (kind, operand, tuple(parts)), at
+
+
+def whole(tree):
+    """The code of a job, with mark and version 1."""
+    return b"WSC\x00\x01" + code_of(tree)
+
+
+def compile_job(data, size):
+    """The code's bytes or ('refused', number, place)."""
+    reading = read_job(data)
+    if reading[0] == "refused":
+        return reading
+    if size < reading[2]:
+        return refused(10, 0)
+    code = whole(tree_at(data, 7)[0])
+    assert len(code) == reading[2]
+    return code
+
+
+# ---- the way back: instructions are taken forward, a FORK with its child's in one piece, and what they
+# come from is then read from their end
+
+
+class Foreign(Exception):
+    pass
+
+
+OPERANDS = {1: 4, 2: 0, 3: 1, 4: 1, 5: 0, 6: 0, 7: 2}
+
+
+def instructions(code):
+    """Pairs (opcode, operand); the operand of FORK is its child's instructions."""
+    taken = []
+    while code:
+        op = code[0]
+        if op not in OPERANDS:
+            raise Foreign
+        operand, code = code[1 : 1 + OPERANDS[op]], code[1 + OPERANDS[op] :]
+        if len(operand) < OPERANDS[op]:
+            raise Foreign
+        if op == 7:
+            length = int.from_bytes(operand, "big")
+            if length > len(code):
+                raise Foreign
+            operand, code = instructions(code[:length]), code[length:]
+        taken.append((op, operand))
+    return taken
+
+
+def last_process(taken):
+    """Takes off the instructions of the process that they end with."""
+    if not taken:
+        raise Foreign
+    op, operand = taken.pop()
+    if op == 1:
+        return (VALP_KIND, operand, ())
+    if op == 2:
+        right = last_process(taken)
+        return addp(last_process(taken), right)
+    if op == 6:
+        inner = last_transaction(taken)
+        if not taken or taken.pop()[0] != 5:
+            raise Foreign
+        return atomic(inner)
+    if op == 7:
+        return fork(only_process(operand))
+    raise Foreign
+
+
+def last_transaction(taken):
+    if not taken:
+        raise Foreign
+    op, operand = taken.pop()
+    if op == 1:
+        return (VALT_KIND, operand, ())
+    if op == 2:
+        right = last_transaction(taken)
+        return addt(last_transaction(taken), right)
+    if op == 3:
+        return (READ_KIND, operand, ())
+    if op == 4:
+        return (WRITE_KIND, operand, (last_transaction(taken),))
+    raise Foreign
+
+
+def only_process(taken):
+    tree = last_process(taken)
+    if taken:
+        raise Foreign
+    return tree
+
+
+def job_of(code):
+    """The accepted job that compiles to this code, or None."""
+    if code[:5] != b"WSC\x00\x01":
+        return None
+    try:
+        tree = only_process(instructions(code[5:]))
+    except Foreign:
+        return None
+    if nodes(tree) > 1000:
+        return None
+    data = job(tree)
+    return data if compile_job(data, len(code)) == code else None
+
+
+def read_back(code, size):
+    """The job's bytes or ('refused', number, place)."""
+    data = job_of(code)
+    if data is None:
+        return refused(11, 0)
+    if size < len(data):
+        return refused(10, 0)
+    return data
+
+
 # ---- shapes of trees
 
 
@@ -195,17 +344,63 @@ def show(answer):
     return "refused %d at %d" % answer[1:]
 
 
+def to_bytes(data):
+    return bytes.fromhex(data) if isinstance(data, str) else data
+
+
+def to_text(data):
+    """Bytes as hex. Long ones have no spaces."""
+    return data.hex(" ").upper() if len(data) < 100 else data.hex()
+
+
 def case(label, data, answer):
-    """A job given as bytes or as hex. Long ones have no spaces."""
-    if isinstance(data, str):
-        data = bytes.fromhex(data)
+    """A job given as bytes or as hex."""
+    data = to_bytes(data)
     assert read_job(data) == answer, (label, data.hex(" "), read_job(data), answer)
-    line(label, data.hex(" ").upper() if len(data) < 100 else data.hex(), show(answer))
+    line("job " + label, to_text(data), show(answer))
 
 
 def taken(label, tree):
     """A tree whose job is accepted, its code length by `code_length`."""
     case(label, job(tree), accepted(5 + code_length(tree)))
+
+
+def show_output(word, answer):
+    """An answer that goes with an output, whose bytes behind the result stay."""
+    if isinstance(answer, tuple):
+        text = show(answer)
+    elif len(answer) <= 64:
+        text = word + " " + answer.hex(" ").upper()
+    else:
+        text = "%s %d bytes sum %d" % (word, len(answer), sum(b * (i + 1) for i, b in enumerate(answer)) % 65536)
+    return text + " kept"
+
+
+def compiling(label, size, data, answer):
+    """A job and the code it has, or its refusal, in an output of this size."""
+    data, answer = to_bytes(data), to_bytes(answer)
+    assert compile_job(data, size) == answer, (label, data.hex(" "), compile_job(data, size), answer)
+    line("compile %d %s" % (size, label), to_text(data), show_output("code", answer))
+
+
+def back(label, size, code, answer):
+    """Code and the job it has, or its refusal, in an output of this size."""
+    code, answer = to_bytes(code), to_bytes(answer)
+    assert read_back(code, size) == answer, (label, code.hex(" "), read_back(code, size), answer)
+    line("back %d %s" % (size, label), to_text(code), show_output("job", answer))
+
+
+def both(label, tree):
+    """A tree there and back, into outputs of exactly the size."""
+    compiling(label, len(whole(tree)), job(tree), whole(tree))
+    back(label, len(job(tree)), whole(tree), job(tree))
+
+
+def foreign(label, code, size=100):
+    """Code that no accepted job has: what follows mark and version, or, as bytes, all of it."""
+    if isinstance(code, str):
+        code = b"WSC\x00\x01" + bytes.fromhex(code)
+    back(label, size, code, refused(11, 0))
 
 
 V = valp(7)
@@ -377,10 +572,9 @@ def the_lengths():
 
 def the_sizes():
     section("1,000 and 1,001 nodes")
-    reads = atomic(balanced(addt, read(5), 500))
     values = balanced(addp, V, 499)
-    assert nodes(reads) == 1000 and nodes(values) == 997
-    taken("1000 nodes, 500 of them READs", reads)
+    assert nodes(READS) == 1000 and nodes(values) == 997
+    taken("1000 nodes, 500 of them READs", READS)
     taken("1000 nodes, most of them processes", addp(values, atomic(T)))
     over = balanced(addp, atomic(read(5)), 334)
     assert nodes(over) == 1001
@@ -401,20 +595,251 @@ def the_first_of_two():
     case("FORK in a transaction is no sixteenth", head(17) + FORKS + b"\x03\x04", refused(5, 23))
 
 
+WHOLE = addp(STEP, STEP)
+WHOLE_CODE = "57 53 43 00 01" + 2 * "07 00 0C 05 03 00 01 00 00 00 01 02 04 00 06" + "02"
+ONE_CODE = "57 53 43 00 01 01 00 00 00 07"
+P = "01 00 00 00 07"  # the code of V, and in a transaction of T
+READS = atomic(balanced(addt, read(5), 500))
+LONG = fork(balanced(addp, valp(-2), 500))
+FEW = addp(fork(left_comb(addp, valp(258), 50)), V)  # its child's code has 299 bytes
+MANY = addp(fork(addp(atomic(read(1)), left_comb(addp, valp(258), 51))), V)  # and here 310
+
+
+def there():
+    section("compiling: the code byte by byte, and the output")
+    data = job(WHOLE)
+    compiling("the whole case, an output one short", 35, data, refused(10, 0))
+    compiling("the whole case, an output just as long", 36, data, WHOLE_CODE)
+    compiling("the whole case, a longer output", 50, data, WHOLE_CODE)
+    compiling("the whole case, no output", 0, data, refused(10, 0))
+    compiling("one number, an output one short", 9, job(V), refused(10, 0))
+    compiling("one number", 10, job(V), ONE_CODE)
+    compiling("one number, an output one longer", 11, job(V), ONE_CODE)
+    section("compiling: a refused job, whatever the output")
+    for label, data, answer in (
+        ("cut", "57 53 4A 00 01 00", refused(1, 6)),
+        ("mark", "57 53 43 00 01 00 01 01 00 00 00 07", refused(2, 0)),
+        ("version", job(V, version=2), refused(3, 3)),
+        ("count", job(V, count=0), refused(4, 5)),
+        ("kind", job(addp(V, T)), refused(5, 13)),
+        ("register", job(addp(V, atomic(read(64)))), refused(6, 15)),
+        ("depth", job(left_comb(addp, V, 65)), refused(7, 71)),
+        ("forks", job(chain(fork, 16, V)), refused(8, 22)),
+        ("length", job(WHOLE) + b"\x00", refused(9, 32)),
+    ):
+        compiling("refused for its " + label, 6000, data, answer)
+        compiling("refused for its " + label, 0, data, answer)
+
+
+def there_and_back():
+    section("there and back")
+    back("the whole case, an output one short", 31, WHOLE_CODE, refused(10, 0))
+    back("the whole case, an output just as long", 32, WHOLE_CODE, job(WHOLE))
+    back("the whole case, a longer output", 50, WHOLE_CODE, job(WHOLE))
+    back("the whole case, no output", 0, WHOLE_CODE, refused(10, 0))
+    back("one number, an output one short", 11, ONE_CODE, refused(10, 0))
+    back("one number", 12, ONE_CODE, job(V))
+    back("one number, an output one longer", 13, ONE_CODE, job(V))
+    for label, tree, code in (
+        ("the least number", valp(-2147483648), "01 80 00 00 00"),
+        ("the number -1", valp(-1), "01 FF FF FF FF"),
+        ("a number of opcodes, in a transaction", atomic(valt(0x05060207)), "05 01 05 06 02 07 06"),
+        ("a sum of -1 and 1", addp(valp(-1), valp(1)), "01 FF FF FF FF 01 00 00 00 01 02"),
+        ("a sum in the left part", addp(addp(valp(1), valp(2)), V), "01 00000001 01 00000002 02" + P + "02"),
+        ("a sum in the right part", addp(valp(1), addp(valp(2), V)), "01 00000001 01 00000002" + P + "02 02"),
+        ("a write of a read", atomic(write(6, read(7))), "05 03 07 04 06 06"),
+        ("a write as left part, a read as right", atomic(addt(write(0, T), read(0))), "05" + P + "04 00 03 00 02 06"),
+        ("a write of a sum", atomic(write(63, addt(read(0), read(63)))), "05 03 00 03 3F 02 04 3F 06"),
+        ("two transactions", addp(atomic(read(5)), atomic(read(6))), "05 03 05 06 05 03 06 06 02"),
+        ("a fork in a fork", fork(fork(V)), "07 00 08 07 00 05" + P),
+        ("a fork in each part of a fork's sum", fork(addp(fork(V), fork(V))), "07 00 11" + 2 * ("07 00 05" + P) + "02"),
+        ("a transaction in a fork, a number behind it", addp(fork(atomic(T)), V), "07 00 07 05" + P + "06" + P + "02"),
+    ):
+        assert whole(tree) == b"WSC\x00\x01" + bytes.fromhex(code), label
+        both(label, tree)
+    assert code_of(FEW)[:3] == b"\x07\x01\x2b" and code_of(MANY)[:3] == b"\x07\x01\x36"
+    both("a child of 299 bytes", FEW)
+    both("a child of 310 bytes", MANY)
+    back("a child of 310 bytes, an output one short", len(job(MANY)) - 1, whole(MANY), refused(10, 0))
+    both("ADDP left comb of depth 64", left_comb(addp, V, 64))
+    both("ADDP right comb of depth 64", right_comb(addp, V, 64))
+    both("ADDT left comb of depth 64", atomic(left_comb(addt, read(1), 63)))
+    both("ADDT right comb of depth 64", atomic(right_comb(addt, read(1), 63)))
+    both("ATOMIC and WRITEs to depth 64", atomic(chain(write0, 62, T)))
+    both("15 FORKs and sums to depth 64", chain(fork, 15, left_comb(addp, V, 49)))
+    both("15 FORKs in each other", chain(fork, 15, V))
+    both("15 FORKs side by side", balanced(addp, fork(V), 15))
+    both("1000 nodes, 500 of them READs", READS)
+    assert nodes(LONG) == 1000 and len(whole(LONG)) == 3007  # no code is longer
+    compiling("1000 nodes, an output one short", 3006, job(LONG), refused(10, 0))
+    compiling("1000 nodes, the longest code", 6000, job(LONG), whole(LONG))
+    back("1000 nodes, an output one short", len(job(LONG)) - 1, whole(LONG), refused(10, 0))
+    back("1000 nodes, the longest code", 6000, whole(LONG), job(LONG))
+
+
+def foreign_heads():
+    section("foreign code: mark and version")
+    for n in range(5):
+        foreign("%d bytes" % n, bytes.fromhex(ONE_CODE)[:n])
+    foreign("5 bytes, no instruction", "")
+    for i, letter in enumerate(("first", "second", "third")):
+        code = bytearray.fromhex(ONE_CODE)
+        code[i] ^= 1
+        foreign("mark with a wrong %s letter" % letter, bytes(code))
+    foreign("the mark of a job", job(V))
+    for version in (0, 2, 256, 257):
+        foreign("version %d" % version, b"WSC" + version.to_bytes(2, "big") + code_of(V))
+
+
+def foreign_instructions():
+    section("foreign code: instructions that are none")
+    for n in range(4):
+        foreign("PUSH cut after %d bytes of its number" % n, P[: 2 + 3 * n])
+    foreign("PUSH cut, behind a number", P + "01 00 00")
+    foreign("READ with no register", "05 03")
+    foreign("WRITE with no register", "05" + P + "04")
+    foreign("FORK with no length", "07")
+    foreign("FORK with half a length", "07 00")
+    foreign("FORK with half a length, in a FORK", "07 00 07" + P + "07 00")
+    for op in (0, 8, 255):
+        foreign("opcode %d alone" % op, "%02X" % op)
+        foreign("opcode %d behind a number" % op, P + "%02X" % op)
+        foreign("opcode %d in a transaction" % op, "05" + P + "%02X 06" % op)
+    foreign("opcode 0 in a FORK", "07 00 06" + P + "00")
+    for v in (64, 255):
+        foreign("READ of register %d" % v, "05 03 %02X 06" % v)
+        foreign("WRITE of register %d" % v, "05" + P + "04 %02X 06" % v)
+    foreign("READ of register 64 in a FORK", "07 00 04 05 03 40 06")
+
+
+def foreign_transactions():
+    section("foreign code: transactions")
+    foreign("READ outside a transaction", "03 00")
+    foreign("READ behind a transaction", "05" + P + "06 03 00 02")
+    foreign("WRITE outside a transaction", P + "04 00")
+    foreign("WRITE behind a transaction", "05" + P + "06 04 00")
+    foreign("READ in a FORK outside a transaction", "07 00 02 03 00")
+    foreign("FORK alone in a transaction", "05 07 00 05" + P + "06")
+    foreign("FORK as a part in a transaction", "05" + P + "07 00 05" + P + "02 06")
+    foreign("BEGIN at once behind BEGIN", "05 05" + P + "06 06")
+    foreign("BEGIN as a part in a transaction", "05" + P + "05" + P + "06 02 06")
+    foreign("BEGIN twice, COMMIT once", "05 05" + P + "06")
+    foreign("COMMIT with no BEGIN", P + "06")
+    foreign("COMMIT twice", "05" + P + "06 06")
+    foreign("COMMIT alone", "06")
+    foreign("BEGIN alone", "05")
+    foreign("a transaction left open", "05" + P)
+    foreign("a transaction left open as right part", P + "05" + P + "02")
+    foreign("a transaction left open in a FORK", "07 00 06 05" + P)
+    foreign("a transaction left open in a FORK, COMMIT behind it", "07 00 06 05" + P + "06")
+    foreign("BEGIN before a FORK, COMMIT in it", "05 07 00 06" + P + "06")
+    section("foreign code: below the start of a transaction or thread")
+    foreign("ADD alone", "02")
+    foreign("ADD of one number", P + "02")
+    foreign("ADD of one number, then another number", P + "02" + P)
+    foreign("a sum reaches below its transaction", P + "05" + P + "02 06")
+    foreign("a sum reaches below its transaction, then a number", P + P + "05" + P + "02" + P + "06 02 02")
+    foreign("a sum reaches below its thread", P + "07 00 06" + P + "02 02")
+    foreign("a sum reaches below its thread, then a number", P + "07 00 0B" + P + "02" + P + "02")
+    foreign("a write reaches below its transaction", P + "05 04 00 06")
+    foreign("a write reaches below its transaction, then a number", P + "05 04 00" + P + "06 02")
+    foreign("a write of nothing", "05 04 00 06")
+    section("foreign code: none or two left over")
+    foreign("a transaction with nothing in it", "05 06")
+    foreign("a transaction with nothing in it, behind a number", P + "05 06")
+    foreign("a transaction with nothing in it, as a part", P + "05 06 02")
+    foreign("a transaction that leaves two", "05" + P + P + "06")
+    foreign("a transaction that leaves two, a sum behind it", "05" + P + P + "06 02")
+    foreign("two numbers left over", P + P)
+    foreign("three numbers and one sum", P + P + P + "02")
+    foreign("a FORK and a number left over", "07 00 05" + P + P)
+    foreign("two transactions left over", 2 * "05 03 00 06")
+    foreign("two numbers left over in a FORK", "07 00 0A" + P + P)
+    foreign("a transaction with nothing in it, in a FORK", "07 00 02 05 06")
+
+
+def foreign_lengths():
+    section("foreign code: a FORK's length")
+    foreign("a FORK with an empty child", "07 00 00")
+    foreign("a FORK with an empty child, a number behind it", "07 00 00" + P + "02")
+    foreign("a FORK's length one too long", "07 00 06" + P)
+    foreign("a FORK's length one too long, into a number", "07 00 06" + P + P + "02")
+    foreign("a FORK's length one too long, with the sum behind it", P + "07 00 06" + P + "02")
+    foreign("a FORK's length one too short", "07 00 04" + P)
+    foreign("a FORK's length one too short, cut before a 2", P + "07 00 04 01 00 00 00 02")
+    foreign("a FORK's length one too short, without its sum", "07 00 0A" + P + P + "02")
+    foreign("a FORK's length with a high byte", "07 01 05" + P)
+    foreign("a FORK's length with the bytes changed over", "07 05 00" + P)
+    foreign("a FORK's length of 65535", "07 FF FF" + P)
+    foreign("a FORK that passes its parent's end", "07 00 08 07 00 06" + P)
+    foreign("a FORK that passes its parent's end, not the code's", P + "07 00 08 07 00 06" + P + "02")
+    foreign("a FORK whose child ends one early in its parent", "07 00 09 07 00 05" + P + P + "02")
+    many = whole(MANY)
+    foreign("a child of 310 bytes, low byte of its length alone", many[:6] + b"\x00" + many[7:], 600)
+    foreign("a child of 310 bytes, length one too long", many[:7] + b"\x37" + many[8:], 600)
+    section("foreign code: a byte too many or too few")
+    for byte in (0, 2, 5, 6):
+        foreign("the whole case and a byte %d" % byte, bytes.fromhex(WHOLE_CODE) + bytes([byte]))
+    foreign("the whole case without its last byte", bytes.fromhex(WHOLE_CODE)[:-1])
+    foreign("one number and a byte 0", P + "00")
+    foreign("the whole case twice", bytes.fromhex(WHOLE_CODE) + bytes.fromhex(WHOLE_CODE)[5:])
+
+
+def foreign_sizes():
+    section("foreign code: 1,001 nodes, depth 65, sixteen FORKs")
+    over = balanced(addp, atomic(read(5)), 334)
+    assert nodes(over) == 1001
+    foreign("1001 nodes", whole(over), 6000)
+    for label, tree in (
+        ("ADDP left comb", left_comb(addp, V, 65)),
+        ("ADDP right comb", right_comb(addp, V, 65)),
+        ("ADDT left comb", atomic(left_comb(addt, read(1), 64))),
+        ("ADDT right comb", atomic(right_comb(addt, read(1), 64))),
+        ("ATOMIC and WRITEs", atomic(chain(write0, 63, T))),
+        ("15 FORKs and sums", chain(fork, 15, left_comb(addp, V, 50))),
+        ("sums down to a FORK", chain(lambda t: addp(t, V), 63, fork(V))),
+        ("sums and a transaction, on the right", chain(lambda t: addp(V, t), 62, atomic(write0(T)))),
+    ):
+        foreign("%s of depth 65" % label, whole(tree), 1000)
+    foreign("16 FORKs in each other", whole(chain(fork, 16, V)))
+    foreign("16 FORKs side by side", whole(balanced(addp, fork(V), 16)), 1000)
+    foreign("16 FORKs, in each other and side by side", whole(addp(chain(fork, 8, V), chain(fork, 8, V))))
+    foreign("257 numbers and no sum", 257 * P, 6000)
+    section("foreign code comes before a short output")
+    foreign("no bytes", b"", 0)
+    foreign("mark with a wrong letter", b"WSJ\x00\x01" + code_of(V), 0)
+    foreign("version 2", b"WSC\x00\x02" + code_of(V), 0)
+    foreign("two numbers left over", P + P, 0)
+    foreign("the whole case and a byte 0", bytes.fromhex(WHOLE_CODE) + b"\x00", 0)
+    foreign("ADDP left comb of depth 65", whole(left_comb(addp, V, 65)), 0)
+    foreign("16 FORKs in each other", whole(chain(fork, 16, V)), 0)
+
+
 def the_text():
     section("the text of a case")
-    line("lower case and no spaces", "57534a0001000101000000ff", "accepted version 1 code 10")
-    line("more spaces than needed", "  57 534A  0001 0001 01 00000007  ", "accepted version 1 code 10")
-    line("a lone digit", "57 5", "malformed")
-    line("a pair split by a space", "5 7", "malformed")
-    line("a letter that is no digit", "57 5G", "malformed")
+    line("job lower case and no spaces", "57534a0001000101000000ff", "accepted version 1 code 10")
+    line("job more spaces than needed", "  57 534A  0001 0001 01 00000007  ", "accepted version 1 code 10")
+    for label, text in (
+        ("job a lone digit", "57 5"),
+        ("job a pair split by a space", "5 7"),
+        ("job a letter that is no digit", "57 5G"),
+        ("another word", ONE_CODE),
+        ("another 12 word", ONE_CODE),
+        ("job", ONE_CODE),
+        ("compile", ONE_CODE),
+        ("compile one number", ONE_CODE),
+        ("compile 6001 one number", ONE_CODE),
+        ("compile 12x one number", ONE_CODE),
+        ("back  12 one number", ONE_CODE),
+    ):
+        line(label, text, "malformed")
     labels.add("a line with no colon")
     lines.append("a line with no colon")
     answers.append("a line with no colon: malformed")
 
 
 def main():
-    lines.append("# Cases of document 01's job reader, written by cases.py.")
+    lines.append("# Cases of document 01's job reader, compiler and way back, written by cases.py.")
     for part in (
         accepted_jobs,
         the_head,
@@ -426,13 +851,22 @@ def main():
         the_lengths,
         the_sizes,
         the_first_of_two,
+        there,
+        there_and_back,
+        foreign_heads,
+        foreign_instructions,
+        foreign_transactions,
+        foreign_lengths,
+        foreign_sizes,
         the_text,
     ):
         part()
     here = os.path.dirname(os.path.abspath(__file__))
     for name, text in (("stdin", lines), ("stdout", answers)):
+        text = "\n".join(text) + "\n"
+        assert len(text) <= 131072  # the program's room for stdin
         with open(os.path.join(here, name), "w", newline="\n") as file:
-            file.write("\n".join(text) + "\n")
+            file.write(text)
     print(len(answers), "cases")
 
 

@@ -1,4 +1,4 @@
--- `bench_cases::run_lines` is safe and ends. The loop's invariant: `at` is within the text, and the space is as long as it came.
+-- `bench_cases::run_lines` is safe and ends. The loop's invariant: `at` is within the text, and space and out are as long as they came.
 -- The measure is what is left of the text. Assumes nothing.
 use native.Mathlib.Omega.{arith}
 use borrow.Author.Needs.{needs}
@@ -9,10 +9,10 @@ use Rattle.bench_cases.proofs.run_lines.Statement.{statement}
 use Rattle.bench_cases.proofs.run_lines.Tie as tie
 
 abbrev Inv-loop : tie.InvT-loop
-Inv-loop text space₀ at₀ space at = (at ≤ length text) × (length space ≡ length space₀)
+Inv-loop text space₀ out₀ at₀ space out at = ((at ≤ length text) × (length space ≡ length space₀)) × (length out ≡ length out₀)
 
 abbrev μ-loop : tie.MeasureT-loop
-μ-loop text space₀ at₀ space at = length text - at
+μ-loop text space₀ out₀ at₀ space out at = length text - at
 
 loop-holds : tie.Need-loop-holds Inv-loop μ-loop
 loop-holds c = omega arith
@@ -47,6 +47,9 @@ run-line-requires c κs = omega arith
 same-length : tie.Need-same-length Inv-loop μ-loop
 same-length c = search needs
 
+same-length-2 : tie.Need-same-length-2 Inv-loop μ-loop
+same-length-2 c = search needs
+
 returns : tie.Need-returns Inv-loop μ-loop
 returns c = omega arith
 
@@ -59,8 +62,11 @@ loop-less c = omega arith
 loop-again : tie.Need-loop-again Inv-loop μ-loop
 loop-again c = omega arith
 
-same-length-2 : tie.Need-same-length-2 Inv-loop μ-loop
-same-length-2 c = search needs
+same-length-3 : tie.Need-same-length-3 Inv-loop μ-loop
+same-length-3 c = search needs
+
+same-length-4 : tie.Need-same-length-4 Inv-loop μ-loop
+same-length-4 c = search needs
 
 returns-2 : tie.Need-returns-2 Inv-loop μ-loop
 returns-2 c = omega arith
@@ -82,9 +88,11 @@ run-lines-spec =
     part-run-line-end
     run-line-requires
     same-length
+    same-length-2
     returns
     add-at
     loop-less
     loop-again
-    same-length-2
+    same-length-3
+    same-length-4
     returns-2)
