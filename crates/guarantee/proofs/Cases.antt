@@ -4,13 +4,16 @@ use Rattle.guarantee.specs.Cases.{Cases}
 use Rattle.code.specs.Compile.{compileT, compileP}
 use Rattle.code.specs.Bytes.{instructionBytes, instructionsBytes, codeMark, codeBytes, compiled}
 use Rattle.code.specs.Reader.{operand as codeOperand, opOf, opAt, doOp, closed, readOps, within, marked as codeMarked, readCode}
+use Rattle.machine.specs.Threads.{blank, spawned, push, add, begin, sourceOf, read, write, closed as closedAt, stale, firstStale, overlaid}
+use Rattle.machine.specs.Steps.{numberOf, commit, instruction, pick, fresh, run, counted, order}
+use Rattle.word.specs.Registers.{none, member, with}
 use Rattle.script.specs.Bytes.{nodeBytes, bytes16, bytes32, bytesT, bytesP, jobMark, jobBytes}
 use Rattle.script.specs.Count.{nodesT, nodesP, depthT, depthP, forks, atomics, threads, instructions, longest, bound, codeT, codeP, codeLength}
 use Rattle.script.specs.Reader.{permitted, operand, nodeOf, nodeAt, grown, forkOf, readNodes, marked, taken, readJob}
 use Rattle.word.specs.Sum.{residue, signed, wrap, wrapping}
 
 pub cases : Cases
-unfolding wrapping wrap signed residue readJob readNodes nodeAt nodeOf permitted operand grown forkOf marked taken jobBytes jobMark bytesP bytesT nodeBytes bytes16 bytes32 nodesP nodesT forks atomics threads instructions longest bound codeT codeP codeLength compiled codeBytes codeMark compileP compileT instructionBytes instructionsBytes readCode readOps closed doOp opAt opOf codeOperand codeMarked within depthT depthP
+unfolding wrapping wrap signed residue readJob readNodes nodeAt nodeOf permitted operand grown forkOf marked taken jobBytes jobMark bytesP bytesT nodeBytes bytes16 bytes32 nodesP nodesT forks atomics threads instructions longest bound codeT codeP codeLength compiled codeBytes codeMark compileP compileT instructionBytes instructionsBytes readCode readOps closed doOp opAt opOf codeOperand codeMarked within depthT depthP blank spawned push add begin sourceOf read write closedAt stale firstStale overlaid numberOf commit instruction pick fresh run counted order none member with
 cases =
     record {
       below-range = refl;
@@ -32,4 +35,23 @@ cases =
       whole-length = refl;
       whole-size = refl;
       whole-bound = refl;
+      seven-steps = refl;
+      seven-done = record { place = refl; height = refl; result = refl };
+      low-done = record { place = refl; height = refl; result = refl };
+      own-read = refl;
+      own-seen = refl;
+      own-added = refl;
+      own-kept = refl;
+      own-done = record { place = refl; height = refl; result = refl };
+      own-register = refl;
+      whole-steps = refl;
+      whole-idle = refl;
+      whole-commits = refl;
+      whole-back-count = refl;
+      whole-0 = record { place = refl; height = refl; result = refl };
+      whole-1 = record { place = refl; height = refl; result = refl };
+      whole-2 = record { place = refl; height = refl; result = refl };
+      whole-registers = refl;
+      whole-order = refl;
+      none-open = refl;
     }

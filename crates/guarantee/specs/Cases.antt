@@ -1,9 +1,10 @@
 -- The joint table of worked cases: each row is an equation between what a definition computes and what document 01 says.
 use Prim.Native.Nat.{ℕ}
+use mathlib.Core.Bool.{not}
 use mathlib.Core.Path.{_≡_}
 use mathlib.Core.List.{List, [], _∷_, _++_}
 use lib.IntN.{ℤ, pos, negsuc}
-use lib.ListN.{length}
+use lib.ListN.{length, getD, replicate}
 use Rattle.script.specs.Tree.{Proc, ValP, AddP, Atomic, Fork, ValT, AddT, Read, Write}
 use Rattle.script.specs.Bytes.{jobBytes}
 use Rattle.script.specs.Count.{bound, codeLength}
@@ -11,6 +12,7 @@ use Rattle.script.specs.Outcome.{Outcome, refused, done}
 use Rattle.script.specs.Reader.{Job, readJob}
 use Rattle.code.specs.Bytes.{compiled}
 use Rattle.code.specs.Reader.{readCode}
+use Rattle.machine.specs.Steps.{State, Ran, threadAt, fresh, run, counted, isIdle, isCommit, isBack, order}
 use Rattle.word.specs.Sum.{wrapping}
 
 -- job version 1, and so many nodes
@@ -44,6 +46,39 @@ incrementCode = 0x07 ∷ 0x00 ∷ 0x0C ∷ 0x05 ∷ 0x03 ∷ 0x00 ∷ 0x01 ∷ 0
 abbrev pub wholeCode : List ℕ
 wholeCode = 0x57 ∷ 0x53 ∷ 0x43 ∷ 0x00 ∷ 0x01 ∷ (incrementCode ++ (incrementCode ++ (0x02 ∷ [])))
 
+-- so many picks of a thread
+abbrev pub times : ℕ → ℕ → List ℕ
+times n i = replicate n i
+
+-- a run of picks from the fresh state
+abbrev pub ran : List ℕ → List ℕ → Ran
+ran code picks = run wrapping code (fresh code) picks
+
+-- picks not idle
+abbrev pub steps : Ran → ℕ
+steps r = counted (λ e. not (isIdle e)) (r .events)
+
+-- the number of a thread's record, its place behind its code, and the number left on its stack
+pub record Ended (r : Ran) (i : ℕ) (n : ℤ) : Type 0 where
+  pub place : threadAt (r .state) i .place ≡ threadAt (r .state) i .end
+  pub height : threadAt (r .state) i .height ≡ 1
+  pub result : getD (threadAt (r .state) i .cells) 0 (pos 0) ≡ n
+
+abbrev pub sevenCode : List ℕ
+sevenCode = compiled (record { version = 1; tree = ValP (pos 7) })
+
+-- −2147483648 + −1
+abbrev pub lowCode : List ℕ
+lowCode = compiled (record { version = 1; tree = AddP (ValP (negsuc 2147483647)) (ValP (negsuc 0)) })
+
+-- ATOMIC of ADDT (WRITE 0 (VALT 5)) (READ 0)
+abbrev pub ownCode : List ℕ
+ownCode = compiled (record { version = 1; tree = Atomic (AddT (Write 0 (ValT (pos 5))) (Read 0)) })
+
+-- the whole case's picks
+abbrev pub wholePicks : List ℕ
+wholePicks = times 3 0 ++ (times 2 1 ++ (times 6 2 ++ times 10 1))
+
 pub record Cases : Type 0 where
   -- sums
   pub below-range : wrapping (negsuc 2147483647) (negsuc 0) ≡ pos 2147483647
@@ -69,3 +104,23 @@ pub record Cases : Type 0 where
   pub whole-size : length wholeCode ≡ 36
   -- the step bound
   pub whole-bound : bound wholeTree ≡ 27
+  -- the machine
+  pub seven-steps : steps (ran sevenCode (times 1 0)) ≡ 1
+  pub seven-done : Ended (ran sevenCode (times 1 0)) 0 (pos 7)
+  pub low-done : Ended (ran lowCode (times 3 0)) 0 (pos 2147483647)
+  pub own-read : threadAt (ran ownCode (times 4 0) .state) 0 .reads ≡ 0
+  pub own-seen : threadAt (ran ownCode (times 4 0) .state) 0 .seen ≡ replicate 64 (pos 0)
+  pub own-added : threadAt (ran ownCode (times 5 0) .state) 0 .reads ≡ 0
+  pub own-kept : threadAt (ran ownCode (times 5 0) .state) 0 .seen ≡ replicate 64 (pos 0)
+  pub own-done : Ended (ran ownCode (times 6 0)) 0 (pos 10)
+  pub own-register : getD (ran ownCode (times 6 0) .state .registers) 0 (pos 0) ≡ pos 5
+  pub whole-steps : steps (ran wholeCode wholePicks) ≡ 21
+  pub whole-idle : counted isIdle (ran wholeCode wholePicks .events) ≡ 0
+  pub whole-commits : counted isCommit (ran wholeCode wholePicks .events) ≡ 2
+  pub whole-back-count : counted isBack (ran wholeCode wholePicks .events) ≡ 1
+  pub whole-0 : Ended (ran wholeCode wholePicks) 0 (pos 0)
+  pub whole-1 : Ended (ran wholeCode wholePicks) 1 (pos 2)
+  pub whole-2 : Ended (ran wholeCode wholePicks) 2 (pos 1)
+  pub whole-registers : ran wholeCode wholePicks .state .registers ≡ pos 2 ∷ replicate 63 (pos 0)
+  pub whole-order : order (ran wholeCode wholePicks .events) ≡ 0 ∷ 0 ∷ 0 ∷ 2 ∷ 1 ∷ []
+  pub none-open : threadAt (ran sevenCode [] .state) 0 .place ≡ 5

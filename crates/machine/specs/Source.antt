@@ -1,0 +1,76 @@
+-- Source 5.2.4: the virtual machine, on threads that carry their code. Changed are only the sum, which is the rule's, and the heap, which is
+-- the table of 64 registers.
+use Prim.Native.Nat.{ℕ, zero, suc}
+use mathlib.Core.Path.{_≡_}
+use mathlib.Core.Bool.{Bool, true, false, cond, not, _&&_, _||_}
+use mathlib.Core.List.{List, [], _∷_}
+use mathlib.Core.Option.{Option, none, some}
+use lib.Dec.{eqb}
+use lib.IntN.{ℤ, pos}
+use lib.ListN.{getD, set}
+use lib.Signed.{ltZ}
+use Rattle.code.specs.Compile.{Instruction, Code, PUSH, ADD, READ, WRITE, BEGIN, COMMIT, FORK, ε, _⨾_}
+use Rattle.script.specs.Turns.{Registers}
+use Rattle.word.specs.Sum.{Rule}
+
+-- `type Log = Map Var Integer`
+abbrev pub Log : Type 0
+Log = ℕ → Option ℤ
+
+abbrev pub empty : Log
+empty v = none
+
+-- `r ⊎ {v ↦ n}`
+abbrev pub updated : Log → ℕ → ℤ → Log
+updated log v n u = cond (eqb u v) (some n) (log u)
+
+-- `type Thread = (Code, Stack, Code, Log, Log)`
+pub record SThread : Type 0 where
+  pub code : Code
+  pub stack : List ℤ
+  pub again : Code
+  pub reads : Log
+  pub writes : Log
+
+-- READ: the value, and the read log after it
+pub record Looked : Type 0 where
+  pub value : ℤ
+  pub reads : Log
+
+abbrev pub lookedUp : (written logged : Option ℤ) → (table : ℤ) → Log → ℕ → Looked
+lookedUp (some n) logged h r v = record { value = n; reads = r }
+lookedUp none (some n) h r v = record { value = n; reads = r }
+lookedUp none none h r v = record { value = h; reads = updated r v h }
+
+unfoldable pub lookUp : Registers → ℕ → Log → Log → Looked
+lookUp h v r w = lookedUp (w v) (r v) (getD h v (pos 0)) r v
+
+-- `r ⊆ h`: each register of the read log has its value in the table
+abbrev pub agrees : Option ℤ → ℤ → Bool
+agrees none n = true
+agrees (some m) n = not (ltZ m n || ltZ n m)
+
+unfoldable pub consistent : (left v : ℕ) → Log → Registers → Bool
+consistent zero v r h = true
+consistent (suc left) v r h = agrees (r v) (getD h v (pos 0)) && consistent left (suc v) r h
+
+-- `h ⊎ w`
+abbrev pub entered : Option ℤ → ℕ → Registers → Registers
+entered none v h = h
+entered (some n) v h = set h v n
+
+unfoldable pub overridden : (left v : ℕ) → Registers → Log → Registers
+overridden zero v h w = h
+overridden (suc left) v h w = overridden left (suc v) (entered (w v) v h) w
+
+-- ⟨h, s⟩ ↦M ⟨h′, s′⟩, rule by rule
+pub data StepM (sum : Rule) : Registers → List SThread → Registers → List SThread → Type 0 where
+  Preempt : {h h′ : Registers} {t : SThread} {s s′ : List SThread} → StepM sum h s h′ s′ → StepM sum h (t ∷ s) h′ (t ∷ s′)
+  ForkM : {h : Registers} {c′ c f : Code} {σ : List ℤ} {r w : Log} {s : List SThread} → StepM sum h (record { code = FORK c′ ⨾ c; stack = σ; again = f; reads = r; writes = w } ∷ s) h (record { code = c; stack = pos 0 ∷ σ; again = f; reads = r; writes = w } ∷ record { code = c′; stack = []; again = ε; reads = empty; writes = empty } ∷ s)
+  PushM : {h : Registers} {n : ℤ} {c f : Code} {σ : List ℤ} {r w : Log} {s : List SThread} → StepM sum h (record { code = PUSH n ⨾ c; stack = σ; again = f; reads = r; writes = w } ∷ s) h (record { code = c; stack = n ∷ σ; again = f; reads = r; writes = w } ∷ s)
+  AddM : {h : Registers} {m n : ℤ} {c f : Code} {σ : List ℤ} {r w : Log} {s : List SThread} → StepM sum h (record { code = ADD ⨾ c; stack = n ∷ m ∷ σ; again = f; reads = r; writes = w } ∷ s) h (record { code = c; stack = sum m n ∷ σ; again = f; reads = r; writes = w } ∷ s)
+  BeginM : {h : Registers} {c f : Code} {σ : List ℤ} {r w : Log} {s : List SThread} → StepM sum h (record { code = BEGIN ⨾ c; stack = σ; again = f; reads = r; writes = w } ∷ s) h (record { code = c; stack = σ; again = BEGIN ⨾ c; reads = empty; writes = empty } ∷ s)
+  ReadM : {h : Registers} {v : ℕ} {c f : Code} {σ : List ℤ} {r w : Log} {s : List SThread} → StepM sum h (record { code = READ v ⨾ c; stack = σ; again = f; reads = r; writes = w } ∷ s) h (record { code = c; stack = lookUp h v r w .value ∷ σ; again = f; reads = lookUp h v r w .reads; writes = w } ∷ s)
+  WriteM : {h : Registers} {v : ℕ} {n : ℤ} {c f : Code} {σ : List ℤ} {r w : Log} {s : List SThread} → StepM sum h (record { code = WRITE v ⨾ c; stack = n ∷ σ; again = f; reads = r; writes = w } ∷ s) h (record { code = c; stack = n ∷ σ; again = f; reads = r; writes = updated w v n } ∷ s)
+  Committed : {h : Registers} {n : ℤ} {c f : Code} {σ : List ℤ} {r w : Log} {s : List SThread} → consistent 64 0 r h ≡ true → StepM sum h (record { code = COMMIT ⨾ c; stack = n ∷ σ; again = f; reads = r; writes = w } ∷ s) (overridden 64 0 h w) (record { code = c; stack = n ∷ σ; again = f; reads = r; writes = w } ∷ s)
+  Failed : {h : Registers} {n : ℤ} {c f : Code} {σ : List ℤ} {r w : Log} {s : List SThread} → consistent 64 0 r h ≡ false → StepM sum h (record { code = COMMIT ⨾ c; stack = n ∷ σ; again = f; reads = r; writes = w } ∷ s) h (record { code = f; stack = σ; again = f; reads = r; writes = w } ∷ s)

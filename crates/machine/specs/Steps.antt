@@ -1,0 +1,166 @@
+-- One pick, and a run of picks: document 01, "One pick, one step" and "Runs and turns".
+use Prim.Native.Nat.{ℕ, zero, suc, _+_}
+use mathlib.Core.Bool.{Bool, true, false, cond, not, _||_}
+use mathlib.Core.List.{List, [], _∷_, _++_}
+use lib.Dec.{eqb, ltb}
+use lib.IntN.{ℤ, pos}
+use lib.ListN.{length, drop, getD, set, replicate}
+use Rattle.machine.specs.declared.Thread.{Thread}
+use Rattle.machine.specs.Threads.{blank, spawned, push, add, begin, Source, sourceOf, read, write, closed, firstStale, overlaid}
+use Rattle.code.specs.Reader.{Op, opAt}
+use Rattle.code.specs.Reader as code
+use Rattle.script.specs.Outcome.{Outcome, refused, done}
+use Rattle.word.specs.Sum.{Rule}
+
+-- the register table and the thread table
+pub record State : Type 0 where
+  pub registers : List ℤ
+  pub threads : List Thread
+
+-- what a pick did; a sum says whether a transaction was open, a send-back its first stale register
+pub data Event : Type 0 where
+  idle : Event
+  pushed : Event
+  summed : (inside : Bool) → Event
+  forked : Event
+  begun : Event
+  looked : Source → Event
+  wrote : Event
+  committed : Event
+  sentBack : (register : ℕ) → Event
+
+pub record Stepped : Type 0 where
+  pub state : State
+  pub event : Event
+
+-- a record of a thread has a start
+abbrev pub exists : Thread → Bool
+exists t = not (eqb (t .start) 0)
+
+-- "Threads are numbered without gaps": the number of threads is the next thread's number
+unfoldable pub numberOf : List Thread → ℕ
+numberOf [] = 0
+numberOf (t ∷ ts) = cond (exists t) (suc (numberOf ts)) 0
+
+abbrev pub threadAt : State → ℕ → Thread
+threadAt s i = getD (s .threads) i blank
+
+-- thread i becomes t
+abbrev pub put : State → ℕ → Thread → State
+put s i t = record { registers = s .registers; threads = set (s .threads) i t }
+
+unfoldable pub commit : State → ℕ → Thread → (register : ℕ) → Stepped
+commit s i t v =
+    cond
+    (ltb v 64)
+    (record { state = put s i (closed (t .begin) (t .base) t); event = sentBack v })
+    (record {
+      state = record { registers = overlaid 64 0 t (s .registers); threads = set (s .threads) i (closed (t .place + 1) (t .height) t) };
+      event = committed;
+    })
+
+-- one instruction of thread i, which is t
+unfoldable pub instruction : Rule → State → ℕ → Thread → Op → Stepped
+instruction sum s i t (code.push n) = record { state = put s i (push n (t .place + 5) t); event = pushed }
+instruction sum s i t code.add = record { state = put s i (add sum t); event = summed (not (eqb (t .begin) 0)) }
+instruction sum s i t (code.read v) = record { state = put s i (read (s .registers) v t); event = looked (sourceOf t v) }
+instruction sum s i t (code.write v) = record { state = put s i (write v t); event = wrote }
+instruction sum s i t code.begin = record { state = put s i (begin t); event = begun }
+instruction sum s i t code.commit = commit s i t (firstStale 64 0 t (s .registers))
+instruction sum s i t (code.fork size) =
+    record {
+      state = record {
+        registers = s .registers;
+        threads = set (set (s .threads) i (push (pos 0) (t .place + 3 + size) t)) (numberOf (s .threads)) (spawned (t .place + 3) (t .place + 3 + size));
+      };
+      event = forked;
+    }
+
+abbrev pub doing : Rule → State → ℕ → Thread → Outcome Op → Stepped
+doing sum s i t (refused number place) = record { state = s; event = idle }
+doing sum s i t (done op) = instruction sum s i t op
+
+-- "A pick of a thread that does not exist or has ended is idle"
+unfoldable pub pick : Rule → (code : List ℕ) → State → ℕ → Stepped
+pick sum bytes s i =
+    elim (not (ltb i (length (s .threads))) || (not (exists (threadAt s i)) || eqb (threadAt s i .place) (threadAt s i .end))) [
+      | true ↦ record { state = s; event = idle }
+      | false ↦ doing sum s i (threadAt s i) (opAt (drop (threadAt s i .place) bytes))
+    ]
+
+-- a fresh state: "thread 0 alone, at the start of the whole code, and every register 0"
+unfoldable pub fresh : (code : List ℕ) → State
+fresh bytes =
+    record { registers = replicate 64 (pos 0); threads = spawned 5 (length bytes) ∷ replicate 15 blank }
+
+-- an event and its thread
+pub record Happened : Type 0 where
+  pub thread : ℕ
+  pub event : Event
+
+pub record Ran : Type 0 where
+  pub state : State
+  pub events : List Happened
+
+-- picks, one after the other
+unfoldable pub run : Rule → (code : List ℕ) → State → (picks : List ℕ) → Ran
+run sum bytes s [] = record { state = s; events = [] }
+run sum bytes s (i ∷ is) =
+    let one = pick sum bytes s i in
+    let rest = run sum bytes (one .state) is in
+    record { state = rest .state; events = record { thread = i; event = one .event } ∷ rest .events }
+
+-- every count is a count over the events
+unfoldable pub counted : (Event → Bool) → List Happened → ℕ
+counted f [] = 0
+counted f (h ∷ hs) = cond (f (h .event)) (suc (counted f hs)) (counted f hs)
+
+abbrev pub isIdle : Event → Bool
+isIdle idle = true
+isIdle pushed = false
+isIdle (summed inside) = false
+isIdle forked = false
+isIdle begun = false
+isIdle (looked source) = false
+isIdle wrote = false
+isIdle committed = false
+isIdle (sentBack v) = false
+
+abbrev pub isCommit : Event → Bool
+isCommit idle = false
+isCommit pushed = false
+isCommit (summed inside) = false
+isCommit forked = false
+isCommit begun = false
+isCommit (looked source) = false
+isCommit wrote = false
+isCommit committed = true
+isCommit (sentBack v) = false
+
+abbrev pub isBack : Event → Bool
+isBack idle = false
+isBack pushed = false
+isBack (summed inside) = false
+isBack forked = false
+isBack begun = false
+isBack (looked source) = false
+isBack wrote = false
+isBack committed = false
+isBack (sentBack v) = true
+
+-- "A pick takes a turn if .. it does an ADD outside a transaction, a FORK, or a COMMIT that takes effect"
+abbrev pub isTurn : Event → Bool
+isTurn idle = false
+isTurn pushed = false
+isTurn (summed inside) = not inside
+isTurn forked = true
+isTurn begun = false
+isTurn (looked source) = false
+isTurn wrote = false
+isTurn committed = true
+isTurn (sentBack v) = false
+
+-- the order: "the numbers of the threads that took turns in it, pick after pick"
+unfoldable pub order : List Happened → List ℕ
+order [] = []
+order (h ∷ hs) = cond (isTurn (h .event)) (h .thread ∷ order hs) (order hs)
