@@ -7,5 +7,6 @@ pub mod Outcome
 pub mod Reader
 pub mod Refusal
 pub mod Turns
+pub mod Kept
 pub mod Source
 pub mod Soup
