@@ -1,5 +1,6 @@
 -- Compiling and then reading back gives the job's own bytes; reading back and then compiling gives the code's own bytes. Assumes nothing.
 use Prim.Native.Nat.{ℕ, _≤_}
+use mathlib.Core.Logic.{_↔_}
 use mathlib.Core.Path.{_≡_, refl, sym, ap, _∙_}
 use mathlib.Core.List.{List, _++_}
 use native.Mathlib.Omega.{arith}
@@ -70,3 +71,23 @@ back-then-compile code out out′ n b e h =
     let c : readJob (take n (delivered (mapped bytesOf (readCode code)) out .output)) ≡ done (m .0) = ap readJob (r .taken ∙ sym (m .2)) ∙ job-is-accepted (bytesOf (m .0)) (m .0) j in
     let t : compiled (m .0) ≡ code = back-again code (m .0) b (m .1) in
     ap (λ (o : Outcome Job). delivered (mapped compiled o) out′) c ∙ (ap (λ (l : List ℕ). delivered (done l) out′) t ∙ delivers code out′ h)
+
+-- demand 2: code is read back exactly if some accepted job compiles to it, and to that job
+pub read-back-exactly : (job code : List ℕ) → Bytes job → Bytes code → (mapped bytesOf (readCode code) ≡ done job) ↔ (mapped compiled (readJob job) ≡ done code)
+read-back-exactly job code b b′ = (there, back)
+  where
+    there : mapped bytesOf (readCode code) ≡ done job → mapped compiled (readJob job) ≡ done code
+    there e =
+        let m = mapped-done bytesOf (readCode code) job e in
+        let i : IsCode code (m .0) = read-is-code code (m .0) b′ (m .1) in
+        let j : IsJob (bytesOf (m .0)) (m .0) = record { version = i .version; within = i .within; text = refl } in
+        let c : readJob job ≡ done (m .0) = ap readJob (sym (m .2)) ∙ job-is-accepted (bytesOf (m .0)) (m .0) j in
+        let t : compiled (m .0) ≡ code = back-again code (m .0) b′ (m .1) in
+        ap (mapped compiled) c ∙ ap done t
+
+    back : mapped compiled (readJob job) ≡ done code → mapped bytesOf (readCode code) ≡ done job
+    back e =
+        let m = mapped-done compiled (readJob job) code e in
+        let i : IsJob job (m .0) = accepted-is-job job (m .0) b (m .1) in
+        let c : readCode code ≡ done (m .0) = ap readCode (sym (m .2)) ∙ there-and-back i in
+        ap (mapped bytesOf) c ∙ ap done (sym (i .text))
