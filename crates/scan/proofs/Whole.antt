@@ -9,13 +9,14 @@ use borrow.Author.Tests.{lt-ltb, le-ltb, eq-eqb, ne-eqb}
 use Rattle.scan.specs.declared.Scan.{Scan}
 use Rattle.scan.specs.declared.Scanned.{Scanned}
 use Rattle.scan.specs.declared.Scanned.the-variants as scanned
-use Rattle.scan.specs.Answer.{told}
+use Rattle.scan.specs.Answer.{told, numbered}
 use Rattle.scan.specs.View.{view, ifGood, viewed}
 use Rattle.code.specs.Bytes.{IsCode}
 use Rattle.code.specs.Reader.{foreign, marked, readCode}
 use Rattle.code.specs.Scan.{started, scanOps, Summary, summary, scanCode}
 use Rattle.code.specs.Scan as list
 use Rattle.code.proofs.Flat.{code-length}
+use Rattle.code.proofs.Foreign.{only-foreign}
 use Rattle.code.proofs.ReadBack.{read-is-code, code-small}
 use Rattle.code.proofs.Scans.{scan-is-read}
 use Rattle.script.specs.Bytes.{Bytes}
@@ -33,6 +34,15 @@ told-summed : (o : Outcome Job) → summed (mapped summary o) ≡ told o
 unfolding summary
 told-summed (refused number place) = refl
 told-summed (done j) = refl
+
+-- the scan's answer is, in document 01's numbers, what reading the code back comes to
+pub told-numbered : (code : List ℕ) → numbered (told (readCode code)) ≡ mapped summary (readCode code)
+unfolding summary
+told-numbered code = go (readCode code) refl
+  where
+    go : (o : Outcome Job) → readCode code ≡ o → numbered (told o) ≡ mapped summary o
+    go (refused n p) e = let h = only-foreign code n p e in let k : _≡_ {A = Outcome Summary} (refused 11 0) (refused n p) = cc in k
+    go (done j) e = refl
 
 told-is : (code : List ℕ) → summed (scanCode code) ≡ told (readCode code)
 told-is code = ap summed (scan-is-read code) ∙ told-summed (readCode code)
