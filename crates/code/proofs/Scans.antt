@@ -12,7 +12,8 @@ use Rattle.code.specs.Reader.{Op, opAt, sizeOf, Item, proc, tran, begun,
 use Rattle.code.specs.Scan.{Scan, started, scanOp, moved, finished, scanOps, Summary, summary, scanCode}
 use Rattle.code.proofs.ReadBack.{within-yes, within-back}
 use Rattle.code.proofs.Foreign.{Eleven, ops-eleven}
-use Rattle.code.proofs.Texts.{jobText, nodesI, forksI, topmost, peak, marksOf, stateOf, Step, Both, fails, goes, op-both, Closing, stops, keeps, closing-both, readsOn, readsNext, ops-grown}
+use Rattle.code.specs.Parts.{jobText, nodesI, forksI}
+use Rattle.code.proofs.Texts.{topmost, peak, marksOf, stateOf, Step, Both, fails, goes, op-both, Closing, stops, keeps, closing-both, readsOn, readsNext, ops-grown}
 use Rattle.script.specs.Tree.{Proc}
 use Rattle.script.specs.Count.{nodesP, forks}
 use Rattle.script.specs.Bytes.{bytes16, bytesP, jobMark, jobBytes}

@@ -3,4 +3,5 @@ pub mod Compile
 pub mod Bytes
 pub mod Counts
 pub mod Reader
+pub mod Parts
 pub mod Scan

@@ -1,4 +1,4 @@
--- Reading code back without building its tree, as the compiler's scan does it: of each finished part only what the limits need is kept.
+-- Reading code back without building its tree, as crate `scan` does it: of each finished part only what the limits need is kept.
 -- `scan-is-read` (proofs/Scans.antt): it is `readCode`, and what it counts is what the tree has.
 use Prim.Native.Nat.{ℕ, zero, suc, _+_, max}
 use mathlib.Core.Bool.{Bool, true, false, cond, not, _&&_}
@@ -12,7 +12,7 @@ use Rattle.script.specs.Limits.{mostNodes, mostDepth, mostForks}
 use Rattle.script.specs.Outcome.{Outcome, refused, done, refuse, onward, mapped}
 use Rattle.script.specs.Reader.{Job, number16, taken}
 
--- an item of the stack: 0 for a BEGIN, 1 for a FORK, 2 for a process, 3 for a transaction; and the depth that its deepest node has at
+-- an item of the stack. Its kind is no node's kind: 0 for a BEGIN, 1 for a FORK, 2 for a process, 3 for a transaction; and the depth that its deepest node has at
 -- least in any tree that the code can become: its place on the stack, counted from 0 at the bottom, and its own depth
 pub record Mark : Type 0 where
   pub kind : ℕ
@@ -180,7 +180,7 @@ scanOps (suc fuel) s bs =
       | false ↦ onward (opAt bs) (λ op. onward (scanOp op now) (λ next. scanOps fuel (moved op next) (drop (sizeOf op) bs)))
     ])
 
--- what compiling's inverse needs to know of a job before it writes its first byte: its version, its nodes, its bytes
+-- what reading back needs to know of the job before it writes its first byte: its version, its nodes, its bytes
 pub record Summary : Type 0 where
   pub version : ℕ
   pub nodes : ℕ

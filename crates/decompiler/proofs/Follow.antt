@@ -13,7 +13,8 @@ use Rattle.decompiler.specs.State.{pushed, merged, grown, opened, shut, 
 use Rattle.decompiler.specs.Walk.{Starts, Ends, Sorted, Known, Stands}
 use Rattle.decompiler.proofs.Lists.{length-onto, placed-onto, inserted-onto}
 use Rattle.code.specs.Reader.{Item, forked, readOps}
-use Rattle.code.proofs.Texts.{forksOf, bytesOf, jobText, forksI, ops-grown, height-grows}
+use Rattle.code.specs.Parts.{forksOf, bytesOf, jobText, forksI}
+use Rattle.code.proofs.Texts.{ops-grown, height-grows}
 use Rattle.script.specs.Tree.{Proc}
 use Rattle.script.specs.Count.{forks}
 use Rattle.script.specs.Bytes.{bytesP}

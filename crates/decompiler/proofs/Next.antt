@@ -13,7 +13,8 @@ use Rattle.decompiler.specs.Walk.{Ends, Outside, Inside, Sorted}
 use Rattle.code.specs.Reader.{Op, operand, opOf, opAt, sizeOf, Item, proc, tran, begun, forked, sum, written, committed, childEnded, Done, stays, doOp, endsAfter, Open, closed, ended, readOps}
 use Rattle.code.specs.Scan.{Scan}
 use Rattle.code.proofs.ReadBack.{onward-from, never, same, ended-sound}
-use Rattle.code.proofs.Texts.{bytesOf, jobText, forksI, Both, fails, goes, op-both, readsOn, readsNext}
+use Rattle.code.specs.Parts.{bytesOf, jobText, forksI}
+use Rattle.code.proofs.Texts.{Both, fails, goes, op-both, readsOn, readsNext}
 use Rattle.script.specs.Tree.{Tran, AddT, Write, Proc, AddP, Atomic, Fork}
 use Rattle.script.specs.Count.{forks}
 use Rattle.script.specs.Bytes.{nodeBytes, bytesT, bytesP}

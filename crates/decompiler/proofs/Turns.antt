@@ -16,7 +16,7 @@ use Rattle.decompiler.proofs.Next.{none-ends, Ending, one-ends, Merges,
 use Rattle.decompiler.proofs.Follow.{Small, small, push-stands, push-room, fork-stands, fork-room, merge-text, merge-stands, merge-moves, grow-stands, grow-moves, shut-stands}
 use Rattle.code.specs.Reader.{add, commit, operand, opOf, Item, tran, begun, forked, value, sum, written, committed, Done, stays, doOp, readOps}
 use Rattle.code.proofs.ReadBack.{same}
-use Rattle.code.proofs.Texts.{bytesOf, jobText, forksI}
+use Rattle.code.specs.Parts.{bytesOf, jobText, forksI}
 use Rattle.script.specs.Tree.{Tran, Read, Write, Proc}
 use Rattle.script.specs.Bytes.{Bytes, nodeBytes, bytesT, bytesP}
 use Rattle.script.specs.Outcome.{done}

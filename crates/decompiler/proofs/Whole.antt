@@ -17,7 +17,7 @@ use Rattle.decompiler.proofs.Follow.{small, out-length}
 use Rattle.code.specs.Reader.{readOps, within, marked, readCode}
 use Rattle.code.proofs.Flat.{code-length}
 use Rattle.code.proofs.ReadBack.{onward-from, same, within-back, read-is-code}
-use Rattle.code.proofs.Texts.{jobText, forksI}
+use Rattle.code.specs.Parts.{jobText, forksI}
 use Rattle.script.specs.Tree.{Tran, ValT, AddT, Read, Write, Proc, ValP, AddP, Atomic, Fork}
 use Rattle.script.specs.Count.{nodesT, nodesP, depthP, forks, codeT, codeP, codeLength}
 use Rattle.script.specs.Bytes.{Bytes, bytes16, bytesP, jobMark, jobBytes}

@@ -7,7 +7,7 @@ use lib.ListN.{length, drop, getD}
 use Rattle.decompiler.specs.declared.State.{State}
 use Rattle.decompiler.specs.Parts.{onto}
 use Rattle.code.specs.Reader.{Item, proc, tran, begun, forked, readOps, readCode}
-use Rattle.code.proofs.Texts.{jobText, forksI}
+use Rattle.code.specs.Parts.{jobText, forksI}
 use Rattle.script.specs.Tree.{Proc}
 use Rattle.script.specs.Count.{nodesP, depthP, forks}
 use Rattle.script.specs.Bytes.{Bytes, bytesP, jobBytes}
