@@ -97,7 +97,7 @@ fn parse_size(text: &[u8]) -> usize {
         if value > 9 {
             return 6001;
         }
-        n = n * 10 + wide(value);
+        n = n * 10 + to_usize(value);
         if n > 6000 {
             return 6001;
         }
@@ -109,7 +109,7 @@ fn parse_size(text: &[u8]) -> usize {
     n
 }
 
-fn wide(byte: u8) -> usize
+fn to_usize(byte: u8) -> usize
     ensures { λ r. ⌜ r ≡ byte ⌝ }
 {
     byte as usize
@@ -158,13 +158,13 @@ fn checksum(bytes: &[u8]) -> u16 {
     let mut at = bytes.len();
     while at > 0 {
         at -= 1;
-        tail = std::num::wrapping_add_u16(tail, double(bytes[at]));
+        tail = std::num::wrapping_add_u16(tail, to_u16(bytes[at]));
         sum = std::num::wrapping_add_u16(sum, tail);
     }
     sum
 }
 
-fn double(byte: u8) -> u16 {
+fn to_u16(byte: u8) -> u16 {
     byte as u16
 }
 

@@ -115,7 +115,7 @@ pub record Job : Type 0 where
   pub version : ℕ
   pub tree : Proc
 
--- "not `WSJ`"
+-- whether the mark is `WSJ`
 unfoldable pub marked : List ℕ → Bool
 marked bs = eqb (getD bs 0 0) 0x57 && (eqb (getD bs 1 0) 0x53 && eqb (getD bs 2 0) 0x4A)
 

@@ -1,4 +1,4 @@
-// Numbers of 32 bits and sets of 64 registers: the leaves of every layer above.
+// Numbers of 32 bits, of two bytes, and sets of 64 registers: the leaves of every layer above.
 ghost use Prim.Native.Nat.{_*_, _+_};
 ghost use mathlib.Core.Path.{_≡_};
 ghost use Rattle.word.specs.Registers.{member, none, with};

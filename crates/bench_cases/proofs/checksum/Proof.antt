@@ -17,11 +17,11 @@ loop-holds c = omega arith
 sub-at : tie.Need-sub-at Inv-loop μ-loop
 sub-at c = omega arith
 
-shared-slice-read-double : tie.Need-shared-slice-read-double Inv-loop μ-loop
-shared-slice-read-double c = omega arith
+shared-slice-read-to-u16 : tie.Need-shared-slice-read-to-u16 Inv-loop μ-loop
+shared-slice-read-to-u16 c = omega arith
 
-double-requires : tie.Need-double-requires Inv-loop μ-loop
-double-requires c κs = omega arith
+to-u16-requires : tie.Need-to-u16-requires Inv-loop μ-loop
+to-u16-requires c κs = omega arith
 
 wrapping-add-u16-requires : tie.Need-wrapping-add-u16-requires Inv-loop μ-loop
 wrapping-add-u16-requires c κs = omega arith
@@ -46,8 +46,8 @@ checksum-spec =
     μ-loop
     loop-holds
     sub-at
-    shared-slice-read-double
-    double-requires
+    shared-slice-read-to-u16
+    to-u16-requires
     wrapping-add-u16-requires
     wrapping-add-u16-requires-2
     loop-less

@@ -27,8 +27,8 @@ returns c = omega arith
 mul-n : tie.Need-mul-n Inv-loop μ-loop
 mul-n c = omega arith
 
-wide-requires : tie.Need-wide-requires Inv-loop μ-loop
-wide-requires c κs = omega arith
+to-usize-requires : tie.Need-to-usize-requires Inv-loop μ-loop
+to-usize-requires c κs = omega arith
 
 add-n : tie.Need-add-n Inv-loop μ-loop
 add-n c = omega arith
@@ -62,7 +62,7 @@ parse-size-spec =
     digit-requires
     returns
     mul-n
-    wide-requires
+    to-usize-requires
     add-n
     returns-2
     add-at
