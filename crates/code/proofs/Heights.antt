@@ -5,7 +5,7 @@ use mathlib.Core.Path.{_≡_, refl}
 use mathlib.Core.List.{List, [], _∷_, _++_}
 use native.Mathlib.Omega.{arith}
 use Rattle.code.specs.Compile.{Code, ADD, WRITE, COMMIT, ε, _⨾_, compileT, compileP}
-use Rattle.code.specs.Counts.{instructionCount, codeCount, untilCommit, longestAt, longestIn, endHeight, greatest}
+use Rattle.code.specs.Counts.{instructionCount, codeCount, untilCommit, longestAt, longestIn, endHeight, greatest, Takes, RunsIn}
 use Rattle.script.specs.Tree.{Tran, ValT, AddT, Read, Write, Proc, ValP, AddP, Atomic, Fork}
 use Rattle.script.specs.Count.{nodesT, nodesP, depthT, depthP, atomics, instructions, longest, heightT, heightP, childHeights, heights}
 use Rattle.script.specs.Limits.{Within}
@@ -159,3 +159,24 @@ height-fits {p} w = omega (arith, height-depth p, w .flat)
 pub heights-fit : {p : Proc} → Within p → AtMost 64 (heights p)
 unfolding heights
 heights-fit {p} w = (height-fits w, child-heights p 64 (w .flat))
+
+runs-tran : (n : ℕ) (t : Tran) (c : Code) (h : ℕ) → h + heightT t ≤ n → RunsIn n c (suc h) → RunsIn n (compileT t c) h
+unfolding compileT heightT Takes RunsIn
+runs-tran n (ValT z) c h l r = (omega arith, r)
+runs-tran n (AddT a b) c h l r =
+    runs-tran n a (compileT b (ADD ⨾ c)) h (omega arith) (runs-tran n b (ADD ⨾ c) (suc h) (omega arith) (omega arith, rw (less-one h) r))
+runs-tran n (Read v) c h l r = (omega arith, r)
+runs-tran n (Write v t) c h l r = runs-tran n t (WRITE v ⨾ c) h l (omega arith, r)
+
+runs-proc : (n : ℕ) (p : Proc) (c : Code) (h : ℕ) → depthP p ≤ n → h + heightP p ≤ n → RunsIn n c (suc h) → RunsIn n (compileP p c) h
+unfolding compileP heightP depthP Takes RunsIn
+runs-proc n (ValP z) c h d l r = (omega arith, r)
+runs-proc n (AddP a b) c h d l r =
+    runs-proc n a (compileP b (ADD ⨾ c)) h (omega arith) (omega arith) (runs-proc n b (ADD ⨾ c) (suc h) (omega arith) (omega arith) (omega arith, rw (less-one h) r))
+runs-proc n (Atomic t) c h d l r = (omega arith, runs-tran n t (COMMIT ⨾ c) h l (omega arith, r))
+runs-proc n (Fork p) c h d l r = ((omega arith, runs-proc n p ε 0 (omega arith) (omega (arith, height-depth p)) refl), r)
+
+-- the code of a script within the limits, and each FORK's child in it, runs in a stack of 64 and ends with one number on it
+pub runs-in-64 : {p : Proc} → Within p → RunsIn 64 (compileP p ε) 0
+unfolding RunsIn
+runs-in-64 {p} w = runs-proc 64 p ε 0 (w .flat) (omega (arith, height-fits w)) refl
