@@ -1,6 +1,6 @@
 -- One pick, and a run of picks: document 01, "One pick, one step" and "Runs and turns".
 use Prim.Native.Nat.{ℕ, zero, suc, _+_}
-use mathlib.Core.Bool.{Bool, true, false, cond, not, _||_}
+use mathlib.Core.Bool.{Bool, true, false, cond, not, _&&_, _||_}
 use mathlib.Core.List.{List, [], _∷_, _++_}
 use lib.Dec.{eqb, ltb}
 use lib.IntN.{ℤ, pos}
@@ -164,3 +164,8 @@ isTurn (sentBack v) = false
 unfoldable pub order : List Happened → List ℕ
 order [] = []
 order (h ∷ hs) = cond (isTurn (h .event)) (h .thread ∷ order hs) (order hs)
+
+-- how often thread i was sent back
+unfoldable pub backs : ℕ → List Happened → ℕ
+backs i [] = 0
+backs i (h ∷ hs) = cond (eqb (h .thread) i && isBack (h .event)) (suc (backs i hs)) (backs i hs)

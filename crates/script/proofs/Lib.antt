@@ -7,4 +7,4 @@ pub mod Refuses
 pub mod Transactions
 pub mod Same
 pub mod Soups
-pub mod Keeps
+pub mod Turns

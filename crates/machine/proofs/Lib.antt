@@ -1,0 +1,3 @@
+-- Laws of the machine's picks.
+pub mod Picks
+pub mod SentBack

@@ -1,0 +1,100 @@
+-- An idle pick changes nothing, only a COMMIT that takes effect changes the registers, and runs follow one another. Assumes nothing.
+use Prim.Native.Nat.{ℕ, suc, _+_}
+use mathlib.Core.Bool.{Bool, true, false, cond, not, _||_}
+use mathlib.Core.Path.{_≡_, refl, ap}
+use mathlib.Core.List.{List, [], _∷_, _++_}
+use native.Mathlib.Omega.{arith}
+use lib.Dec.{eqb, ltb}
+use lib.IntN.{ℤ}
+use lib.ListN.{length, drop, set}
+use Rattle.machine.specs.declared.Thread.{Thread}
+use Rattle.machine.specs.Threads.{closed, firstStale, overlaid}
+use Rattle.machine.specs.Steps.{State, Stepped, Event, idle, committed, sentBack, put, exists, threadAt, commit, instruction, doing, pick, Happened, Ran, run, counted, isIdle, isCommit, isTurn, order}
+use Rattle.code.specs.Reader.{Op, opAt}
+use Rattle.code.specs.Reader as code
+use Rattle.script.specs.Outcome.{Outcome, refused, done}
+use Rattle.word.specs.Sum.{Rule}
+
+-- what holds of a step that is no commit, and of one that is idle
+record Lawful (s : State) (r : Stepped) : Type 0 where
+  still : isIdle (r .event) ≡ true → r .state ≡ s
+  kept : isCommit (r .event) ≡ false → r .state .registers ≡ s .registers
+
+never : {A : Type 0} {x y : A} → _≡_ {A = Bool} false true → x ≡ y
+never e = absurd (let z : _≡_ {A = ℕ} 0 1 = cc in omega arith)
+
+never′ : {A : Type 0} {x y : A} → _≡_ {A = Bool} true false → x ≡ y
+never′ e = absurd (let z : _≡_ {A = ℕ} 0 1 = cc in omega arith)
+
+commit-lawful : (s : State) (i : ℕ) (t : Thread) (v : ℕ) → Lawful s (commit s i t v)
+unfolding commit
+commit-lawful s i t v = go (ltb v 64)
+  where
+    go : (b : Bool) → Lawful s (cond b (record { state = put s i (closed (t .begin) (t .base) t); event = sentBack v }) (record {
+      state = record { registers = overlaid 64 0 t (s .registers); threads = set (s .threads) i (closed (t .place + 1) (t .height) t) };
+      event = committed;
+    }))
+    go true = record { still = never; kept = λ e. refl }
+    go false = record { still = never; kept = never′ }
+
+instruction-lawful : (sum : Rule) (s : State) (i : ℕ) (t : Thread) (op : Op) → Lawful s (instruction sum s i t op)
+unfolding instruction
+instruction-lawful sum s i t (code.push n) = record { still = never; kept = λ e. refl }
+instruction-lawful sum s i t code.add = record { still = never; kept = λ e. refl }
+instruction-lawful sum s i t (code.read v) = record { still = never; kept = λ e. refl }
+instruction-lawful sum s i t (code.write v) = record { still = never; kept = λ e. refl }
+instruction-lawful sum s i t code.begin = record { still = never; kept = λ e. refl }
+instruction-lawful sum s i t code.commit = commit-lawful s i t (firstStale 64 0 t (s .registers))
+instruction-lawful sum s i t (code.fork size) = record { still = never; kept = λ e. refl }
+
+doing-lawful : (sum : Rule) (s : State) (i : ℕ) (t : Thread) (o : Outcome Op) → Lawful s (doing sum s i t o)
+doing-lawful sum s i t (refused number place) = record { still = λ e. refl; kept = λ e. refl }
+doing-lawful sum s i t (done op) = instruction-lawful sum s i t op
+
+pick-lawful : (sum : Rule) (bytes : List ℕ) (s : State) (i : ℕ) → Lawful s (pick sum bytes s i)
+unfolding pick
+pick-lawful sum bytes s i = go (not (ltb i (length (s .threads))) || (not (exists (threadAt s i)) || eqb (threadAt s i .place) (threadAt s i .end)))
+  where
+    go : (b : Bool) → Lawful s (elim b [
+      | true ↦ record { state = s; event = idle }
+      | false ↦ doing sum s i (threadAt s i) (opAt (drop (threadAt s i .place) bytes))
+    ])
+    go true = record { still = λ e. refl; kept = λ e. refl }
+    go false = doing-lawful sum s i (threadAt s i) (opAt (drop (threadAt s i .place) bytes))
+
+-- an idle pick "changes nothing"
+pub idle-keeps : (sum : Rule) (bytes : List ℕ) (s : State) (i : ℕ) → isIdle (pick sum bytes s i .event) ≡ true → pick sum bytes s i .state ≡ s
+idle-keeps sum bytes s i = pick-lawful sum bytes s i .still
+
+-- no pick but a COMMIT that takes effect changes a register
+pub only-commit-writes : (sum : Rule) (bytes : List ℕ) (s : State) (i : ℕ) → isCommit (pick sum bytes s i .event) ≡ false → pick sum bytes s i .state .registers ≡ s .registers
+only-commit-writes sum bytes s i = pick-lawful sum bytes s i .kept
+
+-- ---- runs
+-- picks behind picks: a run goes on where the first one ended, and its events come behind
+abbrev pub goesOn : Rule → (bytes : List ℕ) → Ran → List ℕ → Ran
+goesOn sum bytes r is = record { state = run sum bytes (r .state) is .state; events = r .events ++ run sum bytes (r .state) is .events }
+
+pub run-append : (sum : Rule) (bytes : List ℕ) (s : State) (is js : List ℕ) → run sum bytes s (is ++ js) ≡ goesOn sum bytes (run sum bytes s is) js
+unfolding run
+run-append sum bytes s [] js = refl
+run-append sum bytes s (i ∷ is) js =
+    rw (run-append sum bytes (pick sum bytes s i .state) is js)
+
+pub counted-append : (f : Event → Bool) (hs ks : List Happened) → counted f (hs ++ ks) ≡ counted f hs + counted f ks
+unfolding counted
+counted-append f [] ks = omega arith
+counted-append f (h ∷ hs) ks = go (f (h .event)) (counted-append f hs ks)
+  where
+    go : (b : Bool) → counted f (hs ++ ks) ≡ counted f hs + counted f ks → cond b (suc (counted f (hs ++ ks))) (counted f (hs ++ ks)) ≡ cond b (suc (counted f hs)) (counted f hs) + counted f ks
+    go true e = omega arith
+    go false e = e
+
+pub order-append : (hs ks : List Happened) → order (hs ++ ks) ≡ order hs ++ order ks
+unfolding order
+order-append [] ks = refl
+order-append (h ∷ hs) ks = go (isTurn (h .event)) (order-append hs ks)
+  where
+    go : (b : Bool) → order (hs ++ ks) ≡ order hs ++ order ks → cond b (h .thread ∷ order (hs ++ ks)) (order (hs ++ ks)) ≡ cond b (h .thread ∷ order hs) (order hs) ++ order ks
+    go true e = ap {B = List ℕ} (λ (l : List ℕ). h .thread ∷ l) e
+    go false e = e
