@@ -5,7 +5,6 @@ use mathlib.Core.Path.{_≡_, refl, ap}
 use mathlib.Core.List.{List, [], _∷_, _++_}
 use native.Mathlib.Omega.{arith}
 use lib.Dec.{eqb, ltb}
-use lib.IntN.{ℤ}
 use lib.ListN.{length, drop, set}
 use Rattle.machine.specs.declared.Thread.{Thread}
 use Rattle.machine.specs.Threads.{closed, firstStale, overlaid}

@@ -2,7 +2,7 @@
 use Prim.Native.Nat.{ℕ, zero, suc, _+_, _<_, _≤_}
 use mathlib.Core.Bool.{Bool, true, false, cond, not, _&&_, _||_}
 use mathlib.Core.Path.{_≡_, refl, ap, sym, subst, _∙_}
-use mathlib.Core.List.{List, [], _∷_, _++_}
+use mathlib.Core.List.{List, [], _∷_}
 use native.Mathlib.Omega.{arith}
 use borrow.Author.Tests.{eqb-true, eqb-false, le-ltb, ltb-true, ltb-false}
 use lib.Dec.{eqb, ltb}
@@ -12,13 +12,13 @@ use lib.Seq.{getD-set-same, getD-set-other}
 use lib.Signed.{ltZ}
 use Rattle.machine.specs.declared.Thread.{Thread}
 use Rattle.machine.specs.Threads.{blank, spawned, push, add, begin, Source, fromWrites, fromReads, fromTable, sourceOf, readFrom, noted, read, write, closed, stale, firstStale, overlaid}
-use Rattle.machine.specs.Steps.{State, Stepped, Event, idle, committed, sentBack, exists, numberOf, threadAt, put, commit, instruction, doing, pick, fresh, Happened, Ran, run, counted, isCommit, isBack, backs}
+use Rattle.machine.specs.Steps.{State, Stepped, Event, idle, committed, sentBack, exists, numberOf, threadAt, put, commit, instruction, doing, pick, fresh, run, counted, isCommit, isBack, backs}
 use Rattle.code.specs.Reader.{Op, opAt}
 use Rattle.code.specs.Reader as code
 use Rattle.script.specs.Outcome.{Outcome, refused, done}
 use Rattle.word.specs.Registers.{none, member, with}
 use Rattle.word.specs.Sum.{Rule}
-use Rattle.word.proofs.Sets.{member-none, member-high, member-other, with-high}
+use Rattle.word.proofs.Sets.{member-none, member-high, member-other}
 
 -- no register of the thread's read log is stale
 record Clean (t : Thread) (table : List ℤ) : Type 0 where
