@@ -8,8 +8,9 @@ use mathlib.Core.List.{List, [], _∷_, _++_}
 use native.Mathlib.Omega.{arith}
 use lib.Dec.{eqb, leb, ltb}
 use lib.ListN.{length, drop, getD}
-use Rattle.code.specs.Bytes.{compiled, Foreign}
+use Rattle.code.specs.Bytes.{codeMark, compiled, Foreign}
 use Rattle.code.specs.Reader.{Op, push, add, read, write, begin, commit, fork, operand, opOf, opAt, sizeOf, Item, proc, tran, begun, forked, sum, written, committed, childEnded, stays, doOp, endsAfter, closed, ended, readOps, within, marked, readCode}
+use Rattle.code.proofs.Flat.{flatT, flatP, compiled-flat}
 use Rattle.code.proofs.ReadBack.{code-read, read-is-code}
 use Rattle.script.specs.Tree.{Tran, ValT, AddT, Read, Write, Proc, ValP, AddP, Atomic, Fork}
 use Rattle.script.specs.Count.{nodesP}
@@ -204,6 +205,27 @@ pub job-bytes : (version : ℕ) (p : Proc) → ValuedP p → Bytes (jobBytes ver
 unfolding jobBytes jobMark
 job-bytes version p v =
     bytes-cons (omega arith) (bytes-cons (omega arith) (bytes-cons (omega arith) (bytes-append (bytes16 version) (bytes16-bytes version) (bytes-append (bytes16 (nodesP p)) (bytes16-bytes (nodesP p)) (proc-bytes p v)))))
+
+flat-bytesT : (t : Tran) → ValuedT t → Bytes (flatT t)
+unfolding flatT
+flat-bytesT (ValT n) v = bytes-cons (omega arith) (bytes32-bytes (residue n))
+flat-bytesT (AddT a b) v = bytes-append (flatT a) (flat-bytesT a (v .0)) (bytes-append (flatT b) (flat-bytesT b (v .1)) (bytes-cons (omega arith) bytes-none))
+flat-bytesT (Read r) v = bytes-cons (omega arith) (bytes-cons (omega arith) bytes-none)
+flat-bytesT (Write r t) v = bytes-append (flatT t) (flat-bytesT t (v .1)) (bytes-cons (omega arith) (bytes-cons (omega arith) bytes-none))
+
+flat-bytesP : (p : Proc) → ValuedP p → Bytes (flatP p)
+unfolding flatP
+flat-bytesP (ValP n) v = bytes-cons (omega arith) (bytes32-bytes (residue n))
+flat-bytesP (AddP a b) v = bytes-append (flatP a) (flat-bytesP a (v .0)) (bytes-append (flatP b) (flat-bytesP b (v .1)) (bytes-cons (omega arith) bytes-none))
+flat-bytesP (Atomic t) v = bytes-cons (omega arith) (bytes-append (flatT t) (flat-bytesT t v) (bytes-cons (omega arith) bytes-none))
+flat-bytesP (Fork p) v = bytes-cons (omega arith) (bytes-append (bytes16 (length (flatP p))) (bytes16-bytes (length (flatP p))) (flat-bytesP p v))
+
+-- a job's code is bytes
+pub code-bytes : (j : Job) → ValuedP (j .tree) → Bytes (compiled j)
+unfolding codeMark
+code-bytes j v =
+    subst Bytes (sym (compiled-flat j))
+    (bytes-cons (omega arith) (bytes-cons (omega arith) (bytes-cons (omega arith) (bytes-append (bytes16 (j .version)) (bytes16-bytes (j .version)) (flat-bytesP (j .tree) v)))))
 
 -- an accepted job's code is read back as that job
 pub there-and-back : {job : List ℕ} {j : Job} → IsJob job j → readCode (compiled j) ≡ done j
