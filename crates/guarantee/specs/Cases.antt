@@ -12,7 +12,8 @@ use Rattle.script.specs.Outcome.{Outcome, refused, done}
 use Rattle.script.specs.Reader.{Job, readJob}
 use Rattle.code.specs.Bytes.{compiled}
 use Rattle.code.specs.Reader.{readCode}
-use Rattle.machine.specs.Steps.{State, Ran, threadAt, fresh, run, counted, isIdle, isCommit, isBack, order}
+use Rattle.machine.specs.Steps.{Ran, threadAt, fresh, run}
+use Rattle.stm.specs.Events.{counted, isIdle, isCommit, isBack, order}
 use Rattle.word.specs.Sum.{wrapping}
 
 -- job version 1, and so many nodes

@@ -1,3 +1,19 @@
 -- Laws of the machine's picks.
 pub mod Picks
-pub mod SentBack
+pub mod Walking
+pub mod FitTests
+pub mod Codes
+pub mod Shapes
+pub mod Placings
+pub mod Showings
+pub mod Simulates
+pub mod Mirrors
+pub mod Regions
+pub mod Keeps
+pub mod Fresh
+pub mod Runs
+pub mod Rules
+pub mod Carryings
+pub mod Soups
+pub mod Calls
+pub mod Agrees

@@ -1,14 +1,15 @@
 -- An idle pick changes nothing, only a COMMIT that takes effect changes the registers, and runs follow one another. Assumes nothing.
-use Prim.Native.Nat.{ℕ, suc, _+_}
+use Prim.Native.Nat.{ℕ, _+_}
 use mathlib.Core.Bool.{Bool, true, false, cond, not, _||_}
-use mathlib.Core.Path.{_≡_, refl, ap}
+use mathlib.Core.Path.{_≡_, refl}
 use mathlib.Core.List.{List, [], _∷_, _++_}
 use native.Mathlib.Omega.{arith}
 use lib.Dec.{eqb, ltb}
 use lib.ListN.{length, drop, set}
 use Rattle.machine.specs.declared.Thread.{Thread}
 use Rattle.machine.specs.Threads.{closed, firstStale, overlaid}
-use Rattle.machine.specs.Steps.{State, Stepped, Event, idle, committed, sentBack, put, exists, threadAt, commit, instruction, doing, pick, Happened, Ran, run, counted, isIdle, isCommit, isTurn, order}
+use Rattle.machine.specs.Steps.{State, Stepped, put, exists, threadAt, commit, instruction, doing, pick, Ran, run}
+use Rattle.stm.specs.Events.{idle, committed, sentBack, isIdle, isCommit}
 use Rattle.code.specs.Reader.{Op, opAt}
 use Rattle.code.specs.Reader as code
 use Rattle.script.specs.Outcome.{Outcome, refused, done}
@@ -79,21 +80,3 @@ unfolding run
 run-append sum bytes s [] js = refl
 run-append sum bytes s (i ∷ is) js =
     rw (run-append sum bytes (pick sum bytes s i .state) is js)
-
-pub counted-append : (f : Event → Bool) (hs ks : List Happened) → counted f (hs ++ ks) ≡ counted f hs + counted f ks
-unfolding counted
-counted-append f [] ks = omega arith
-counted-append f (h ∷ hs) ks = go (f (h .event)) (counted-append f hs ks)
-  where
-    go : (b : Bool) → counted f (hs ++ ks) ≡ counted f hs + counted f ks → cond b (suc (counted f (hs ++ ks))) (counted f (hs ++ ks)) ≡ cond b (suc (counted f hs)) (counted f hs) + counted f ks
-    go true e = omega arith
-    go false e = e
-
-pub order-append : (hs ks : List Happened) → order (hs ++ ks) ≡ order hs ++ order ks
-unfolding order
-order-append [] ks = refl
-order-append (h ∷ hs) ks = go (isTurn (h .event)) (order-append hs ks)
-  where
-    go : (b : Bool) → order (hs ++ ks) ≡ order hs ++ order ks → cond b (h .thread ∷ order (hs ++ ks)) (order (hs ++ ks)) ≡ cond b (h .thread ∷ order hs) (order hs) ++ order ks
-    go true e = ap {B = List ℕ} (λ (l : List ℕ). h .thread ∷ l) e
-    go false e = e

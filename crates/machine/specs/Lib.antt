@@ -1,4 +1,9 @@
 -- The machine of document 01, "One pick, one step".
 pub mod Threads
 pub mod Steps
+pub mod Fits
+pub mod FitTest
+pub mod Answers
 pub mod Source
+pub mod Stands
+pub mod Soup

@@ -6,6 +6,7 @@ use lib.IntN.{ℤ, pos}
 use lib.Signed.{ltZ}
 use lib.ListN.{getD, set, take, replicate}
 use Rattle.machine.specs.declared.Thread.{Thread}
+use Rattle.stm.specs.Events.{Source, fromWrites, fromReads, fromTable}
 use Rattle.word.specs.Registers.{none, member, with}
 use Rattle.word.specs.Sum.{Rule}
 
@@ -78,10 +79,7 @@ begin t =
       kept = zeros;
     }
 
--- where READ finds its value: "the value in the write log if there, else in the read log if there, else the table's"
-pub data Source : Type 0 where
-  fromWrites fromReads fromTable : Source
-
+-- READ: "the value in the write log if there, else in the read log if there, else the table's"
 unfoldable pub sourceOf : Thread → ℕ → Source
 sourceOf t v = cond (member (t .writes) v) fromWrites (cond (member (t .reads) v) fromReads fromTable)
 

@@ -19,3 +19,37 @@ pub struct Thread {
     pub writes: u64,
     pub kept: [i32; 64],
 }
+
+// the answer of `fresh`
+pub enum Laid {
+    Done,
+    // document 01's number, and the place
+    Refused(u8, usize),
+}
+
+// the answer of `step`: what the pick did
+pub enum Did {
+    Idle,
+    Pushed,
+    // whether a transaction is open
+    Summed(bool),
+    Forked,
+    Begun,
+    // READ found its value in the write log, in the read log, in the table
+    LookedInWrites,
+    LookedInReads,
+    LookedInTable,
+    Wrote,
+    Committed,
+    // the first stale register
+    SentBack(usize),
+    // document 01's number, and the place
+    Refused(u8, usize),
+}
+
+// the answer of `run`: steps, idle, commits, back
+pub enum Counted {
+    Ran(usize, usize, usize, usize),
+    // document 01's number, and the place
+    Refused(u8, usize),
+}

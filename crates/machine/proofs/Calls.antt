@@ -1,0 +1,81 @@
+-- What `fresh`, `step` and `run` come to is what document 01's rows 11, 12 and 13 say, in that order. Assumes nothing.
+use Prim.Native.Nat.{ℕ, _<_, _≤_}
+use mathlib.Core.Bool.{Bool, true, false, not, _&&_}
+use mathlib.Core.Path.{_≡_, refl, sym, ap, subst, _∙_}
+use mathlib.Core.List.{List}
+use native.Mathlib.Omega.{arith}
+use borrow.Author.Tests.{eqb-true, eq-eqb, ltb-true, ltb-false}
+use lib.Dec.{eqb, ltb}
+use lib.ListN.{length}
+use Rattle.machine.specs.Steps.{State, Stepped, Ran, pick, fresh, run}
+use Rattle.machine.specs.Fits.{Fits, Typed}
+use Rattle.machine.specs.FitTest.{fits}
+use Rattle.machine.specs.Answers as answers
+use Rattle.machine.specs.Answers.{sumOf, rightLengths, fitting, freshOf, stepOf, runOf, FreshAnswer, StepAnswer, RunAnswer}
+use Rattle.machine.proofs.FitTests.{fits-exactly}
+use Rattle.code.specs.Bytes.{IsCode}
+use Rattle.code.specs.Reader.{readCode}
+use Rattle.code.proofs.Foreign.{only-foreign, foreign-exactly}
+use Rattle.code.proofs.ReadBack.{read-is-code}
+use Rattle.script.specs.Bytes.{Bytes}
+use Rattle.script.specs.Outcome.{Outcome, refused, done, refuse, onward}
+use Rattle.script.specs.Reader.{Job}
+use Rattle.script.proofs.Accepts.{both}
+
+-- no code that is foreign is read, and it is refused with 11 at 0
+eleven : (code : List ℕ) (n p : ℕ) → readCode code ≡ refused n p → readCode code ≡ refused 11 0
+eleven code n p e =
+    let o = only-foreign code n p e in
+    e ∙ (ap (λ (m : ℕ). refused m p) (o .0) ∙ ap (λ (m : ℕ). refused 11 m) (o .1))
+
+never : {A : Type 0} {b : Bool} → b ≡ true → b ≡ false → A
+never e f = absurd (let z : _≡_ {A = ℕ} 0 1 = cc in omega arith)
+
+-- `fresh`: 11, then the two lengths
+pub fresh-answers : (code : List ℕ) (s : State) → Bytes code → FreshAnswer code s (freshOf code s)
+unfolding freshOf
+fresh-answers code s b = by (readCode code) refl
+  where
+    sized : {j : Job} → IsCode code j → (t : Bool) → (eqb (length (s .threads)) 16 && eqb (length (s .registers)) 64) ≡ t → FreshAnswer code s (refuse (not t) 12 0 (done (fresh code)))
+    sized c true e = let p = both (eqb (length (s .threads)) 16) (eqb (length (s .registers)) 64) e in answers.laid-down c (eqb-true _ _ (p .0)) (eqb-true _ _ (p .1))
+    sized c false e = answers.foreign-state c (λ l. never (let p : (eqb (length (s .threads)) 16 && eqb (length (s .registers)) 64) ≡ true = rw (eq-eqb (length (s .threads)) 16 (l .0), eq-eqb (length (s .registers)) 64 (l .1)) in p) e)
+
+    by : (o : Outcome Job) → readCode code ≡ o → FreshAnswer code s (onward o (λ j. rightLengths s (done (fresh code))))
+    by (refused n p) e =
+        let z = only-foreign code n p e in
+        subst (λ (x : Outcome State). FreshAnswer code s x) (sym (ap (λ (m : ℕ). refused m p) (z .0) ∙ ap (λ (m : ℕ). refused 11 m) (z .1))) (answers.foreign-code (foreign-exactly code b .0 (eleven code n p e)))
+    by (done j) e = sized (read-is-code code j b e) (eqb (length (s .threads)) 16 && eqb (length (s .registers)) 64) refl
+
+-- `step`: 11, then 12
+pub step-answers : (code : List ℕ) (s : State) (i : ℕ) → Bytes code → Typed s → StepAnswer code s i (stepOf code s i)
+unfolding stepOf
+step-answers code s i b y = by (readCode code) refl
+  where
+    fitted : {j : Job} → IsCode code j → (t : Bool) → fits code s ≡ t → StepAnswer code s i (refuse (not t) 12 0 (done (pick (sumOf j) code s i)))
+    fitted c true e = answers.picked c (fits-exactly code s y .0 e)
+    fitted c false e = answers.foreign-state c (λ f. never (fits-exactly code s y .1 f) e)
+
+    by : (o : Outcome Job) → readCode code ≡ o → StepAnswer code s i (onward o (λ j. fitting code s (done (pick (sumOf j) code s i))))
+    by (refused n p) e =
+        let z = only-foreign code n p e in
+        subst (λ (x : Outcome Stepped). StepAnswer code s i x) (sym (ap (λ (m : ℕ). refused m p) (z .0) ∙ ap (λ (m : ℕ). refused 11 m) (z .1))) (answers.foreign-code (foreign-exactly code b .0 (eleven code n p e)))
+    by (done j) e = fitted (read-is-code code j b e) (fits code s) refl
+
+-- `run`: 11, then 12, then 13
+pub run-answers : (code : List ℕ) (s : State) (is : List ℕ) → Bytes code → Typed s → RunAnswer code s is (runOf code s is)
+unfolding runOf
+run-answers code s is b y = by (readCode code) refl
+  where
+    short : {j : Job} → IsCode code j → Fits code s → (t : Bool) → ltb 32768 (length is) ≡ t → RunAnswer code s is (refuse t 13 0 (done (run (sumOf j) code s is)))
+    short c f true e = answers.long-list c f (ltb-true 32768 (length is) e)
+    short c f false e = answers.ran c f (ltb-false 32768 (length is) e)
+
+    fitted : {j : Job} → IsCode code j → (t : Bool) → fits code s ≡ t → RunAnswer code s is (refuse (not t) 12 0 (refuse (ltb 32768 (length is)) 13 0 (done (run (sumOf j) code s is))))
+    fitted c true e = short c (fits-exactly code s y .0 e) (ltb 32768 (length is)) refl
+    fitted c false e = answers.foreign-state c (λ f. never (fits-exactly code s y .1 f) e)
+
+    by : (o : Outcome Job) → readCode code ≡ o → RunAnswer code s is (onward o (λ j. fitting code s (refuse (ltb 32768 (length is)) 13 0 (done (run (sumOf j) code s is)))))
+    by (refused n p) e =
+        let z = only-foreign code n p e in
+        subst (λ (x : Outcome Ran). RunAnswer code s is x) (sym (ap (λ (m : ℕ). refused m p) (z .0) ∙ ap (λ (m : ℕ). refused 11 m) (z .1))) (answers.foreign-code (foreign-exactly code b .0 (eleven code n p e)))
+    by (done j) e = fitted (read-is-code code j b e) (fits code s) refl

@@ -1,0 +1,476 @@
+-- What an instruction leaves fits the code again. Assumes nothing.
+use Prim.Native.Nat.{ℕ, zero, suc, _+_, _-_, _≤_, _<_}
+use mathlib.Core.Bool.{Bool, true, false, cond, not}
+use mathlib.Core.Path.{_≡_, refl, sym, ap, subst, _∙_}
+use mathlib.Core.List.{List, [], _∷_, _++_}
+use native.Mathlib.Decide.{decLt}
+use native.Mathlib.Omega.{arith}
+use borrow.Author.Tests.{eqb-true, eqb-false, ne-eqb}
+use lib.Dec.{eqb}
+use lib.IntN.{ℤ}
+use lib.ListN.{length, getD, set, length-set}
+use lib.Seq.{getD-set-same, getD-set-other}
+use Rattle.code.specs.Compile.{Code, ε, compileP}
+use Rattle.code.specs.Bytes.{IsCode}
+use Rattle.script.specs.Reader.{Job}
+use Rattle.machine.specs.declared.Thread.{Thread}
+use Rattle.machine.specs.Threads.{blank, spawned}
+use Rattle.machine.specs.Steps.{State, Stepped, exists, numberOf, threadAt}
+use Rattle.machine.specs.Fits.{Child, Walked, Walks, starts, In, here, there, ownCode, Passed, Placed, Exists, ThreadOf, Forked, OneThread, Fits, TypedThread, Typed}
+use Rattle.machine.proofs.Walking.{walks-once}
+use Rattle.machine.proofs.Placings.{typed-spawned, placed-spawned}
+use Rattle.machine.proofs.Regions.{link-low, link-once, none-in, FirstOr, first, other, first-or, LastOnce, last-once, LinkOf, passed-link, no-more}
+use Rattle.machine.proofs.Simulates.{Born, nobody, child, Simulated}
+use Rattle.stm.specs.Cells.{byValue}
+use Rattle.stm.specs.Tasks.{Did}
+use Rattle.stm.specs.Meaning.{Outside}
+use Rattle.stm.proofs.Bound.{forks-proc}
+
+never : {A : Type 0} → _≡_ {A = Bool} true false → A
+never e = absurd (let z : _≡_ {A = ℕ} 0 1 = cc in omega arith)
+
+-- ---- the number of threads
+blank-no : exists blank ≡ false
+unfolding blank
+blank-no = refl
+
+number-not : (ts : List Thread) → exists (getD ts (numberOf ts) blank) ≡ false
+unfolding numberOf
+number-not [] = blank-no
+number-not (t ∷ ts) = go (exists t) refl (number-not ts)
+  where
+    go : (b : Bool) → exists t ≡ b → exists (getD ts (numberOf ts) blank) ≡ false → exists (getD (t ∷ ts) (cond b (suc (numberOf ts)) 0) blank) ≡ false
+    go true e r = r
+    go false e r = e
+
+number-there : (ts : List Thread) (k : ℕ) → k < numberOf ts → exists (getD ts k blank) ≡ true
+unfolding numberOf
+number-there [] k l = absurd (omega arith)
+number-there (t ∷ ts) k l = go (exists t) refl k l (λ m x. number-there ts m x)
+  where
+    go : (b : Bool) → exists t ≡ b → (k : ℕ) → k < cond b (suc (numberOf ts)) 0 → ((m : ℕ) → m < numberOf ts → exists (getD ts m blank) ≡ true) → exists (getD (t ∷ ts) k blank) ≡ true
+    go true e zero l r = e
+    go true e (suc k) l r = r k (omega arith)
+    go false e k l r = absurd (omega arith)
+
+getD-past : (ts : List Thread) (k : ℕ) → length ts ≤ k → getD ts k blank ≡ blank
+getD-past [] k l = refl
+getD-past (t ∷ ts) zero l = absurd (omega arith)
+getD-past (t ∷ ts) (suc k) l = getD-past ts k (omega arith)
+
+-- a thread's number is one of the table
+pub in-table : (s : State) (k : ℕ) → Exists s k → k < length (s .threads)
+in-table s k e = go (decLt k (length (s .threads)))
+  where
+    go : Dec (k < length (s .threads)) → k < length (s .threads)
+    go (yes l) = l
+    go (no m) = never (sym e ∙ (ap exists (getD-past (s .threads) k (omega arith)) ∙ blank-no))
+
+-- the threads of a state that fits are those with lower numbers
+pub below-number : {bytes : List ℕ} (s : State) → Fits bytes s → (k : ℕ) → Exists s k → k < numberOf (s .threads)
+below-number s f k e = go (decLt k (numberOf (s .threads)))
+  where
+    down : (d k : ℕ) → Exists s (d + k) → Exists s k
+    down zero k e = subst (Exists s) (let z : 0 + k ≡ k = omega arith in z) e
+    down (suc d) k e = down d k (f .no-gap (d + k) (subst (Exists s) (let z : suc d + k ≡ suc (d + k) = omega arith in z) e))
+
+    go : Dec (k < numberOf (s .threads)) → k < numberOf (s .threads)
+    go (yes l) = l
+    go (no m) = never (sym (down (k - numberOf (s .threads)) (numberOf (s .threads)) (subst (Exists s) (let z : k ≡ (k - numberOf (s .threads)) + numberOf (s .threads) = omega arith in z) e)) ∙ number-not (s .threads))
+
+-- the thread of a code is one
+pub same-thread : {bytes : List ℕ} (s : State) → Fits bytes s → (a b : ℕ) → Exists s a → Exists s b → ownCode (threadAt s a) ≡ ownCode (threadAt s b) → a ≡ b
+same-thread s f zero zero x y e = refl
+same-thread s f (suc a) b x y e =
+    let r = f .one (ownCode (threadAt s (suc a))) (f .child a x) in
+    r .alone (suc a) (record { there = x; own = refl }) ∙ sym (r .alone b (record { there = y; own = sym e }))
+same-thread s f zero (suc b) x y e =
+    let r = f .one (ownCode (threadAt s (suc b))) (f .child b y) in
+    r .alone zero (record { there = x; own = e }) ∙ sym (r .alone (suc b) (record { there = y; own = refl }))
+
+module _ {bytes : List ℕ} {j : Job} (c : IsCode bytes j) (o : Outside (compileP (j .tree) ε) 0) (s : State) (f : Fits bytes s) (y : Typed s) (i : ℕ) (e : Exists s i) (t : Thread) (ty : TypedThread t) (p : Placed bytes t) (st : t .start ≡ threadAt s i .start) (en : t .end ≡ threadAt s i .end) where
+  abbrev n : ℕ
+  n = numberOf (s .threads)
+
+  -- the FORKs that the thread had passed
+  abbrev old : List Child
+  old = f .placed i e .walked .children
+
+  i-below : i < n
+  i-below = below-number s f i e
+
+  own-t : ownCode t ≡ ownCode (threadAt s i)
+  own-t = ap (λ (x : ℕ). record { start = x; end = t .end }) st ∙ ap (λ (x : ℕ). record { start = threadAt s i .start; end = x }) en
+
+  -- what the thread had passed
+  passed-old : (x : Child) → Passed bytes (threadAt s i) x → In x old
+  passed-old x k = subst (λ (w : Walked). In x (w .children)) (walks-once bytes (threadAt s i .start) (threadAt s i .end) (k .walks) (f .placed i e .walks)) (k .one)
+
+  passed-now : (x : Child) → Passed bytes t x → In x (p .walked .children)
+  passed-now x k = subst (λ (w : Walked). In x (w .children)) (walks-once bytes (t .start) (t .end) (k .walks) (p .walks)) (k .one)
+
+  -- ---- a FORK is done once
+  now-walks : Walks bytes (threadAt s i .start) (threadAt s i .end) (t .place) (p .walked)
+  now-walks = subst (λ (a : Child). Walks bytes (a .start) (a .end) (t .place) (p .walked)) own-t (p .walks)
+
+  new-link : (x : Child) → p .walked .children ≡ x ∷ old → LinkOf bytes j (ownCode (threadAt s i)) x
+  new-link x k = passed-link c o s f i e now-walks x (subst (λ (l : List Child). In x l) (sym k) here)
+
+  unborn : (x : Child) → p .walked .children ≡ x ∷ old → Forked bytes s x → ⊥
+  unborn x k h =
+      let its : LinkOf bytes j (ownCode (threadAt s (h .parent))) x = passed-link c o s f (h .parent) (h .there) (h .passed .walks) x (h .passed .one) in
+      let q : h .parent ≡ i = same-thread s f (h .parent) i (h .there) e (link-once its (new-link x k) refl .0) in
+      subst LastOnce k (last-once (p .walks)) (passed-old x (subst (λ (m : ℕ). Passed bytes (threadAt s m) x) q (h .passed)))
+
+  -- no thread has the code of a child that is new
+  unowned : (x : Child) → p .walked .children ≡ x ∷ old → (m : ℕ) → ThreadOf s x m → ⊥
+  unowned x k zero h =
+      let l : 5 + 3 ≤ x .start = link-low (new-link x k) in
+      let a : x .start ≡ 5 = ap (λ (z : Child). z .start) (sym (h .own) ∙ f .root) in
+      absurd (omega arith)
+  unowned x k (suc m) h = unborn x k (subst (Forked bytes s) (h .own) (f .child m (h .there)))
+
+  -- ---- there is room for a child
+  abbrev row : Child → ℕ → Child
+  row x zero = x
+  row x (suc m) = ownCode (threadAt s (suc m))
+
+  abbrev Parent : Child → Type 0
+  Parent x = (a : Child) × LinkOf bytes j a x
+
+  parent : (m : ℕ) → Exists s (suc m) → Parent (ownCode (threadAt s (suc m)))
+  parent m h =
+      let k = f .child m h in
+      (ownCode (threadAt s (k .parent)), passed-link c o s f (k .parent) (k .there) (k .passed .walks) (ownCode (threadAt s (suc m))) (k .passed .one))
+
+  room : (x : Child) → p .walked .children ≡ x ∷ old → n < 16
+  room x k =
+      let a = no-more n (row x) links apart in
+      let b = forks-proc (j .tree) in
+      let d = c .within .narrow in
+      omega arith
+    where
+      links : (m : ℕ) → m < n → Parent (row x m)
+      links zero l = (ownCode (threadAt s i), new-link x k)
+      links (suc m) l = parent m (number-there (s .threads) (suc m) l)
+
+      apart : (a b : ℕ) → a < b → b < n → row x a .start ≡ row x b .start → ⊥
+      apart a zero l m q = absurd (omega arith)
+      apart zero (suc b) l m q =
+          let h = number-there (s .threads) (suc b) m in
+          unowned x k (suc b) (record { there = h; own = sym (link-once (new-link x k) (parent b h .1) q .1) })
+      apart (suc a) (suc b) l m q =
+          let g = number-there (s .threads) (suc a) (omega arith) in
+          let h = number-there (s .threads) (suc b) m in
+          let z = same-thread s f (suc a) (suc b) g h (link-once (parent a g .1) (parent b h .1) q .1) in
+          absurd (omega arith)
+
+  -- ---- a state whose first threads are these
+  module _ (s′ : State) (at-i : threadAt s′ i ≡ t) (at-other : (k : ℕ) → k < n → (k ≡ i → ⊥) → threadAt s′ k ≡ threadAt s k) (born : List Child) (kids : p .walked .children ≡ born ++ old) where
+    -- thread k is the one that did the step, or as it was
+    each : (P : ℕ → Type 0) → P i → ((k : ℕ) → k < n → threadAt s′ k ≡ threadAt s k → P k) → (k : ℕ) → k < n → P k
+    each P a b k l = go (eqb k i) refl
+      where
+        go : (x : Bool) → eqb k i ≡ x → P k
+        go true q = subst P (sym (eqb-true k i q)) a
+        go false q = b k l (at-other k l (eqb-false k i q))
+
+    own′ : (k : ℕ) → k < n → ownCode (threadAt s′ k) ≡ ownCode (threadAt s k)
+    own′ = each (λ (k : ℕ). ownCode (threadAt s′ k) ≡ ownCode (threadAt s k)) (ap ownCode at-i ∙ own-t) (λ k l q. ap ownCode q)
+
+    there′ : (k : ℕ) → k < n → Exists s′ k
+    there′ k l = ap (λ (x : Child). not (eqb (x .start) 0)) (own′ k l) ∙ number-there (s .threads) k l
+
+    placed′ : (k : ℕ) → k < n → Placed bytes (threadAt s′ k)
+    placed′ = each (λ (k : ℕ). Placed bytes (threadAt s′ k)) (subst (Placed bytes) (sym at-i) p) (λ k l q. subst (Placed bytes) (sym q) (f .placed k (number-there (s .threads) k l)))
+
+    typed′ : (k : ℕ) → k < n → TypedThread (threadAt s′ k)
+    typed′ = each (λ (k : ℕ). TypedThread (threadAt s′ k)) (subst TypedThread (sym at-i) ty) (λ k l q. subst TypedThread (sym q) (y k))
+
+    in-right : (x : Child) (bs : List Child) → In x old → In x (bs ++ old)
+    in-right x [] k = k
+    in-right x (b ∷ bs) k = there (in-right x bs k)
+
+    passed-to : (x : Child) (k : ℕ) → k < n → Passed bytes (threadAt s k) x → Passed bytes (threadAt s′ k) x
+    passed-to x = each (λ (k : ℕ). Passed bytes (threadAt s k) x → Passed bytes (threadAt s′ k) x)
+        (λ h. subst (λ (u : Thread). Passed bytes u x) (sym at-i) (record { walked = p .walked; walks = p .walks; one = subst (λ (l : List Child). In x l) (sym kids) (in-right x born (passed-old x h)) }))
+        (λ k l q h. subst (λ (u : Thread). Passed bytes u x) (sym q) h)
+
+    forked-to : (x : Child) → Forked bytes s x → Forked bytes s′ x
+    forked-to x h =
+        let l = below-number s f (h .parent) (h .there) in
+        record { parent = h .parent; there = there′ (h .parent) l; passed = passed-to x (h .parent) l (h .passed) }
+
+    thread-to : (x : Child) (k : ℕ) → ThreadOf s x k → ThreadOf s′ x k
+    thread-to x k h =
+        let l = below-number s f k (h .there) in
+        record { there = there′ k l; own = own′ k l ∙ h .own }
+
+    thread-from : (x : Child) (k : ℕ) → k < n → ThreadOf s′ x k → ThreadOf s x k
+    thread-from x k l h = record { there = number-there (s .threads) k l; own = sym (own′ k l) ∙ h .own }
+
+    -- a FORK passed now was passed before, or is the one done
+    data Was (x : Child) : Type 0 where
+      before : Forked bytes s x → Was x
+      now : In x born → Was x
+
+    either : (x : Child) (bs : List Child) → In x (bs ++ old) → (In x bs → Was x) → Was x
+    either x [] k g = before (record { parent = i; there = e; passed = record { walked = f .placed i e .walked; walks = f .placed i e .walks; one = k } })
+    either x (b ∷ bs) k g = go (first-or x b (bs ++ old) k) (λ z. either x bs z (λ w. g (there w)))
+      where
+        go : FirstOr x b (bs ++ old) → (In x (bs ++ old) → Was x) → Was x
+        go (first q) r = g (subst (λ (z : Child). In x (z ∷ bs)) q here)
+        go (other z) r = r z
+
+    was : (x : Child) (k : ℕ) → k < n → Passed bytes (threadAt s′ k) x → Was x
+    was x = each (λ (k : ℕ). Passed bytes (threadAt s′ k) x → Was x)
+        (λ h. either x born (subst (λ (l : List Child). In x l) kids (passed-now x (subst (λ (u : Thread). Passed bytes u x) at-i h))) (λ z. now z))
+        (λ k l q h. before (record { parent = k; there = number-there (s .threads) k l; passed = subst (λ (u : Thread). Passed bytes u x) q h }))
+
+    child′ : (k : ℕ) → suc k < n → Forked bytes s′ (ownCode (threadAt s′ (suc k)))
+    child′ k l = subst (Forked bytes s′) (sym (own′ (suc k) l)) (forked-to (ownCode (threadAt s (suc k))) (f .child k (number-there (s .threads) (suc k) l)))
+
+  i-in : i < length (s .threads)
+  i-in = in-table s i e
+
+  -- ---- a step that is no FORK
+  module _ (table : List ℤ) (sized : length table ≡ 64) (kids : p .walked .children ≡ [] ++ old) where
+    abbrev quiet : State
+    quiet = record { registers = table; threads = set (s .threads) i t }
+
+    quiet-i : threadAt quiet i ≡ t
+    quiet-i = getD-set-same (s .threads) i t blank i-in
+
+    quiet-other : (k : ℕ) → k < n → (k ≡ i → ⊥) → threadAt quiet k ≡ threadAt s k
+    quiet-other k l d = getD-set-other (s .threads) i k t blank d
+
+    quiet-above : (k : ℕ) → (k < n → ⊥) → threadAt quiet k ≡ threadAt s k
+    quiet-above k m = getD-set-other (s .threads) i k t blank (λ q. m (let l = i-below in omega arith))
+
+    quiet-below : (k : ℕ) → Exists quiet k → k < n
+    quiet-below k h = go (decLt k n)
+      where
+        go : Dec (k < n) → k < n
+        go (yes l) = l
+        go (no m) = below-number s f k (sym (ap exists (quiet-above k m)) ∙ h)
+
+    quiet-one : (x : Child) → Forked bytes quiet x → OneThread quiet x
+    quiet-one x h = go (was quiet quiet-i quiet-other [] kids x (h .parent) (quiet-below (h .parent) (h .there)) (h .passed))
+      where
+        go : Was quiet quiet-i quiet-other [] kids x → OneThread quiet x
+        go (now k) = absurd (none-in k)
+        go (before k) =
+            let r = f .one x k in
+            record {
+              thread = r .thread;
+              its = thread-to quiet quiet-i quiet-other [] kids x (r .thread) (r .its);
+              alone = λ m a. r .alone m (thread-from quiet quiet-i quiet-other [] kids x m (quiet-below m (a .there)) a);
+            }
+
+    quiet-no : (k : ℕ) → exists (threadAt quiet k) ≡ false → threadAt quiet k ≡ blank
+    quiet-no k h = go (decLt k n)
+      where
+        go : Dec (k < n) → threadAt quiet k ≡ blank
+        go (yes l) = never (sym (there′ quiet quiet-i quiet-other [] kids k l) ∙ h)
+        go (no m) = quiet-above k m ∙ f .no-thread k (sym (ap exists (quiet-above k m)) ∙ h)
+
+    quiet-typed : Typed quiet
+    quiet-typed k = go (decLt k n)
+      where
+        go : Dec (k < n) → TypedThread (threadAt quiet k)
+        go (yes l) = typed′ quiet quiet-i quiet-other [] kids k l
+        go (no m) = subst TypedThread (sym (quiet-above k m)) (y k)
+
+    quiet-fits : Fits bytes quiet
+    quiet-fits =
+        let l = i-below in
+        record {
+          records = length-set (s .threads) i t ∙ f .records;
+          registers = sized;
+          root = own′ quiet quiet-i quiet-other [] kids 0 (omega arith) ∙ f .root;
+          child = λ k h. child′ quiet quiet-i quiet-other [] kids k (quiet-below (suc k) h);
+          one = quiet-one;
+          placed = λ k h. placed′ quiet quiet-i quiet-other [] kids k (quiet-below k h);
+          no-gap = λ k h. there′ quiet quiet-i quiet-other [] kids k (let m = quiet-below (suc k) h in omega arith);
+          no-thread = quiet-no;
+        }
+
+  -- ---- a FORK
+  module _ (table : List ℤ) (sized : length table ≡ 64) (a b : ℕ) (some : 1 ≤ a) (kids : p .walked .children ≡ record { start = a; end = b } ∷ old) where
+    abbrev new : Child
+    new = record { start = a; end = b }
+
+    abbrev more : State
+    more = record { registers = table; threads = set (set (s .threads) i t) n (spawned a b) }
+
+    n-room : n < 16
+    n-room = room new kids
+
+    more-new : threadAt more n ≡ spawned a b
+    more-new = getD-set-same (set (s .threads) i t) n (spawned a b) blank (let l = length-set (s .threads) i t in let r = f .records in let k = n-room in omega arith)
+
+    more-same : (k : ℕ) → (k ≡ n → ⊥) → threadAt more k ≡ getD (set (s .threads) i t) k blank
+    more-same k d = getD-set-other (set (s .threads) i t) n k (spawned a b) blank d
+
+    more-i : threadAt more i ≡ t
+    more-i = more-same i (λ q. let l = i-below in absurd (omega arith)) ∙ getD-set-same (s .threads) i t blank i-in
+
+    more-other : (k : ℕ) → k < n → (k ≡ i → ⊥) → threadAt more k ≡ threadAt s k
+    more-other k l d = more-same k (λ q. absurd (omega arith)) ∙ getD-set-other (s .threads) i k t blank d
+
+    more-above : (k : ℕ) → n < k → threadAt more k ≡ threadAt s k
+    more-above k m = more-same k (λ q. absurd (omega arith)) ∙ getD-set-other (s .threads) i k t blank (λ q. let l = i-below in absurd (omega arith))
+
+    -- an old thread, the new one, or none
+    data Place (k : ℕ) : Type 0 where
+      older : k < n → Place k
+      newest : k ≡ n → Place k
+      above : n < k → Place k
+
+    place : (k : ℕ) → Place k
+    place k = go (decLt k n) (decLt n k)
+      where
+        go : Dec (k < n) → Dec (n < k) → Place k
+        go (yes l) d = older l
+        go (no l) (yes m) = above m
+        go (no l) (no m) = newest (omega arith)
+
+    born-exists : exists (spawned a b) ≡ true
+    unfolding spawned
+    born-exists = ap not (ne-eqb a 0 (λ q. absurd (omega arith)))
+
+    born-own : ownCode (spawned a b) ≡ new
+    unfolding spawned
+    born-own = refl
+
+    not-above : {A : Type 0} (k : ℕ) → Exists more k → n < k → A
+    not-above k h m = absurd (let l = below-number s f k (sym (ap exists (more-above k m)) ∙ h) in omega arith)
+
+    -- a new thread has passed nothing
+    born-passed : (x : Child) → Passed bytes (spawned a b) x → ⊥
+    unfolding spawned
+    born-passed x h = none-in (subst (λ (w : Walked). In x (w .children)) (walks-once bytes a b (h .walks) starts) (h .one))
+
+    more-one : (x : Child) → Forked bytes more x → OneThread more x
+    more-one x h = go (place (h .parent))
+      where
+        old-one : Forked bytes s x → OneThread more x
+        old-one k =
+            let r = f .one x k in
+            record { thread = r .thread; its = thread-to more more-i more-other (new ∷ []) kids x (r .thread) (r .its); alone = λ m u. alone r m u (place m) }
+          where
+            alone : (r : OneThread s x) (m : ℕ) → ThreadOf more x m → Place m → m ≡ r .thread
+            alone r m u (older l) = r .alone m (thread-from more more-i more-other (new ∷ []) kids x m l u)
+            alone r m u (newest q) =
+                let z : new ≡ x = sym (ap ownCode (ap (threadAt more) q ∙ more-new) ∙ born-own) ∙ u .own in
+                absurd (unborn new kids (subst (Forked bytes s) (sym z) k))
+            alone r m u (above l) = not-above m (u .there) l
+
+        new-one : x ≡ new → OneThread more x
+        new-one q =
+            record {
+              thread = n;
+              its = record { there = ap exists more-new ∙ born-exists; own = ap ownCode more-new ∙ (born-own ∙ sym q) };
+              alone = λ m u. alone m u (place m);
+            }
+          where
+            alone : (m : ℕ) → ThreadOf more x m → Place m → m ≡ n
+            alone m u (older l) = absurd (unowned new kids m (subst (λ (z : Child). ThreadOf s z m) q (thread-from more more-i more-other (new ∷ []) kids x m l u)))
+            alone m u (newest z) = z
+            alone m u (above l) = not-above m (u .there) l
+
+        which : Was more more-i more-other (new ∷ []) kids x → OneThread more x
+        which (before k) = old-one k
+        which (now k) = first-of (first-or x new [] k)
+          where
+            first-of : FirstOr x new [] → OneThread more x
+            first-of (first q) = new-one q
+            first-of (other z) = absurd (none-in z)
+
+        go : Place (h .parent) → OneThread more x
+        go (older l) = which (was more more-i more-other (new ∷ []) kids x (h .parent) l (h .passed))
+        go (newest q) = absurd (born-passed x (subst (λ (u : Thread). Passed bytes u x) (ap (threadAt more) q ∙ more-new) (h .passed)))
+        go (above l) = not-above (h .parent) (h .there) l
+
+    more-typed : Typed more
+    more-typed k = go (place k)
+      where
+        go : Place k → TypedThread (threadAt more k)
+        go (older l) = typed′ more more-i more-other (new ∷ []) kids k l
+        go (newest q) = subst TypedThread (sym (ap (threadAt more) q ∙ more-new)) (typed-spawned a b)
+        go (above m) = subst TypedThread (sym (more-above k m)) (y k)
+
+    more-placed : (k : ℕ) → Exists more k → Placed bytes (threadAt more k)
+    more-placed k h = go (place k)
+      where
+        go : Place k → Placed bytes (threadAt more k)
+        go (older l) = placed′ more more-i more-other (new ∷ []) kids k l
+        go (newest q) = subst (Placed bytes) (sym (ap (threadAt more) q ∙ more-new)) (placed-spawned bytes a b)
+        go (above m) = not-above k h m
+
+    more-child : (k : ℕ) → Exists more (suc k) → Forked bytes more (ownCode (threadAt more (suc k)))
+    more-child k h = go (place (suc k))
+      where
+        go : Place (suc k) → Forked bytes more (ownCode (threadAt more (suc k)))
+        go (older l) = child′ more more-i more-other (new ∷ []) kids k l
+        go (newest q) =
+            let z : ownCode (threadAt more (suc k)) ≡ new = ap ownCode (ap (threadAt more) q ∙ more-new) ∙ born-own in
+            subst (Forked bytes more) (sym z)
+            (record {
+              parent = i;
+              there = there′ more more-i more-other (new ∷ []) kids i i-below;
+              passed = subst (λ (u : Thread). Passed bytes u new) (sym more-i) (record { walked = p .walked; walks = p .walks; one = subst (λ (l : List Child). In new l) (sym kids) here });
+            })
+        go (above m) = not-above (suc k) h m
+
+    more-gap : (k : ℕ) → Exists more (suc k) → Exists more k
+    more-gap k h = go (place (suc k))
+      where
+        go : Place (suc k) → Exists more k
+        go (older l) = there′ more more-i more-other (new ∷ []) kids k (omega arith)
+        go (newest q) = there′ more more-i more-other (new ∷ []) kids k (omega arith)
+        go (above m) = not-above (suc k) h m
+
+    more-no : (k : ℕ) → exists (threadAt more k) ≡ false → threadAt more k ≡ blank
+    more-no k h = go (place k)
+      where
+        go : Place k → threadAt more k ≡ blank
+        go (older l) = never (sym (there′ more more-i more-other (new ∷ []) kids k l) ∙ h)
+        go (newest q) = never (sym (ap exists (ap (threadAt more) q ∙ more-new) ∙ born-exists) ∙ h)
+        go (above m) = more-above k m ∙ f .no-thread k (sym (ap exists (more-above k m)) ∙ h)
+
+    more-fits : Fits bytes more
+    more-fits =
+        let l = i-below in
+        record {
+          records = length-set (set (s .threads) i t) n (spawned a b) ∙ (length-set (s .threads) i t ∙ f .records);
+          registers = sized;
+          root = own′ more more-i more-other (new ∷ []) kids 0 (omega arith) ∙ f .root;
+          child = more-child;
+          one = more-one;
+          placed = more-placed;
+          no-gap = more-gap;
+          no-thread = more-no;
+        }
+
+  born-keeps : (table : List ℤ) → length table ≡ 64 → (ks : List Code) (born : List Child) (ts : List Thread) → p .walked .children ≡ born ++ old → Born bytes (set (s .threads) i t) n ks born ts → Fits bytes (record { registers = table; threads = ts }) × Typed (record { registers = table; threads = ts })
+  born-keeps table sized ks born ts kids nobody = (quiet-fits table sized kids, quiet-typed table sized kids)
+  born-keeps table sized ks born ts kids (child a b r q l) = (more-fits table sized a b l kids, more-typed table sized a b l kids)
+
+-- what an instruction of a thread leaves fits the code again
+pub keeps : {bytes : List ℕ} {j : Job} → IsCode bytes j → Outside (compileP (j .tree) ε) 0 → (s : State) → Fits bytes s → Typed s → (i : ℕ) → Exists s i → (q : Placed bytes (threadAt s i)) (r : Stepped) (d : Did byValue) → length (d .table) ≡ 64 → Simulated bytes s i (threadAt s i) (q .walked .children) r d → Fits bytes (r .state) × Typed (r .state)
+keeps {bytes} c o s f y i e q r d sized x =
+    let w : q .walked ≡ f .placed i e .walked = walks-once bytes (threadAt s i .start) (threadAt s i .end) (q .walks) (f .placed i e .walks) in
+    let k : x .placed .walked .children ≡ x .born ++ f .placed i e .walked .children = subst (λ (v : Walked). x .placed .walked .children ≡ x .born ++ v .children) w (x .kids) in
+    born-keeps c o s f y i e (x .thread) (x .typed) (x .placed) (x .start) (x .end) (r .state .registers) (ap length (x .registers) ∙ sized) (d .children) (x .born) (r .state .threads) k (x .threads)
+
+-- and where it forks a child, there is a record for it
+pub has-room : {bytes : List ℕ} {j : Job} → IsCode bytes j → Outside (compileP (j .tree) ε) 0 → (s : State) → Fits bytes s → Typed s → (i : ℕ) → Exists s i → (q : Placed bytes (threadAt s i)) (r : Stepped) (d : Did byValue) → Simulated bytes s i (threadAt s i) (q .walked .children) r d → (k : Code) → d .children ≡ k ∷ [] → numberOf (s .threads) < 16
+has-room {bytes} c o s f y i e q r d x k z = go (d .children) (x .born) (r .state .threads) (x .threads) (x .kids) z
+  where
+    w : q .walked ≡ f .placed i e .walked
+    w = walks-once bytes (threadAt s i .start) (threadAt s i .end) (q .walks) (f .placed i e .walks)
+
+    go : (ks : List Code) (born : List Child) (ts : List Thread) → Born bytes (set (s .threads) i (x .thread)) (numberOf (s .threads)) ks born ts → x .placed .walked .children ≡ born ++ q .walked .children → ks ≡ k ∷ [] → numberOf (s .threads) < 16
+    go ks born ts nobody m n = absurd (let z : _≡_ {A = ℕ} 0 1 = cc in omega arith)
+    go ks born ts (child a b g h l) m n = room c o s f y i e (x .thread) (x .typed) (x .placed) (x .start) (x .end) (record { start = a; end = b }) (subst (λ (v : Walked). x .placed .walked .children ≡ record { start = a; end = b } ∷ v .children) w m)

@@ -1,0 +1,368 @@
+-- A state and the system of tasks that its records show: a pick does the same to both. Assumes nothing.
+use Prim.Native.Nat.{ℕ, zero, suc, _+_, _-_, _≤_, _<_}
+use mathlib.Core.Bool.{Bool, true, false, cond, not, _||_}
+use mathlib.Core.Path.{_≡_, refl, sym, ap, subst, _∙_}
+use mathlib.Core.List.{List, [], _∷_, _++_, append-nil}
+use native.Mathlib.Omega.{arith}
+use native.Mathlib.Decide.{decLt}
+use borrow.Author.Tests.{eqb-true, eqb-false, eq-eqb, ne-eqb, lt-ltb}
+use lib.Dec.{eqb, ltb}
+use lib.IntN.{ℤ}
+use lib.ListN.{length, drop, getD, set, length-set, length-append}
+use lib.Seq.{getD-set-same, getD-set-other, set-getD, getD-append-seam}
+use Rattle.code.specs.Compile.{Instruction, Code, ε, _⨾_}
+use Rattle.code.specs.Reader.{Op, opAt}
+use Rattle.script.specs.Outcome.{Outcome, done}
+use Rattle.machine.specs.declared.Thread.{Thread}
+use Rattle.machine.specs.Threads.{blank, spawned}
+use Rattle.machine.specs.Steps.{State, Stepped, exists, numberOf, threadAt, instruction, doing, pick}
+use Rattle.stm.specs.Events.{idle}
+use Rattle.machine.specs.Fits.{Child, Exists}
+use Rattle.machine.specs.Stands.{stackFrom, opOf, Ready}
+use Rattle.machine.proofs.Codes.{stands-end, stands-inside, ready-op}
+use Rattle.machine.proofs.Showings.{Shows, shut, open′}
+use Rattle.machine.proofs.Simulates.{Held, Born, nobody, child, Simulated, from-outside, from-inside}
+use Rattle.stm.specs.Cells.{byValue}
+use Rattle.stm.specs.Tasks.{Task, outside, over, Did, System, taskAt, started, put, did, next, stepOutside, stepTask}
+use Rattle.stm.specs.Meaning.{Outside, Inside}
+use Rattle.word.specs.Sum.{Rule}
+
+-- ---- the number of threads
+pub at-end : (ts : List Thread) → exists (getD ts (numberOf ts) blank) ≡ false
+unfolding numberOf blank
+at-end [] = refl
+at-end (t ∷ ts) = go (exists t) refl (at-end ts)
+  where
+    go : (b : Bool) → exists t ≡ b → exists (getD ts (numberOf ts) blank) ≡ false → exists (getD (t ∷ ts) (cond b (suc (numberOf ts)) 0) blank) ≡ false
+    go true e r = r
+    go false e r = e
+
+before-end : (ts : List Thread) (i : ℕ) → i < numberOf ts → exists (getD ts i blank) ≡ true
+unfolding numberOf
+before-end [] i l = absurd (omega arith)
+before-end (t ∷ ts) i l = go (exists t) refl i l (λ k m. before-end ts k m)
+  where
+    go : (b : Bool) → exists t ≡ b → (i : ℕ) → i < cond b (suc (numberOf ts)) 0 → ((k : ℕ) → k < numberOf ts → exists (getD ts k blank) ≡ true) → exists (getD (t ∷ ts) i blank) ≡ true
+    go true e zero m f = e
+    go true e (suc k) m f = f k (omega arith)
+    go false e i m f = absurd (omega arith)
+
+pub never : {A : Type 0} {b : Bool} → b ≡ true → b ≡ false → A
+never e f = absurd (let z : _≡_ {A = ℕ} 0 1 = cc in omega arith)
+
+-- the first record that is no thread's
+pub number-is : (ts : List Thread) (m : ℕ) → ((i : ℕ) → i < m → exists (getD ts i blank) ≡ true) → exists (getD ts m blank) ≡ false → numberOf ts ≡ m
+number-is ts m f e = compare′ (decLt (numberOf ts) m) (decLt m (numberOf ts))
+  where
+    compare′ : Dec (numberOf ts < m) → Dec (m < numberOf ts) → numberOf ts ≡ m
+    compare′ (yes l) d = never (f (numberOf ts) l) (at-end ts)
+    compare′ (no l) (yes k) = never (before-end ts m k) e
+    compare′ (no l) (no k) = omega arith
+
+pub below-exists : (s : State) (i : ℕ) → i < numberOf (s .threads) → Exists s i
+below-exists s i l = before-end (s .threads) i l
+
+-- without gaps, a thread that exists is below the number of threads
+pub exists-below : (s : State) → ((i : ℕ) → Exists s (suc i) → Exists s i) → (i : ℕ) → Exists s i → i < numberOf (s .threads)
+exists-below s gap i e = go (decLt i (numberOf (s .threads)))
+  where
+    down : (d i : ℕ) → Exists s (d + i) → Exists s i
+    down zero i x = subst (λ (n : ℕ). Exists s n) (let z : 0 + i ≡ i = omega arith in z) x
+    down (suc d) i x = down d i (gap (d + i) (subst (λ (n : ℕ). Exists s n) (let z : suc d + i ≡ suc (d + i) = omega arith in z) x))
+
+    go : Dec (i < numberOf (s .threads)) → i < numberOf (s .threads)
+    go (yes l) = l
+    go (no l) = never (down (i - numberOf (s .threads)) (numberOf (s .threads)) (subst (λ (n : ℕ). Exists s n) (let z : i ≡ i - numberOf (s .threads) + numberOf (s .threads) = omega arith in z) e)) (at-end (s .threads))
+
+pub number-small : (ts : List Thread) (i : ℕ) → i < numberOf ts → i < length ts
+unfolding numberOf
+number-small [] i l = absurd (omega arith)
+number-small (t ∷ ts) i l = go (exists t) i l (λ k m. number-small ts k m)
+  where
+    go : (b : Bool) (i : ℕ) → i < cond b (suc (numberOf ts)) 0 → ((k : ℕ) → k < numberOf ts → k < length ts) → i < suc (length ts)
+    go true zero l f = omega arith
+    go true (suc k) l f = let x = f k (omega arith) in omega arith
+    go false i l f = absurd (omega arith)
+
+pub no-inside : (k b : ℕ) → Inside ε k b → ⊥
+unfolding Inside
+no-inside k b x = x
+
+-- ---- a state and a system
+pub record Mirrors (bytes : List ℕ) (s : State) (sys : System byValue) : Type 0 where
+  pub records : length (s .threads) ≡ 16
+  pub table : s .registers ≡ sys .table
+  pub number : numberOf (s .threads) ≡ length (sys .tasks)
+  pub shown : (i : ℕ) → i < length (sys .tasks) → Shows bytes (threadAt s i) (taskAt byValue sys i)
+
+-- what a pick leaves of both
+pub record Mirrored (bytes : List ℕ) (sum : Rule) (s : State) (sys : System byValue) (i : ℕ) : Type 0 where
+  pub event : pick sum bytes s i .event ≡ did byValue sum sys i .event
+  pub mirrors : Mirrors bytes (pick sum bytes s i .state) (next byValue sum sys i)
+
+-- a pick that is not idle does the instruction at the thread's place
+pub data Picked (bytes : List ℕ) (sum : Rule) (s : State) (sys : System byValue) (i : ℕ) (old : List Child) : Type 0 where
+  stood : pick sum bytes s i ≡ record { state = s; event = idle } → did byValue sum sys i ≡ record { task = taskAt byValue sys i; table = sys .table; children = []; event = idle } → Picked bytes sum s sys i old
+  went : (r : Stepped) → pick sum bytes s i ≡ r → Exists s i → Simulated bytes s i (threadAt s i) old r (did byValue sum sys i) → Picked bytes sum s sys i old
+
+abbrev pub idle-now : State → ℕ → Bool
+idle-now s i = not (ltb i (length (s .threads))) || (not (exists (threadAt s i)) || eqb (threadAt s i .place) (threadAt s i .end))
+
+module _ (bytes : List ℕ) (sum : Rule) where
+  abbrev picked : State → ℕ → Bool → Stepped
+  picked s j b =
+      elim b [
+        | true ↦ record { state = s; event = idle }
+        | false ↦ doing sum s j (threadAt s j) (opAt (drop (threadAt s j .place) bytes))
+      ]
+
+  pub idles : (s : State) (i : ℕ) → idle-now s i ≡ true → pick sum bytes s i ≡ record { state = s; event = idle }
+  unfolding pick
+  idles s i e = ap (λ (b : Bool). picked s i b) e
+
+  pub does : (s : State) (i : ℕ) (op : Op) → idle-now s i ≡ false → opAt (drop (threadAt s i .place) bytes) ≡ done op → pick sum bytes s i ≡ instruction sum s i (threadAt s i) op
+  unfolding pick
+  does s i op e f = ap (λ (b : Bool). picked s i b) e ∙ ap (λ (o : Outcome Op). doing sum s i (threadAt s i) o) f
+
+  -- a thread that exists is picked
+  pub works : (s : State) (sys : System byValue) → Mirrors bytes s sys → (i : ℕ) → i < length (sys .tasks) → (h : Held bytes (threadAt s i)) → Picked bytes sum s sys i (h .placed .walked .children)
+  unfolding stepTask stepOutside
+  works s sys m i l h = go (taskAt byValue sys i) refl (m .shown i l)
+    where
+      n : i < numberOf (s .threads)
+      n = subst (λ (k : ℕ). i < k) (sym (m .number)) l
+
+      e : exists (threadAt s i) ≡ true
+      e = below-exists s i n
+
+      small : ltb i (length (s .threads)) ≡ true
+      small = lt-ltb i (length (s .threads)) (number-small (s .threads) i n)
+
+      at-place : (ins : Instruction) (t : Task byValue) → taskAt byValue sys i ≡ t → threadAt s i .place < threadAt s i .end → opAt (drop (threadAt s i .place) bytes) ≡ done (opOf ins) → Simulated bytes s i (threadAt s i) (h .placed .walked .children) (instruction sum s i (threadAt s i) (opOf ins)) (stepTask byValue sum (s .registers) t) → Picked bytes sum s sys i (h .placed .walked .children)
+      at-place ins t q less o x =
+          let busy : idle-now s i ≡ false = rw (small, e, ne-eqb (threadAt s i .place) (threadAt s i .end) (λ z. absurd (omega arith))) in
+          went
+          (instruction sum s i (threadAt s i) (opOf ins))
+          (does s i (opOf ins) busy o)
+          e
+          (subst (λ (y : Task byValue). Simulated bytes s i (threadAt s i) (h .placed .walked .children) (instruction sum s i (threadAt s i) (opOf ins)) (stepTask byValue sum (sys .table) y)) (sym q)
+          (subst (λ (y : List ℤ). Simulated bytes s i (threadAt s i) (h .placed .walked .children) (instruction sum s i (threadAt s i) (opOf ins)) (stepTask byValue sum y t)) (m .table) x))
+
+      ended : (σ : List ℤ) → taskAt byValue sys i ≡ outside ε σ → threadAt s i .place ≡ threadAt s i .end → Picked bytes sum s sys i (h .placed .walked .children)
+      ended σ q z =
+          stood
+          (idles s i (let a : eqb (threadAt s i .place) (threadAt s i .end) ≡ true = eq-eqb (threadAt s i .place) (threadAt s i .end) z in rw (small, e, a)))
+          (ap (λ (y : Task byValue). stepTask byValue sum (sys .table) y) q ∙ ap (λ (y : Task byValue). record { task = y; table = sys .table; children = []; event = idle }) (sym q))
+
+      go : (t : Task byValue) → taskAt byValue sys i ≡ t → Shows bytes (threadAt s i) t → Picked bytes sum s sys i (h .placed .walked .children)
+      go t q (shut ε r o z) = ended (stackFrom (threadAt s i .cells) 0 (threadAt s i .height)) q (stands-end (r .stands))
+      go t q (shut (ins ⨾ c) r o z) = at-place ins t q (stands-inside (r .stands)) (ready-op r) (from-outside sum s i (threadAt s i) h ins c r o z)
+      go t q (open′ body ε k r o f w g x y) = absurd (no-inside k (threadAt s i .base) o)
+      go t q (open′ body (ins ⨾ c) k r o f w g x y) =
+          at-place ins t q (stands-inside (r .stands)) (ready-op r)
+          (from-inside sum s i (threadAt s i) h ins body c k (record { ready = r; goes-on = o; height = f; somewhere = w; again = g; outer = x; same = y }))
+
+-- ---- what a step leaves
+pub same-start : (a b : Thread) → a .start ≡ b .start → exists b ≡ true → exists a ≡ true
+same-start a b e x = ap (λ (n : ℕ). not (eqb n 0)) e ∙ x
+
+getD-front : (xs : List (Task byValue)) (y : Task byValue) (k : ℕ) → k < length xs → getD (xs ++ (y ∷ [])) k (over byValue) ≡ getD xs k (over byValue)
+getD-front [] y k l = absurd (omega arith)
+getD-front (x ∷ xs) y zero l = refl
+getD-front (x ∷ xs) y (suc k) l = getD-front xs y k (omega arith)
+
+pub less-than : (k l n : ℕ) → (k ≡ n → ⊥) → k < suc n → n ≡ l → k < l
+less-than k l n z f w = go (decLt k l)
+  where
+    go : Dec (k < l) → k < l
+    go (yes x) = x
+    go (no x) = absurd (z (omega arith))
+
+module _ {bytes : List ℕ} where
+  -- a thread's record and its task change
+  changed : (s : State) (sys : System byValue) → Mirrors bytes s sys → (i : ℕ) → i < length (sys .tasks) → (rs : List ℤ) (t : Thread) (task : Task byValue) → t .start ≡ threadAt s i .start → Shows bytes t task → Mirrors bytes (record { registers = rs; threads = set (s .threads) i t }) (record { table = rs; tasks = set (sys .tasks) i task })
+  changed s sys m i l rs t task e x =
+      record {
+        records = length-set (s .threads) i t ∙ m .records;
+        table = refl;
+        number = number-is (set (s .threads) i t) (length (set (sys .tasks) i task)) each last;
+        shown = each-shown;
+      }
+    where
+      n : i < length (s .threads)
+      n = number-small (s .threads) i (subst (λ (k : ℕ). i < k) (sym (m .number)) l)
+
+      long : length (set (sys .tasks) i task) ≡ length (sys .tasks)
+      long = length-set (sys .tasks) i task
+
+      at-i : (k : ℕ) → k ≡ i → getD (set (s .threads) i t) k blank ≡ t
+      at-i k q = subst (λ (y : ℕ). getD (set (s .threads) i t) y blank ≡ t) (sym q) (getD-set-same (s .threads) i t blank n)
+
+      each : (k : ℕ) → k < length (set (sys .tasks) i task) → exists (getD (set (s .threads) i t) k blank) ≡ true
+      each k less = go (eqb k i) refl
+        where
+          old : (y : ℕ) → y < length (sys .tasks) → exists (threadAt s y) ≡ true
+          old y z = below-exists s y (subst (λ (q : ℕ). y < q) (sym (m .number)) z)
+
+          go : (b : Bool) → eqb k i ≡ b → exists (getD (set (s .threads) i t) k blank) ≡ true
+          go true q = ap (λ (y : Thread). exists y) (at-i k (eqb-true k i q)) ∙ same-start t (threadAt s i) e (old i l)
+          go false q = ap (λ (y : Thread). exists y) (getD-set-other (s .threads) i k t blank (eqb-false k i q)) ∙ old k (omega (arith, long))
+
+      last : exists (getD (set (s .threads) i t) (length (set (sys .tasks) i task)) blank) ≡ false
+      last =
+          ap (λ (y : ℕ). exists (getD (set (s .threads) i t) y blank)) (long ∙ sym (m .number))
+          ∙ (ap (λ (y : Thread). exists y) (getD-set-other (s .threads) i (numberOf (s .threads)) t blank (λ q. absurd (let z = m .number in omega arith))) ∙ at-end (s .threads))
+
+      each-shown : (k : ℕ) → k < length (set (sys .tasks) i task) → Shows bytes (getD (set (s .threads) i t) k blank) (getD (set (sys .tasks) i task) k (over byValue))
+      each-shown k less = go (eqb k i) refl
+        where
+          go : (b : Bool) → eqb k i ≡ b → Shows bytes (getD (set (s .threads) i t) k blank) (getD (set (sys .tasks) i task) k (over byValue))
+          go true q =
+              let z : k ≡ i = eqb-true k i q in
+              let a : getD (set (s .threads) i t) k blank ≡ t = at-i k z in
+              let b : getD (set (sys .tasks) i task) k (over byValue) ≡ task = subst (λ (y : ℕ). getD (set (sys .tasks) i task) y (over byValue) ≡ task) (sym z) (getD-set-same (sys .tasks) i task (over byValue) l) in
+              subst (λ (y : Task byValue). Shows bytes (getD (set (s .threads) i t) k blank) y) (sym b) (subst (λ (y : Thread). Shows bytes y task) (sym a) x)
+          go false q =
+              let z = eqb-false k i q in
+              let a = getD-set-other (s .threads) i k t blank z in
+              let b = getD-set-other (sys .tasks) i k task (over byValue) z in
+              subst (λ (y : Task byValue). Shows bytes (getD (set (s .threads) i t) k blank) y) (sym b) (subst (λ (y : Thread). Shows bytes y (taskAt byValue sys k)) (sym a) (m .shown k (omega (arith, long))))
+
+  -- a child's record and its task come behind
+  grown : (s : State) (sys : System byValue) → Mirrors bytes s sys → numberOf (s .threads) < 16 → exists (getD (s .threads) (suc (numberOf (s .threads))) blank) ≡ false → (t : Thread) (task : Task byValue) → exists t ≡ true → Shows bytes t task → Mirrors bytes (record { registers = s .registers; threads = set (s .threads) (numberOf (s .threads)) t }) (record { table = sys .table; tasks = sys .tasks ++ (task ∷ []) })
+  grown s sys m room none t task e x =
+      record {
+        records = length-set (s .threads) (numberOf (s .threads)) t ∙ m .records;
+        table = m .table;
+        number = number-is (set (s .threads) n t) (length (sys .tasks ++ (task ∷ []))) each last;
+        shown = each-shown;
+      }
+    where
+      n : ℕ
+      n = numberOf (s .threads)
+
+      small : n < length (s .threads)
+      small = subst (λ (k : ℕ). n < k) (sym (m .records)) room
+
+      long : length (sys .tasks ++ (task ∷ [])) ≡ suc n
+      long = length-append (sys .tasks) (task ∷ []) ∙ (let z = m .number in omega arith)
+
+      at-n : (k : ℕ) → k ≡ n → getD (set (s .threads) n t) k blank ≡ t
+      at-n k q = subst (λ (y : ℕ). getD (set (s .threads) n t) y blank ≡ t) (sym q) (getD-set-same (s .threads) n t blank small)
+
+      each : (k : ℕ) → k < length (sys .tasks ++ (task ∷ [])) → exists (getD (set (s .threads) n t) k blank) ≡ true
+      each k less = go (eqb k n) refl
+        where
+          go : (b : Bool) → eqb k n ≡ b → exists (getD (set (s .threads) n t) k blank) ≡ true
+          go true q = ap (λ (y : Thread). exists y) (at-n k (eqb-true k n q)) ∙ e
+          go false q = let z = eqb-false k n q in ap (λ (y : Thread). exists y) (getD-set-other (s .threads) n k t blank z) ∙ below-exists s k (let f : k < suc n = subst (λ (y : ℕ). k < y) long less in less-than k n n z f refl)
+
+      last : exists (getD (set (s .threads) n t) (length (sys .tasks ++ (task ∷ []))) blank) ≡ false
+      last = ap (λ (y : ℕ). exists (getD (set (s .threads) n t) y blank)) long ∙ (ap (λ (y : Thread). exists y) (getD-set-other (s .threads) n (suc n) t blank (λ q. absurd (omega arith))) ∙ none)
+
+      each-shown : (k : ℕ) → k < length (sys .tasks ++ (task ∷ [])) → Shows bytes (getD (set (s .threads) n t) k blank) (getD (sys .tasks ++ (task ∷ [])) k (over byValue))
+      each-shown k less = go (eqb k n) refl
+        where
+          go : (b : Bool) → eqb k n ≡ b → Shows bytes (getD (set (s .threads) n t) k blank) (getD (sys .tasks ++ (task ∷ [])) k (over byValue))
+          go true q =
+              let z : k ≡ length (sys .tasks) = eqb-true k n q ∙ m .number in
+              let b : getD (sys .tasks ++ (task ∷ [])) k (over byValue) ≡ task = subst (λ (y : ℕ). getD (sys .tasks ++ (task ∷ [])) y (over byValue) ≡ task) (sym z) (getD-append-seam (sys .tasks) task [] (over byValue)) in
+              subst (λ (y : Task byValue). Shows bytes (getD (set (s .threads) n t) k blank) y) (sym b) (subst (λ (y : Thread). Shows bytes y task) (sym (at-n k (eqb-true k n q))) x)
+          go false q =
+              let z = eqb-false k n q in
+              let f : k < suc n = subst (λ (y : ℕ). k < y) long less in
+              let g : k < length (sys .tasks) = let w = m .number in less-than k (length (sys .tasks)) n z f w in
+              subst (λ (y : Task byValue). Shows bytes (getD (set (s .threads) n t) k blank) y) (sym (getD-front (sys .tasks) task k g)) (subst (λ (y : Thread). Shows bytes y (taskAt byValue sys k)) (sym (getD-set-other (s .threads) n k t blank z)) (m .shown k g))
+
+-- ---- a pick
+pub or-true : (b : Bool) → (b || true) ≡ true
+or-true true = refl
+or-true false = refl
+
+getD-out : (xs : List (Task byValue)) (i : ℕ) → length xs ≤ i → getD xs i (over byValue) ≡ over byValue
+getD-out [] i l = refl
+getD-out (x ∷ xs) zero l = absurd (omega arith)
+getD-out (x ∷ xs) (suc i) l = getD-out xs i (omega arith)
+
+over-idle : (sum : Rule) (table : List ℤ) (t : Task byValue) → t ≡ over byValue → stepTask byValue sum table t ≡ record { task = t; table = table; children = []; event = idle }
+unfolding stepTask stepOutside
+over-idle sum table t e = ap (λ (x : Task byValue). stepTask byValue sum table x) e ∙ ap (λ (x : Task byValue). record { task = x; table = table; children = []; event = idle }) (sym e)
+
+pub spawned-exists : (start end : ℕ) → 1 ≤ start → exists (spawned start end) ≡ true
+unfolding spawned
+spawned-exists start end l = rw (ne-eqb start 0 (λ z. absurd (omega arith)))
+
+spawned-shows : {bytes : List ℕ} (start end : ℕ) (k : Code) → Ready bytes start end k 0 → Outside k 0 → Shows bytes (spawned start end) (outside k [])
+unfolding spawned stackFrom
+spawned-shows start end k r o = shut k r o refl
+
+module _ (bytes : List ℕ) (sum : Rule) where
+  -- a pick that leaves both as they were
+  still : (s : State) (sys : System byValue) → Mirrors bytes s sys → (i : ℕ) → pick sum bytes s i ≡ record { state = s; event = idle } → did byValue sum sys i ≡ record { task = taskAt byValue sys i; table = sys .table; children = []; event = idle } → Mirrored bytes sum s sys i
+  unfolding next
+  still s sys m i p d =
+      let a : put byValue sys i (did byValue sum sys i) ≡ record { table = sys .table; tasks = set (sys .tasks) i (taskAt byValue sys i) ++ [] } = ap (λ (x : Did byValue). put byValue sys i x) d in
+      let b : set (sys .tasks) i (taskAt byValue sys i) ++ [] ≡ sys .tasks = append-nil (set (sys .tasks) i (taskAt byValue sys i)) ∙ set-getD (sys .tasks) i (over byValue) in
+      let c : put byValue sys i (did byValue sum sys i) ≡ sys = a ∙ ap (λ (x : List (Task byValue)). record { table = sys .table; tasks = x }) b in
+      record {
+        event = ap (λ (x : Stepped). x .event) p ∙ sym (ap (λ (x : Did byValue). x .event) d);
+        mirrors = subst (λ (x : System byValue). Mirrors bytes (pick sum bytes s i .state) x) (sym c) (subst (λ (x : Stepped). Mirrors bytes (x .state) sys) (sym p) m);
+      }
+
+  -- a step of thread i and of its task
+  stepped : (s : State) (sys : System byValue) → Mirrors bytes s sys → ((i : ℕ) → Exists s (suc i) → Exists s i) → (i : ℕ) → i < length (sys .tasks) → (old : List Child) (r : Stepped) (d : Did byValue) → ((k : Code) → d .children ≡ k ∷ [] → numberOf (s .threads) < 16) → Simulated bytes s i (threadAt s i) old r d → Mirrors bytes (r .state) (put byValue sys i d)
+  stepped s sys m gap i l old r d room x =
+      subst (λ (rs : List ℤ). Mirrors bytes (r .state) (record { table = rs; tasks = set (sys .tasks) i (d .task) ++ started byValue (d .children) })) (x .registers)
+      (go (d .children) (x .born) (r .state .threads) (x .threads) room)
+    where
+      one : Mirrors bytes (record { registers = r .state .registers; threads = set (s .threads) i (x .thread) }) (record { table = r .state .registers; tasks = set (sys .tasks) i (d .task) })
+      one = changed s sys m i l (r .state .registers) (x .thread) (d .task) (x .start) (x .shows)
+
+      number : numberOf (set (s .threads) i (x .thread)) ≡ numberOf (s .threads)
+      number = one .number ∙ (length-set (sys .tasks) i (d .task) ∙ sym (m .number))
+
+      behind′ : exists (getD (s .threads) (suc (numberOf (s .threads))) blank) ≡ false
+      behind′ = no (exists (getD (s .threads) (suc (numberOf (s .threads))) blank)) refl
+        where
+          no : (b : Bool) → exists (getD (s .threads) (suc (numberOf (s .threads))) blank) ≡ b → b ≡ false
+          no true e = never (gap (numberOf (s .threads)) e) (at-end (s .threads))
+          no false e = refl
+
+      behind : exists (getD (set (s .threads) i (x .thread)) (suc (numberOf (set (s .threads) i (x .thread)))) blank) ≡ false
+      behind =
+          ap (λ (y : ℕ). exists (getD (set (s .threads) i (x .thread)) (suc y) blank)) number
+          ∙ (ap (λ (y : Thread). exists y) (getD-set-other (s .threads) i (suc (numberOf (s .threads))) (x .thread) blank (λ q. absurd (let z = m .number in omega arith))) ∙ behind′)
+
+      go : (ks : List Code) (bs : List Child) (ts : List Thread) → Born bytes (set (s .threads) i (x .thread)) (numberOf (s .threads)) ks bs ts → ((k : Code) → ks ≡ k ∷ [] → numberOf (s .threads) < 16) → Mirrors bytes (record { registers = r .state .registers; threads = ts }) (record { table = r .state .registers; tasks = set (sys .tasks) i (d .task) ++ started byValue ks })
+      go ks bs ts nobody f = subst (λ (y : List (Task byValue)). Mirrors bytes (record { registers = r .state .registers; threads = set (s .threads) i (x .thread) }) (record { table = r .state .registers; tasks = y })) (sym (append-nil (set (sys .tasks) i (d .task)))) one
+      go ks bs ts (child {k} start end ready o there) f =
+          subst (λ (y : ℕ). Mirrors bytes (record { registers = r .state .registers; threads = set (set (s .threads) i (x .thread)) y (spawned start end) }) (record { table = r .state .registers; tasks = set (sys .tasks) i (d .task) ++ (outside k [] ∷ []) })) number
+          (grown (record { registers = r .state .registers; threads = set (s .threads) i (x .thread) }) (record { table = r .state .registers; tasks = set (sys .tasks) i (d .task) }) one (subst (λ (y : ℕ). y < 16) (sym number) (f k refl)) behind (spawned start end) (outside k []) (spawned-exists start end there) (spawned-shows start end k ready o))
+
+  -- a number with no thread is idle in both
+  pub idle-missing : (s : State) (sys : System byValue) → Mirrors bytes s sys → ((i : ℕ) → Exists s (suc i) → Exists s i) → (i : ℕ) → length (sys .tasks) ≤ i → (pick sum bytes s i ≡ record { state = s; event = idle }) × (did byValue sum sys i ≡ record { task = taskAt byValue sys i; table = sys .table; children = []; event = idle })
+  idle-missing s sys m gap i l = go (exists (threadAt s i)) refl
+    where
+      go : (b : Bool) → exists (threadAt s i) ≡ b → (pick sum bytes s i ≡ record { state = s; event = idle }) × (did byValue sum sys i ≡ record { task = taskAt byValue sys i; table = sys .table; children = []; event = idle })
+      go true e = absurd (let a = exists-below s gap i e in let z = m .number in omega arith)
+      go false e = (idles bytes sum s i (rw e (or-true (not (ltb i (length (s .threads)))))), over-idle sum (sys .table) (taskAt byValue sys i) (getD-out (sys .tasks) i l))
+
+  -- a pick does the same to a state and to the system that it shows
+  pub pick-mirrors : (s : State) (sys : System byValue) → Mirrors bytes s sys → ((i : ℕ) → Exists s (suc i) → Exists s i) → (i : ℕ) → (Exists s i → Held bytes (threadAt s i)) → ((k : Code) → did byValue sum sys i .children ≡ k ∷ [] → numberOf (s .threads) < 16) → Mirrored bytes sum s sys i
+  unfolding next
+  pick-mirrors s sys m gap i holds room = go (decLt i (length (sys .tasks)))
+    where
+      there : i < length (sys .tasks) → Exists s i
+      there l = below-exists s i (subst (λ (k : ℕ). i < k) (sym (m .number)) l)
+
+      by : (old : List Child) → i < length (sys .tasks) → Picked bytes sum s sys i old → Mirrored bytes sum s sys i
+      by old l (stood p d) = still s sys m i p d
+      by old l (went r p e x) =
+          record {
+            event = ap (λ (y : Stepped). y .event) p ∙ x .event;
+            mirrors = subst (λ (y : Stepped). Mirrors bytes (y .state) (put byValue sys i (did byValue sum sys i))) (sym p) (stepped s sys m gap i l old r (did byValue sum sys i) room x);
+          }
+
+      go : Dec (i < length (sys .tasks)) → Mirrored bytes sum s sys i
+      go (yes l) = let h = holds (there l) in by (h .placed .walked .children) l (works bytes sum s sys m i l h)
+      go (no l) = let x = idle-missing s sys m gap i (omega arith) in still s sys m i (x .0) (x .1)

@@ -1,0 +1,315 @@
+-- Each instruction leaves a thread's record as one that fits, and of its type. Assumes nothing.
+use Prim.Native.Nat.{ℕ, zero, suc, _+_, _-_, _≤_, _<_}
+use mathlib.Core.Bool.{false}
+use mathlib.Core.Path.{_≡_, refl, sym, ap, subst, _∙_}
+use mathlib.Core.List.{List, [], _∷_, _++_}
+use native.Mathlib.Omega.{arith}
+use native.Mathlib.Decide.{decLt}
+use lib.IntN.{ℤ, pos}
+use lib.ListN.{length, drop, getD, set, take, replicate, length-set, length-append, length-replicate}
+use lib.Seq.{getD-set-same, getD-set-other, length-take-le}
+use Rattle.machine.specs.declared.Thread.{Thread}
+use Rattle.machine.specs.Threads.{zeros, spawned, push, add, begin, below, sourceOf, readFrom, noted, read, write, closed}
+use Rattle.stm.specs.Events.{Source, fromWrites, fromReads, fromTable}
+use Rattle.machine.specs.Fits.{Child, unmoved, walkOp, nextPlace, Walks, starts, passes, Placed, TypedThread}
+use Rattle.code.specs.Reader.{Op, opAt}
+use Rattle.code.specs.Reader as code
+use Rattle.script.specs.Outcome.{done}
+use Rattle.word.specs.Registers.{member, with}
+use Rattle.word.specs.Sum.{Rule}
+use Rattle.word.proofs.Sets.{member-same, member-other}
+
+-- ---- lists of 64 numbers
+pub getD-zeros : (n i : ℕ) → getD (replicate n (pos 0)) i (pos 0) ≡ pos 0
+getD-zeros zero i = refl
+getD-zeros (suc n) zero = refl
+getD-zeros (suc n) (suc i) = getD-zeros n i
+
+getD-short : (ns : List ℤ) (i : ℕ) → length ns ≤ i → getD ns i (pos 0) ≡ pos 0
+getD-short [] i l = refl
+getD-short (n ∷ ns) zero l = absurd (omega arith)
+getD-short (n ∷ ns) (suc i) l = getD-short ns i (omega arith)
+
+-- the cells of `closed`: those below the height stay, the others are 0
+pub closed-below : (h : ℕ) (cells : List ℤ) (i : ℕ) → i < h → h ≤ length cells → getD (take h cells ++ replicate (64 - h) (pos 0)) i (pos 0) ≡ getD cells i (pos 0)
+closed-below zero cells i l m = absurd (omega arith)
+closed-below (suc h) [] i l m = absurd (omega arith)
+closed-below (suc h) (c ∷ cs) zero l m = refl
+closed-below (suc h) (c ∷ cs) (suc i) l m = below′ h cs i (64 - suc h) (omega arith) (omega arith)
+  where
+    below′ : (h : ℕ) (cells : List ℤ) (i n : ℕ) → i < h → h ≤ length cells → getD (take h cells ++ replicate n (pos 0)) i (pos 0) ≡ getD cells i (pos 0)
+    below′ zero cells i n l m = absurd (omega arith)
+    below′ (suc h) [] i n l m = absurd (omega arith)
+    below′ (suc h) (c ∷ cs) zero n l m = refl
+    below′ (suc h) (c ∷ cs) (suc i) n l m = below′ h cs i n (omega arith) (omega arith)
+
+pub closed-above : (h : ℕ) (cells : List ℤ) (n i : ℕ) → h ≤ i → getD (take h cells ++ replicate n (pos 0)) i (pos 0) ≡ pos 0
+closed-above zero cells n i l = getD-zeros n i
+closed-above (suc h) [] n i l = getD-zeros n i
+closed-above (suc h) (c ∷ cs) n zero l = absurd (omega arith)
+closed-above (suc h) (c ∷ cs) n (suc i) l = closed-above h cs n i (omega arith)
+
+zeros-long : length zeros ≡ 64
+zeros-long = refl
+
+-- ---- types
+pub typed-push : (n : ℤ) (next : ℕ) (t : Thread) → TypedThread t → TypedThread (push n next t)
+unfolding push
+typed-push n next t y = record { cells = length-set (t .cells) (t .height) n ∙ y .cells; seen = y .seen; kept = y .kept }
+
+pub typed-add : (sum : Rule) (t : Thread) → TypedThread t → TypedThread (add sum t)
+unfolding add
+typed-add sum t y =
+    record {
+      cells = length-set (set (t .cells) (t .height - 2) (sum (below t 2) (below t 1))) (t .height - 1) (pos 0) ∙ (length-set (t .cells) (t .height - 2) (sum (below t 2) (below t 1)) ∙ y .cells);
+      seen = y .seen;
+      kept = y .kept;
+    }
+
+pub typed-begin : (t : Thread) → TypedThread t → TypedThread (begin t)
+unfolding begin
+typed-begin t y = record { cells = y .cells; seen = zeros-long; kept = zeros-long }
+
+typed-noted : (from : Source) (v : ℕ) (n : ℤ) (t : Thread) → TypedThread t → TypedThread (noted from v n t)
+typed-noted fromWrites v n t y = y
+typed-noted fromReads v n t y = y
+typed-noted fromTable v n t y = record { cells = y .cells; seen = length-set (t .seen) v _ ∙ y .seen; kept = y .kept }
+
+pub typed-read : (table : List ℤ) (v : ℕ) (t : Thread) → TypedThread t → TypedThread (read table v t)
+unfolding read
+typed-read table v t y = typed-push _ _ _ (typed-noted (sourceOf t v) v (readFrom (sourceOf t v) table t v) t y)
+
+pub typed-write : (v : ℕ) (t : Thread) → TypedThread t → TypedThread (write v t)
+unfolding write
+typed-write v t y = record { cells = y .cells; seen = y .seen; kept = length-set (t .kept) v (below t 1) ∙ y .kept }
+
+pub typed-closed : (place height : ℕ) (t : Thread) → height ≤ 64 → TypedThread t → TypedThread (closed place height t)
+unfolding closed
+typed-closed place height t l y =
+    let c = y .cells in
+    let a : length (take height (t .cells)) ≡ height = length-take-le height (t .cells) (omega arith) in
+    let b : length (replicate (64 - height) (pos 0)) ≡ 64 - height = length-replicate (64 - height) (pos 0) in
+    record {
+      cells = length-append (take height (t .cells)) (replicate (64 - height) (pos 0)) ∙ (omega arith);
+      seen = zeros-long;
+      kept = zeros-long;
+    }
+
+pub typed-spawned : (start end : ℕ) → TypedThread (spawned start end)
+unfolding spawned
+typed-spawned start end = record { cells = zeros-long; seen = zeros-long; kept = zeros-long }
+
+-- ---- places
+pub push-free : (cells : List ℤ) (h : ℕ) (n : ℤ) → ((i : ℕ) → h ≤ i → getD cells i (pos 0) ≡ pos 0) → (i : ℕ) → suc h ≤ i → getD (set cells h n) i (pos 0) ≡ pos 0
+push-free cells h n f i l = getD-set-other cells h i n (pos 0) (λ e. absurd (omega arith)) ∙ f i (omega arith)
+
+module _ {bytes : List ℕ} (t : Thread) (p : Placed bytes t) (inside : t .place < t .end) where
+  -- PUSH, and FORK's 0
+  unfoldable pub placed-push : (op : Op) (n : ℤ) → opAt (drop (t .place) bytes) ≡ done op → walkOp op (t .place) (p .walked) .height ≡ suc (p .walked .height) → walkOp op (t .place) (p .walked) .begin ≡ p .walked .begin → walkOp op (t .place) (p .walked) .base ≡ p .walked .base → Placed bytes (push n (nextPlace op (t .place)) t)
+  unfolding push
+  placed-push op n e h b c =
+      record {
+        walked = walkOp op (t .place) (p .walked);
+        walks = passes (p .walks) inside e;
+        height = ap suc (p .height) ∙ sym h;
+        begin = p .begin ∙ sym b;
+        base = p .base ∙ sym c;
+        no-reads = λ z. p .no-reads (sym b ∙ z);
+        no-writes = λ z. p .no-writes (sym b ∙ z);
+        seen-free = p .seen-free;
+        kept-free = p .kept-free;
+        cells-free = push-free (t .cells) (t .height) n (p .cells-free);
+      }
+
+  unfoldable pub placed-add : (sum : Rule) → opAt (drop (t .place) bytes) ≡ done code.add → 2 ≤ t .height → t .height ≤ length (t .cells) → Placed bytes (add sum t)
+  unfolding add walkOp nextPlace
+  placed-add sum e two room =
+      record {
+        walked = walkOp code.add (t .place) (p .walked);
+        walks = passes (p .walks) inside e;
+        height = ap (λ (h : ℕ). h - 1) (p .height);
+        begin = p .begin;
+        base = p .base;
+        no-reads = p .no-reads;
+        no-writes = p .no-writes;
+        seen-free = p .seen-free;
+        kept-free = p .kept-free;
+        cells-free = above;
+      }
+    where
+      once : List ℤ
+      once = set (t .cells) (t .height - 2) (sum (below t 2) (below t 1))
+
+      above : (i : ℕ) → t .height - 1 ≤ i → getD (set (set (t .cells) (t .height - 2) (sum (below t 2) (below t 1))) (t .height - 1) (pos 0)) i (pos 0) ≡ pos 0
+      above i l = at (decLt (t .height - 1) i)
+        where
+          at : Dec (t .height - 1 < i) → getD (set once (t .height - 1) (pos 0)) i (pos 0) ≡ pos 0
+          at (yes less) = getD-set-other once (t .height - 1) i (pos 0) (pos 0) (λ x. absurd (omega arith)) ∙ (getD-set-other (t .cells) (t .height - 2) i (sum (below t 2) (below t 1)) (pos 0) (λ x. absurd (omega arith)) ∙ p .cells-free i (omega arith))
+          at (no more) =
+              let x : i ≡ t .height - 1 = omega arith in
+              let s = length-set (t .cells) (t .height - 2) (sum (below t 2) (below t 1)) in
+              ap (λ (n : ℕ). getD (set once (t .height - 1) (pos 0)) n (pos 0)) x ∙ getD-set-same once (t .height - 1) (pos 0) (pos 0) (omega arith)
+
+  not-closed : {A : Type 0} → 1 ≤ t .begin → p .walked .begin ≡ 0 → A
+  not-closed open′ z = absurd (let b = p .begin in omega arith)
+
+  noted-free : (v : ℕ) → v < 64 → (n : ℤ) (u : ℕ) → member (with (t .reads) v) u ≡ false → getD (set (t .seen) v n) u (pos 0) ≡ pos 0
+  noted-free v small n u m =
+      let ne : u ≡ v → ⊥ = λ x. let f : member (with (t .reads) v) v ≡ false = subst (λ (k : ℕ). member (with (t .reads) v) k ≡ false) x m in absurd (let g = member-same (t .reads) v small in let z : _≡_ {A = ℕ} 0 1 = cc in omega arith) in
+      getD-set-other (t .seen) v u n (pos 0) ne ∙ p .seen-free u (sym (member-other (t .reads) v u ne) ∙ m)
+
+  -- READ, a transaction being open
+  placed-noted : (v : ℕ) → v < 64 → opAt (drop (t .place) bytes) ≡ done (code.read v) → 1 ≤ t .begin → (from : Source) (n : ℤ) → Placed bytes (push n (t .place + 2) (noted from v n t))
+  unfolding push walkOp nextPlace
+  placed-noted v small e open′ fromWrites n =
+      record {
+        walked = walkOp (code.read v) (t .place) (p .walked);
+        walks = passes (p .walks) inside e;
+        height = ap suc (p .height);
+        begin = p .begin;
+        base = p .base;
+        no-reads = not-closed open′;
+        no-writes = not-closed open′;
+        seen-free = p .seen-free;
+        kept-free = p .kept-free;
+        cells-free = push-free (t .cells) (t .height) n (p .cells-free);
+      }
+  placed-noted v small e open′ fromReads n =
+      record {
+        walked = walkOp (code.read v) (t .place) (p .walked);
+        walks = passes (p .walks) inside e;
+        height = ap suc (p .height);
+        begin = p .begin;
+        base = p .base;
+        no-reads = not-closed open′;
+        no-writes = not-closed open′;
+        seen-free = p .seen-free;
+        kept-free = p .kept-free;
+        cells-free = push-free (t .cells) (t .height) n (p .cells-free);
+      }
+  placed-noted v small e open′ fromTable n =
+      record {
+        walked = walkOp (code.read v) (t .place) (p .walked);
+        walks = passes (p .walks) inside e;
+        height = ap suc (p .height);
+        begin = p .begin;
+        base = p .base;
+        no-reads = not-closed open′;
+        no-writes = not-closed open′;
+        seen-free = noted-free v small _;
+        kept-free = p .kept-free;
+        cells-free = push-free (t .cells) (t .height) n (p .cells-free);
+      }
+
+  pub placed-read : (table : List ℤ) (v : ℕ) → v < 64 → opAt (drop (t .place) bytes) ≡ done (code.read v) → 1 ≤ t .begin → Placed bytes (read table v t)
+  unfolding read
+  placed-read table v small e open′ = placed-noted v small e open′ (sourceOf t v) (readFrom (sourceOf t v) table t v)
+
+  -- READ, COMMIT and a send-back pass no FORK
+  pub read-kids : (table : List ℤ) (v : ℕ) (small : v < 64) (e : opAt (drop (t .place) bytes) ≡ done (code.read v)) (open′ : 1 ≤ t .begin) → placed-read table v small e open′ .walked .children ≡ p .walked .children
+  unfolding placed-read read placed-noted walkOp
+  read-kids table v small e open′ = go (sourceOf t v) (readFrom (sourceOf t v) table t v)
+    where
+      go : (from : Source) (n : ℤ) → placed-noted v small e open′ from n .walked .children ≡ p .walked .children
+      go fromWrites n = refl
+      go fromReads n = refl
+      go fromTable n = refl
+
+  unfoldable pub placed-write : (v : ℕ) → v < 64 → opAt (drop (t .place) bytes) ≡ done (code.write v) → 1 ≤ t .begin → Placed bytes (write v t)
+  unfolding write walkOp nextPlace
+  placed-write v small e open′ =
+      record {
+        walked = walkOp (code.write v) (t .place) (p .walked);
+        walks = passes (p .walks) inside e;
+        height = p .height;
+        begin = p .begin;
+        base = p .base;
+        no-reads = not-closed;
+        no-writes = not-closed;
+        seen-free = p .seen-free;
+        kept-free = written-free;
+        cells-free = p .cells-free;
+      }
+    where
+      not-closed : {A : Type 0} → p .walked .begin ≡ 0 → A
+      not-closed z = absurd (let b = p .begin in omega arith)
+
+      written-free : (u : ℕ) → member (with (t .writes) v) u ≡ false → getD (set (t .kept) v (below t 1)) u (pos 0) ≡ pos 0
+      written-free u m =
+          let ne : u ≡ v → ⊥ = λ x. let f : member (with (t .writes) v) v ≡ false = subst (λ (k : ℕ). member (with (t .writes) v) k ≡ false) x m in absurd (let g = member-same (t .writes) v small in let z : _≡_ {A = ℕ} 0 1 = cc in omega arith) in
+          getD-set-other (t .kept) v u (below t 1) (pos 0) ne ∙ p .kept-free u (sym (member-other (t .writes) v u ne) ∙ m)
+
+  unfoldable pub placed-begin : opAt (drop (t .place) bytes) ≡ done code.begin → 1 ≤ t .place → Placed bytes (begin t)
+  unfolding begin walkOp nextPlace
+  placed-begin e there =
+      record {
+        walked = walkOp code.begin (t .place) (p .walked);
+        walks = passes (p .walks) inside e;
+        height = p .height;
+        begin = refl;
+        base = p .height;
+        no-reads = λ z. refl;
+        no-writes = λ z. refl;
+        seen-free = λ v m. getD-zeros 64 v;
+        kept-free = λ v m. getD-zeros 64 v;
+        cells-free = p .cells-free;
+      }
+
+  -- a COMMIT that takes effect
+  unfoldable pub placed-commit : opAt (drop (t .place) bytes) ≡ done code.commit → Placed bytes (closed (t .place + 1) (t .height) t)
+  unfolding closed walkOp nextPlace
+  placed-commit e =
+      record {
+        walked = walkOp code.commit (t .place) (p .walked);
+        walks = passes (p .walks) inside e;
+        height = p .height;
+        begin = refl;
+        base = refl;
+        no-reads = λ z. refl;
+        no-writes = λ z. refl;
+        seen-free = λ v m. getD-zeros 64 v;
+        kept-free = λ v m. getD-zeros 64 v;
+        cells-free = λ n l. closed-above (t .height) (t .cells) (64 - t .height) n l;
+      }
+
+  pub commit-kids : (e : opAt (drop (t .place) bytes) ≡ done code.commit) → placed-commit e .walked .children ≡ p .walked .children
+  unfolding placed-commit walkOp
+  commit-kids e = refl
+
+-- a send-back
+unfoldable pub placed-back : {bytes : List ℕ} (t : Thread) (cs : List Child) → Walks bytes (t .start) (t .end) (t .begin) (record { height = t .base; begin = 0; base = 0; children = cs }) → Placed bytes (closed (t .begin) (t .base) t)
+unfolding closed
+placed-back t cs ws =
+    record {
+      walked = record { height = t .base; begin = 0; base = 0; children = cs };
+      walks = ws;
+      height = refl;
+      begin = refl;
+      base = refl;
+      no-reads = λ z. refl;
+      no-writes = λ z. refl;
+      seen-free = λ v m. getD-zeros 64 v;
+      kept-free = λ v m. getD-zeros 64 v;
+      cells-free = λ n l. closed-above (t .base) (t .cells) (64 - t .base) n l;
+    }
+
+pub back-kids : {bytes : List ℕ} (t : Thread) (cs : List Child) (ws : Walks bytes (t .start) (t .end) (t .begin) (record { height = t .base; begin = 0; base = 0; children = cs })) → placed-back t cs ws .walked .children ≡ cs
+unfolding placed-back
+back-kids t cs ws = refl
+
+-- a new thread
+unfoldable pub placed-spawned : (bytes : List ℕ) (start end : ℕ) → Placed bytes (spawned start end)
+unfolding spawned
+placed-spawned bytes start end =
+    record {
+      walked = unmoved;
+      walks = starts;
+      height = refl;
+      begin = refl;
+      base = refl;
+      no-reads = λ z. refl;
+      no-writes = λ z. refl;
+      seen-free = λ v m. getD-zeros 64 v;
+      kept-free = λ v m. getD-zeros 64 v;
+      cells-free = λ n l. getD-zeros 64 n;
+    }

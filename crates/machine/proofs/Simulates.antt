@@ -1,0 +1,410 @@
+-- What an instruction does to a thread's record, it does to the task that the record shows: the same event, the same table, the same child.
+-- Assumes nothing.
+use Prim.Native.Nat.{ℕ, zero, suc, _+_, _-_, _≤_, _<_}
+use mathlib.Core.Bool.{Bool, true, false, cond, not}
+use mathlib.Core.Path.{_≡_, refl, sym, ap, subst, _∙_}
+use mathlib.Core.List.{List, [], _∷_, _++_}
+use mathlib.Core.Option.{none, some}
+use native.Mathlib.Omega.{arith}
+use borrow.Author.Tests.{eq-eqb, ne-eqb}
+use lib.Dec.{ltb}
+use lib.IntN.{ℤ, pos}
+use lib.ListN.{length, getD, set}
+use Rattle.code.specs.Compile.{Instruction, Code, PUSH, ADD, READ, WRITE, BEGIN, COMMIT, FORK, _⨾_}
+use Rattle.code.specs.Bytes.{instructionsBytes}
+use Rattle.code.specs.Counts.{Takes}
+use Rattle.code.specs.Reader as code
+use Rattle.machine.specs.declared.Thread.{Thread}
+use Rattle.machine.specs.Threads.{zeros, spawned, push, add, begin, below, sourceOf, readFrom, noted, read, write, closed, firstStale, overlaid}
+use Rattle.stm.specs.Events.{Source, fromWrites, fromReads, fromTable, summed, looked, sentBack, committed}
+use Rattle.machine.specs.Steps.{State, Stepped, numberOf, put, commit, instruction}
+use Rattle.machine.specs.Fits.{Child, Walked, walkOp, nextPlace, Walks, Placed, TypedThread}
+use Rattle.machine.proofs.Walking.{not-before}
+use Rattle.machine.specs.Stands.{stackFrom, logOf, opOf, Ready}
+use Rattle.machine.proofs.Codes.{stands-inside, ready-op, ready-next, ready-child, ready-takes}
+use Rattle.machine.proofs.Shapes.{taking-two, taking-less, Shape, out, open′ as shape-open, shape}
+use Rattle.machine.proofs.Placings.{typed-push, typed-add, typed-begin, typed-read, typed-write, typed-closed, placed-push, placed-add, placed-read, read-kids, placed-write, placed-begin, placed-commit, commit-kids, placed-back, back-kids}
+use Rattle.machine.proofs.Showings.{Shows, shut, open′, stack-suc, stack-set, stack-push, stack-add, stack-closed, log-none, log-with, first-same, overlaid-same}
+use Rattle.stm.specs.Cells.{byValue}
+use Rattle.stm.specs.Tasks.{Log, outside, inside, Did, Found, logged, goes, found, foundIn, overwritten, commits, stepOutside, stepInside}
+use Rattle.stm.specs.Meaning.{TakesOutside, TakesInside, Outside, Inside, behind}
+use Rattle.word.specs.Registers.{member}
+use Rattle.word.specs.Sum.{Rule}
+
+-- a thread's record that fits, and its own code
+pub record Held (bytes : List ℕ) (t : Thread) : Type 0 where
+  pub typed : TypedThread t
+  pub placed : Placed bytes t
+  pub somewhere : 1 ≤ t .start
+  pub code : Code
+  pub region : Ready bytes (t .start) (t .end) code 0
+  pub outer : Outside code 0
+
+-- a forked child's record is the next one
+pub data Born (bytes : List ℕ) (ts : List Thread) (n : ℕ) : List Code → List Child → List Thread → Type 0 where
+  nobody : Born bytes ts n [] [] ts
+  child : {k : Code} (start end : ℕ) → Ready bytes start end k 0 → Outside k 0 → 1 ≤ start → Born bytes ts n (k ∷ []) (record { start = start; end = end } ∷ []) (set ts n (spawned start end))
+
+-- a step of thread i, which was t and had passed the FORKs of `old`, and the step of its task
+pub record Simulated (bytes : List ℕ) (s : State) (i : ℕ) (t : Thread) (old : List Child) (r : Stepped) (d : Did byValue) : Type 0 where
+  pub event : r .event ≡ d .event
+  pub registers : r .state .registers ≡ d .table
+  pub thread : Thread
+  pub born : List Child
+  pub threads : Born bytes (set (s .threads) i thread) (numberOf (s .threads)) (d .children) born (r .state .threads)
+  pub typed : TypedThread thread
+  pub placed : Placed bytes thread
+  pub kids : placed .walked .children ≡ born ++ old
+  pub shows : Shows bytes thread (d .task)
+  pub start : thread .start ≡ t .start
+  pub end : thread .end ≡ t .end
+
+shown-inside : {bytes : List ℕ} {t : Thread} {body c : Code} {b b′ σ σ′ : List ℤ} {r r′ w w′ : Log ℤ} → Shows bytes t (inside body b c σ r w) → b ≡ b′ → σ ≡ σ′ → r ≡ r′ → w ≡ w′ → Shows bytes t (inside body b′ c σ′ r′ w′)
+shown-inside {bytes} {t} {body} {c} {b} {b′} {σ} {σ′} {r} {r′} {w} {w′} s e f g h =
+    subst (λ (x : Log ℤ). Shows bytes t (inside body b′ c σ′ r′ x)) h
+    (subst (λ (x : Log ℤ). Shows bytes t (inside body b′ c σ′ x w)) g
+    (subst (λ (x : List ℤ). Shows bytes t (inside body b′ c x r w)) f
+    (subst (λ (x : List ℤ). Shows bytes t (inside body x c σ r w)) e s)))
+
+shown-outside : {bytes : List ℕ} {t : Thread} {c : Code} {σ σ′ : List ℤ} → Shows bytes t (outside c σ) → σ ≡ σ′ → Shows bytes t (outside c σ′)
+shown-outside {bytes} {t} {c} s e = subst (λ (x : List ℤ). Shows bytes t (outside c x)) e s
+
+-- where the BEGIN of an open transaction was
+back-walks : {bytes : List ℕ} {t : Thread} (h : Held bytes t) → 1 ≤ t .begin → Walks bytes (t .start) (t .end) (t .begin) (record { height = t .base; begin = 0; base = 0; children = h .placed .walked .children })
+back-walks {bytes} {t} h l = go (shape (h .region) (h .outer) (h .somewhere) (h .placed .walks))
+  where
+    w : Walked
+    w = h .placed .walked
+
+    go : Shape bytes (t .start) (t .end) (t .place) (h .placed .walked) → Walks bytes (t .start) (t .end) (t .begin) (record { height = t .base; begin = 0; base = 0; children = h .placed .walked .children })
+    go (out c r o z y) = absurd (let b = h .placed .begin in omega arith)
+    go (shape-open body c k r o e g) =
+        subst (λ (n : ℕ). Walks bytes (t .start) (t .end) (t .begin) (record { height = n; begin = 0; base = 0; children = h .placed .walked .children })) (sym (h .placed .base))
+        (subst (λ (n : ℕ). Walks bytes (t .start) (t .end) n (record { height = h .placed .walked .base; begin = 0; base = 0; children = h .placed .walked .children })) (sym (h .placed .begin)) (g .walks))
+
+module _ {bytes : List ℕ} (sum : Rule) (s : State) (j : ℕ) (t : Thread) (h : Held bytes t) where
+  abbrev pub Sim : Stepped → Did byValue → Type 0
+  Sim r d = Simulated bytes s j t (h .placed .walked .children) r d
+
+  -- ---- outside a transaction
+  pub from-outside : (i : Instruction) (c : Code) → Ready bytes (t .place) (t .end) (i ⨾ c) (t .height) → Outside (i ⨾ c) (t .height) → t .begin ≡ 0 → Sim (instruction sum s j t (opOf i)) (stepOutside byValue sum (s .registers) (i ⨾ c) (stackFrom (t .cells) 0 (t .height)))
+  unfolding instruction stepOutside Outside TakesOutside Takes nextPlace walkOp push begin placed-push placed-begin placed-add add stackFrom
+  from-outside (PUSH n) c r o z =
+      let l = stands-inside (r .stands) in
+      let y = h .typed .cells in
+      let k : suc (t .height) ≤ 64 = ready-takes r in
+      record {
+        event = refl;
+        registers = refl;
+        thread = push n (t .place + 5) t;
+        born = [];
+        threads = nobody;
+        typed = typed-push n (t .place + 5) t (h .typed);
+        placed = placed-push t (h .placed) l (code.push n) n (ready-op r) refl refl refl;
+        kids = refl;
+        shows = shown-outside (shut c (ready-next r) o z) (stack-push (t .cells) 0 (t .height) (t .height) n (omega arith) (omega arith));
+        start = refl;
+        end = refl;
+      }
+  from-outside (FORK m) c r o z =
+      let l = stands-inside (r .stands) in
+      let y = h .typed .cells in
+      let k : suc (t .height) ≤ 64 = ready-takes r .0 in
+      record {
+        event = refl;
+        registers = refl;
+        thread = push (pos 0) (t .place + 3 + length (instructionsBytes m)) t;
+        born = record { start = t .place + 3; end = t .place + 3 + length (instructionsBytes m) } ∷ [];
+        threads = child (t .place + 3) (t .place + 3 + length (instructionsBytes m)) (ready-child r) (o .0) (omega arith);
+        typed = typed-push (pos 0) (t .place + 3 + length (instructionsBytes m)) t (h .typed);
+        placed = placed-push t (h .placed) l (code.fork (length (instructionsBytes m))) (pos 0) (ready-op r) refl refl refl;
+        kids = refl;
+        shows = shown-outside (shut c (ready-next r) (o .1) z) (stack-push (t .cells) 0 (t .height) (t .height) (pos 0) (omega arith) (omega arith));
+        start = refl;
+        end = refl;
+      }
+  from-outside (READ v) c r o z = absurd o
+  from-outside (WRITE v) c r o z = absurd o
+  from-outside COMMIT c r o z = absurd o
+  from-outside BEGIN c r o z =
+      let l = stands-inside (r .stands) in
+      let n = not-before bytes (t .start) (t .end) (h .placed .walks) in
+      let w = h .somewhere in
+      record {
+        event = refl;
+        registers = refl;
+        thread = begin t;
+        born = [];
+        threads = nobody;
+        typed = typed-begin t (h .typed);
+        placed = placed-begin t (h .placed) l (ready-op r) (omega arith);
+        kids = refl;
+        shows = shown-inside (open′ c c 0 (ready-next r) o (omega arith) (omega arith) r o refl) refl nothing-above (log-none zeros) (log-none zeros);
+        start = refl;
+        end = refl;
+      }
+    where
+      nothing-above : stackFrom (t .cells) (t .height) 0 ≡ []
+      nothing-above = refl
+  from-outside ADD c r o z = add-outside (t .height - 2) (let two = taking-two (λ (x : ℕ). Outside c x) (t .height) o in let e : t .height ≡ suc (suc (t .height - 2)) = omega arith in e)
+    where
+      simulated : (k : ℕ) → t .height ≡ suc (suc k) → Sim (instruction sum s j t code.add) (stepOutside byValue sum (s .registers) (ADD ⨾ c) (stackFrom (t .cells) 0 (suc (suc k))))
+      simulated k e =
+          let l = stands-inside (r .stands) in
+          let y = h .typed .cells in
+          let room : t .height ≤ 64 = r .low in
+          record {
+            event = ap (λ (b : Bool). summed (not b)) (eq-eqb (t .begin) 0 z);
+            registers = refl;
+            thread = add sum t;
+            born = [];
+            threads = nobody;
+            typed = typed-add sum t (h .typed);
+            placed = placed-add t (h .placed) l sum (ready-op r) (omega arith) (omega arith);
+            kids = refl;
+            shows = shown-outside (shut c (ready-next r) (taking-less (λ (x : ℕ). Outside c x) (t .height) o) z) (added k e room);
+            start = refl;
+            end = refl;
+          }
+        where
+          added : (k : ℕ) → t .height ≡ suc (suc k) → t .height ≤ 64 → stackFrom (add sum t .cells) 0 (t .height - 1) ≡ sum (getD (t .cells) (k + 0) (pos 0)) (getD (t .cells) (suc k + 0) (pos 0)) ∷ stackFrom (t .cells) 0 k
+          added k e room =
+              let y = h .typed .cells in
+              let x : t .height - 1 ≡ suc k = omega arith in
+              let a : t .height - 2 ≡ k + 0 = omega arith in
+              let b : t .height - 1 ≡ suc k + 0 = omega arith in
+              rw (ap (λ (m : ℕ). stackFrom (add sum t .cells) 0 m) x, stack-add (t .cells) 0 k (t .height) (sum (below t 2) (below t 1)) (omega arith) (omega arith), a, b)
+
+      add-outside : (k : ℕ) → t .height ≡ suc (suc k) → Sim (instruction sum s j t code.add) (stepOutside byValue sum (s .registers) (ADD ⨾ c) (stackFrom (t .cells) 0 (t .height)))
+      add-outside k e = subst (λ (x : ℕ). Sim (instruction sum s j t code.add) (stepOutside byValue sum (s .registers) (ADD ⨾ c) (stackFrom (t .cells) 0 x))) (sym e) (simulated k e)
+
+  -- ---- inside a transaction
+  pub record Inner (i : Instruction) (body c : Code) (k : ℕ) : Type 0 where
+    pub ready : Ready bytes (t .place) (t .end) (i ⨾ c) (t .height)
+    pub goes-on : Inside (i ⨾ c) k (t .base)
+    pub height : t .height ≡ k + t .base
+    pub somewhere : 1 ≤ t .begin
+    pub again : Ready bytes (t .begin) (t .end) (BEGIN ⨾ body) (t .base)
+    pub outer : Outside (BEGIN ⨾ body) (t .base)
+    pub same : behind (i ⨾ c) ≡ behind body
+
+  abbrev pub reads : Log ℤ
+  reads = logOf (t .reads) (t .seen)
+
+  abbrev pub writes : Log ℤ
+  writes = logOf (t .writes) (t .kept)
+
+  abbrev pub below-base : List ℤ
+  below-base = stackFrom (t .cells) 0 (t .base)
+
+  inner-push : (n : ℤ) (body c : Code) (k : ℕ) → Inner (PUSH n) body c k → Sim (instruction sum s j t (code.push n)) (stepInside byValue sum (s .registers) body below-base (PUSH n ⨾ c) (stackFrom (t .cells) (t .base) k) reads writes)
+  unfolding instruction stepInside Inside TakesInside Takes nextPlace walkOp push placed-push behind
+  inner-push n body c k x =
+      let l = stands-inside (x .ready .stands) in
+      let y = h .typed .cells in
+      let e = x .height in
+      let m : suc (t .height) ≤ 64 = ready-takes (x .ready) in
+      record {
+        event = refl;
+        registers = refl;
+        thread = push n (t .place + 5) t;
+        born = [];
+        threads = nobody;
+        typed = typed-push n (t .place + 5) t (h .typed);
+        placed = placed-push t (h .placed) l (code.push n) n (ready-op (x .ready)) refl refl refl;
+        kids = refl;
+        shows = shown-inside (open′ body c (suc k) (ready-next (x .ready)) (x .goes-on) (omega arith) (x .somewhere) (x .again) (x .outer) (x .same)) (stack-set (t .cells) 0 (t .base) (t .height) n (omega arith)) (stack-push (t .cells) (t .base) k (t .height) n e (omega arith)) refl refl;
+        start = refl;
+        end = refl;
+      }
+
+  inner-add : (body c : Code) (k : ℕ) → Inner ADD body c (suc (suc k)) → Sim (instruction sum s j t code.add) (stepInside byValue sum (s .registers) body below-base (ADD ⨾ c) (stackFrom (t .cells) (t .base) (suc (suc k))) reads writes)
+  unfolding instruction stepInside Inside TakesInside nextPlace walkOp add placed-add behind stackFrom
+  inner-add body c k x =
+      let l = stands-inside (x .ready .stands) in
+      let y = h .typed .cells in
+      let e = x .height in
+      let room = x .ready .low in
+      record {
+        event = ap (λ (b : Bool). summed (not b)) (ne-eqb (t .begin) 0 (λ z. absurd (let w = x .somewhere in omega arith)));
+        registers = refl;
+        thread = add sum t;
+        born = [];
+        threads = nobody;
+        typed = typed-add sum t (h .typed);
+        placed = placed-add t (h .placed) l sum (ready-op (x .ready)) (omega arith) (omega arith);
+        kids = refl;
+        shows = shown-inside (open′ body c (suc k) (ready-next (x .ready)) (x .goes-on) (omega arith) (x .somewhere) (x .again) (x .outer) (x .same)) lower upper refl refl;
+        start = refl;
+        end = refl;
+      }
+    where
+      lower : stackFrom (set (set (t .cells) (t .height - 2) (sum (below t 2) (below t 1))) (t .height - 1) (pos 0)) 0 (t .base) ≡ below-base
+      lower =
+          let e = x .height in
+          stack-set (set (t .cells) (t .height - 2) (sum (below t 2) (below t 1))) 0 (t .base) (t .height - 1) (pos 0) (omega arith) ∙ stack-set (t .cells) 0 (t .base) (t .height - 2) (sum (below t 2) (below t 1)) (omega arith)
+
+      upper : stackFrom (set (set (t .cells) (t .height - 2) (sum (below t 2) (below t 1))) (t .height - 1) (pos 0)) (t .base) (suc k) ≡ sum (getD (t .cells) (k + t .base) (pos 0)) (getD (t .cells) (suc k + t .base) (pos 0)) ∷ stackFrom (t .cells) (t .base) k
+      upper =
+          let e = x .height in
+          let y = h .typed .cells in
+          let room = x .ready .low in
+          let a : t .height - 2 ≡ k + t .base = omega arith in
+          let b : t .height - 1 ≡ suc k + t .base = omega arith in
+          stack-add (t .cells) (t .base) k (t .height) (sum (below t 2) (below t 1)) e (omega arith) ∙ ap (λ (n : ℤ). n ∷ stackFrom (t .cells) (t .base) k) (ap (λ (p : ℕ). sum (getD (t .cells) p (pos 0)) (below t 1)) a ∙ ap (λ (p : ℕ). sum (getD (t .cells) (k + t .base) (pos 0)) (getD (t .cells) p (pos 0))) b)
+
+  -- READ finds in the logs and the table what it finds in the record's
+  found-same : (v : ℕ) → v < 64 → (a b : Bool) → foundIn byValue (cond a (some (getD (t .kept) v (pos 0))) none) (cond b (some (getD (t .seen) v (pos 0))) none) (getD (s .registers) v (pos 0)) reads v ≡ record {
+    value = readFrom (cond a fromWrites (cond b fromReads fromTable)) (s .registers) t v;
+    source = cond a fromWrites (cond b fromReads fromTable);
+    reads = logOf (noted (cond a fromWrites (cond b fromReads fromTable)) v (readFrom (cond a fromWrites (cond b fromReads fromTable)) (s .registers) t v) t .reads) (noted (cond a fromWrites (cond b fromReads fromTable)) v (readFrom (cond a fromWrites (cond b fromReads fromTable)) (s .registers) t v) t .seen);
+  }
+  found-same v l true b = refl
+  found-same v l false true = refl
+  found-same v l false false = ap (λ (r : Log ℤ). record { value = getD (s .registers) v (pos 0); source = fromTable; reads = r }) (sym (log-with (t .reads) (t .seen) v (getD (s .registers) v (pos 0)) l (h .typed .seen)))
+
+  inner-read : (v : ℕ) (body c : Code) (k : ℕ) → Inner (READ v) body c k → Sim (instruction sum s j t (code.read v)) (stepInside byValue sum (s .registers) body below-base (READ v ⨾ c) (stackFrom (t .cells) (t .base) k) reads writes)
+  unfolding instruction stepInside Inside TakesInside Takes nextPlace walkOp behind found read sourceOf logOf push
+  inner-read v body c k x =
+      subst (λ (f : Found byValue). Sim (instruction sum s j t (code.read v)) (goes byValue (inside body below-base c (f .value ∷ stackFrom (t .cells) (t .base) k) (f .reads) writes) (s .registers) (looked (f .source))))
+      (sym (found-same v (x .goes-on .0) (member (t .writes) v) (member (t .reads) v)))
+      (record {
+        event = refl;
+        registers = refl;
+        thread = read (s .registers) v t;
+        born = [];
+        threads = nobody;
+        typed = typed-read (s .registers) v t (h .typed);
+        placed = placed-read t (h .placed) l (s .registers) v (x .goes-on .0) (ready-op (x .ready)) (x .somewhere);
+        kids = placed-read-kids;
+        shows = shown (sourceOf t v) (readFrom (sourceOf t v) (s .registers) t v);
+        start = start′ (sourceOf t v);
+        end = end′ (sourceOf t v);
+      })
+    where
+      l : t .place < t .end
+      l = stands-inside (x .ready .stands)
+
+      placed-read-kids : placed-read t (h .placed) l (s .registers) v (x .goes-on .0) (ready-op (x .ready)) (x .somewhere) .walked .children ≡ h .placed .walked .children
+      placed-read-kids = read-kids t (h .placed) l (s .registers) v (x .goes-on .0) (ready-op (x .ready)) (x .somewhere)
+
+      shown : (from : Source) (n : ℤ) → Shows bytes (push n (t .place + 2) (noted from v n t)) (inside body below-base c (n ∷ stackFrom (t .cells) (t .base) k) (logOf (noted from v n t .reads) (noted from v n t .seen)) writes)
+      shown fromWrites n =
+          let y = h .typed .cells in
+          let e = x .height in
+          let m : suc (t .height) ≤ 64 = ready-takes (x .ready) in
+          shown-inside (open′ body c (suc k) (ready-next (x .ready)) (x .goes-on .1) (omega arith) (x .somewhere) (x .again) (x .outer) (x .same)) (stack-set (t .cells) 0 (t .base) (t .height) n (omega arith)) (stack-push (t .cells) (t .base) k (t .height) n e (omega arith)) refl refl
+      shown fromReads n =
+          let y = h .typed .cells in
+          let e = x .height in
+          let m : suc (t .height) ≤ 64 = ready-takes (x .ready) in
+          shown-inside (open′ body c (suc k) (ready-next (x .ready)) (x .goes-on .1) (omega arith) (x .somewhere) (x .again) (x .outer) (x .same)) (stack-set (t .cells) 0 (t .base) (t .height) n (omega arith)) (stack-push (t .cells) (t .base) k (t .height) n e (omega arith)) refl refl
+      shown fromTable n =
+          let y = h .typed .cells in
+          let e = x .height in
+          let m : suc (t .height) ≤ 64 = ready-takes (x .ready) in
+          shown-inside (open′ body c (suc k) (ready-next (x .ready)) (x .goes-on .1) (omega arith) (x .somewhere) (x .again) (x .outer) (x .same)) (stack-set (t .cells) 0 (t .base) (t .height) n (omega arith)) (stack-push (t .cells) (t .base) k (t .height) n e (omega arith)) refl refl
+
+      start′ : (from : Source) → noted from v (readFrom from (s .registers) t v) t .start ≡ t .start
+      start′ fromWrites = refl
+      start′ fromReads = refl
+      start′ fromTable = refl
+
+      end′ : (from : Source) → noted from v (readFrom from (s .registers) t v) t .end ≡ t .end
+      end′ fromWrites = refl
+      end′ fromReads = refl
+      end′ fromTable = refl
+
+  inner-write : (v : ℕ) (body c : Code) (k : ℕ) → Inner (WRITE v) body c (suc k) → Sim (instruction sum s j t (code.write v)) (stepInside byValue sum (s .registers) body below-base (WRITE v ⨾ c) (stackFrom (t .cells) (t .base) (suc k)) reads writes)
+  unfolding instruction stepInside Inside TakesInside nextPlace walkOp write placed-write behind stackFrom
+  inner-write v body c k x =
+      let l = stands-inside (x .ready .stands) in
+      let e = x .height in
+      let a : t .height - 1 ≡ k + t .base = omega arith in
+      record {
+        event = refl;
+        registers = refl;
+        thread = write v t;
+        born = [];
+        threads = nobody;
+        typed = typed-write v t (h .typed);
+        placed = placed-write t (h .placed) l v (x .goes-on .0) (ready-op (x .ready)) (x .somewhere);
+        kids = refl;
+        shows = shown-inside (open′ body c (suc k) (ready-next (x .ready)) (x .goes-on .1) e (x .somewhere) (x .again) (x .outer) (x .same)) refl refl refl (log-with (t .writes) (t .kept) v (below t 1) (x .goes-on .0) (h .typed .kept) ∙ ap (λ (p : ℕ). logged writes v (getD (t .cells) p (pos 0))) a);
+        start = refl;
+        end = refl;
+      }
+
+  -- COMMIT: both find the same first stale register
+  inner-commit : (body c : Code) → Inner COMMIT body c 1 → (v : ℕ) → Sim (commit s j t v) (commits byValue (s .registers) body below-base c (getD (t .cells) (0 + t .base) (pos 0)) writes v)
+  unfolding commit Inside TakesInside behind closed nextPlace
+  inner-commit body c x v = go (ltb v 64)
+    where
+      l : t .place < t .end
+      l = stands-inside (x .ready .stands)
+
+      go : (b : Bool) → Sim (cond b (record { state = put s j (closed (t .begin) (t .base) t); event = sentBack v }) (record {
+        state = record { registers = overlaid 64 0 t (s .registers); threads = set (s .threads) j (closed (t .place + 1) (t .height) t) };
+        event = committed;
+      })) (elim b [
+        | true ↦ record { task = outside (BEGIN ⨾ body) below-base; table = s .registers; children = []; event = sentBack v }
+        | false ↦ record { task = outside c (getD (t .cells) (0 + t .base) (pos 0) ∷ below-base); table = overwritten byValue 64 0 writes (s .registers); children = []; event = committed }
+      ])
+      go true =
+          let y = h .typed .cells in
+          let z = x .again .low in
+          record {
+            event = refl;
+            registers = refl;
+            thread = closed (t .begin) (t .base) t;
+            born = [];
+            threads = nobody;
+            typed = typed-closed (t .begin) (t .base) t z (h .typed);
+            placed = placed-back t (h .placed .walked .children) (back-walks h (x .somewhere));
+            kids = back-kids t (h .placed .walked .children) (back-walks h (x .somewhere));
+            shows = shown-outside (shut (BEGIN ⨾ body) (x .again) (x .outer) refl) (stack-closed (t .cells) 0 (t .base) (t .base) (omega arith) (omega arith));
+            start = refl;
+            end = refl;
+          }
+      go false =
+          let y = h .typed .cells in
+          let z = x .ready .low in
+          let e : t .height ≡ 1 + t .base = x .height in
+          let f : suc (t .base) ≡ t .height = omega arith in
+          record {
+            event = refl;
+            registers = overlaid-same 64 0 t (s .registers);
+            thread = closed (t .place + 1) (t .height) t;
+            born = [];
+            threads = nobody;
+            typed = typed-closed (t .place + 1) (t .height) t z (h .typed);
+            placed = placed-commit t (h .placed) l (ready-op (x .ready));
+            kids = commit-kids t (h .placed) l (ready-op (x .ready));
+            shows = shown-outside (shut c (ready-next (x .ready)) (subst (λ (n : ℕ). Outside c n) f (x .goes-on .1)) refl) (stack-closed (t .cells) 0 (t .height) (t .height) (omega arith) (omega arith) ∙ (ap (λ (n : ℕ). stackFrom (t .cells) 0 n) (sym f) ∙ one-above));
+            start = refl;
+            end = refl;
+          }
+        where
+          one-above : stackFrom (t .cells) 0 (suc (t .base)) ≡ getD (t .cells) (0 + t .base) (pos 0) ∷ below-base
+          one-above = stack-suc (t .cells) 0 (t .base) ∙ ap (λ (p : ℕ). getD (t .cells) p (pos 0) ∷ below-base) (let e : t .base + 0 ≡ 0 + t .base = omega arith in e)
+
+  commit-found : (body c : Code) → Inner COMMIT body c 1 → Sim (instruction sum s j t code.commit) (stepInside byValue sum (s .registers) body below-base (COMMIT ⨾ c) (stackFrom (t .cells) (t .base) 1) reads writes)
+  unfolding instruction stepInside stackFrom
+  commit-found body c x =
+      subst (λ (v : ℕ). Sim (commit s j t (firstStale 64 0 t (s .registers))) (commits byValue (s .registers) body below-base c (getD (t .cells) (0 + t .base) (pos 0)) writes v)) (first-same 64 0 t (s .registers)) (inner-commit body c x (firstStale 64 0 t (s .registers)))
+
+  -- any instruction inside
+  pub from-inside : (i : Instruction) (body c : Code) (k : ℕ) → Inner i body c k → Sim (instruction sum s j t (opOf i)) (stepInside byValue sum (s .registers) body below-base (i ⨾ c) (stackFrom (t .cells) (t .base) k) reads writes)
+  unfolding instruction Inside TakesInside
+  from-inside (PUSH n) body c k x = inner-push n body c k x
+  from-inside ADD body c zero x = absurd (x .goes-on)
+  from-inside ADD body c (suc zero) x = absurd (x .goes-on)
+  from-inside ADD body c (suc (suc k)) x = inner-add body c k x
+  from-inside (READ v) body c k x = inner-read v body c k x
+  from-inside (WRITE v) body c zero x = absurd (x .goes-on .1)
+  from-inside (WRITE v) body c (suc k) x = inner-write v body c k x
+  from-inside BEGIN body c k x = absurd (x .goes-on)
+  from-inside COMMIT body c zero x = absurd (let e = x .goes-on .0 in omega arith)
+  from-inside COMMIT body c (suc zero) x = commit-found body c x
+  from-inside COMMIT body c (suc (suc k)) x = absurd (let e = x .goes-on .0 in omega arith)
+  from-inside (FORK m) body c k x = absurd (x .goes-on)

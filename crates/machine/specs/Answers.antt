@@ -1,0 +1,120 @@
+-- What `fresh`, `step` and `run` answer, and what they leave in the registers and the records: document 01, "Turning a job down", 11 to 13.
+use Prim.Native.Nat.{ℕ, _<_, _≤_}
+use mathlib.Core.Bool.{not, _&&_}
+use mathlib.Core.Path.{_≡_}
+use mathlib.Core.List.{List}
+use lib.Dec.{eqb, ltb}
+use lib.ListN.{length}
+use Rattle.machine.specs.declared.Laid.{Laid}
+use Rattle.machine.specs.declared.Laid.the-variants as laid
+use Rattle.machine.specs.declared.Did.{Did}
+use Rattle.machine.specs.declared.Did.the-variants as did
+use Rattle.machine.specs.declared.Counted.{Counted}
+use Rattle.machine.specs.declared.Counted.the-variants as counts
+use Rattle.stm.specs.Events.{fromWrites, fromReads, fromTable, Event, idle, pushed, summed, forked, begun, looked, wrote, committed, sentBack, Happened, counted, isIdle, isCommit, isBack}
+use Rattle.machine.specs.Steps.{State, Stepped, pick, fresh, Ran, run}
+use Rattle.machine.specs.Fits.{Fits}
+use Rattle.machine.specs.FitTest.{fits}
+use Rattle.code.specs.Bytes.{IsCode, Foreign}
+use Rattle.code.specs.Reader.{readCode}
+use Rattle.script.specs.Outcome.{Outcome, refused, done, refuse, onward, mapped}
+use Rattle.script.specs.Reader.{Job}
+use Rattle.word.specs.Sum.{Rule, wrapping}
+
+-- the rule for sums of a job's version
+abbrev pub sumOf : Job → Rule
+sumOf j = wrapping
+
+-- "A run of other than 16 records, or a table of other than 64 registers, is a foreign state, also where a fresh state is to be laid down"
+abbrev pub rightLengths : State → Outcome State → Outcome State
+rightLengths s behind = refuse (not (eqb (length (s .threads)) 16 && eqb (length (s .registers)) 64)) 12 0 behind
+
+-- 12, "does not fit the code"
+abbrev pub fitting : {A : Type 0} → (code : List ℕ) → State → Outcome A → Outcome A
+fitting code s behind = refuse (not (fits code s)) 12 0 behind
+
+-- "Entries taking code test 11, then 10 or 12, then 13"; for 10 to 13 the place is always 0
+unfoldable pub freshOf : (code : List ℕ) → State → Outcome State
+freshOf code s = onward (readCode code) (λ j. rightLengths s (done (fresh code)))
+
+unfoldable pub stepOf : (code : List ℕ) → State → (pick : ℕ) → Outcome Stepped
+stepOf code s i = onward (readCode code) (λ j. fitting code s (done (pick (sumOf j) code s i)))
+
+-- "13, more than 32,768 picks"
+unfoldable pub runOf : (code : List ℕ) → State → (picks : List ℕ) → Outcome Ran
+runOf code s is = onward (readCode code) (λ j. fitting code s (refuse (ltb 32768 (length is)) 13 0 (done (run (sumOf j) code s is))))
+
+-- the registers and the records behind a call: "A refusal .. alters no lent memory"
+abbrev pub leaves : {A : Type 0} → (A → State) → Outcome A → State → State
+leaves f (refused number place) s = s
+leaves f (done a) s = f a
+
+unfoldable pub freshLeaves : (code : List ℕ) → State → State
+freshLeaves code s = leaves (λ (x : State). x) (freshOf code s) s
+
+unfoldable pub stepLeaves : (code : List ℕ) → State → (pick : ℕ) → State
+stepLeaves code s i = leaves (λ (x : Stepped). x .state) (stepOf code s i) s
+
+unfoldable pub runLeaves : (code : List ℕ) → State → (picks : List ℕ) → State
+runLeaves code s is = leaves (λ (x : Ran). x .state) (runOf code s is) s
+
+-- `steps` are picks not idle, `commits` those that took effect, `back` those sent back
+pub record Counts : Type 0 where
+  pub steps : ℕ
+  pub idle : ℕ
+  pub commits : ℕ
+  pub back : ℕ
+
+unfoldable pub countsOf : List Happened → Counts
+countsOf hs =
+    record { steps = counted (λ e. not (isIdle e)) hs; idle = counted isIdle hs; commits = counted isCommit hs; back = counted isBack hs }
+
+-- ---- the answers' enums: this paper's number and values for each case
+abbrev pub laidSays : Laid → Outcome (Unit {0})
+laidSays laid.Done = done tt
+laidSays (laid.Refused number place) = refused number place
+
+abbrev pub didSays : Did → Outcome Event
+didSays did.Idle = done idle
+didSays did.Pushed = done pushed
+didSays (did.Summed inside) = done (summed inside)
+didSays did.Forked = done forked
+didSays did.Begun = done begun
+didSays did.LookedInWrites = done (looked fromWrites)
+didSays did.LookedInReads = done (looked fromReads)
+didSays did.LookedInTable = done (looked fromTable)
+didSays did.Wrote = done wrote
+didSays did.Committed = done committed
+didSays (did.SentBack v) = done (sentBack v)
+didSays (did.Refused number place) = refused number place
+
+abbrev pub countedSays : Counted → Outcome Counts
+countedSays (counts.Ran a b c d) = done (record { steps = a; idle = b; commits = c; back = d })
+countedSays (counts.Refused number place) = refused number place
+
+-- what the answers say
+unfoldable pub freshSays : (code : List ℕ) → State → Outcome (Unit {0})
+freshSays code s = mapped (λ (x : State). tt) (freshOf code s)
+
+unfoldable pub stepSays : (code : List ℕ) → State → (pick : ℕ) → Outcome Event
+stepSays code s i = mapped (λ (x : Stepped). x .event) (stepOf code s i)
+
+unfoldable pub runSays : (code : List ℕ) → State → (picks : List ℕ) → Outcome Counts
+runSays code s is = mapped (λ (x : Ran). countsOf (x .events)) (runOf code s is)
+
+-- ---- the table's rows 11 to 13, each with the tests before it passed: what a call comes to
+pub data FreshAnswer (code : List ℕ) (s : State) : Outcome State → Type 0 where
+  foreign-code : Foreign code → FreshAnswer code s (refused 11 0)
+  foreign-state : {j : Job} → IsCode code j → ((length (s .threads) ≡ 16) × (length (s .registers) ≡ 64) → ⊥) → FreshAnswer code s (refused 12 0)
+  laid-down : {j : Job} → IsCode code j → length (s .threads) ≡ 16 → length (s .registers) ≡ 64 → FreshAnswer code s (done (fresh code))
+
+pub data StepAnswer (code : List ℕ) (s : State) (i : ℕ) : Outcome Stepped → Type 0 where
+  foreign-code : Foreign code → StepAnswer code s i (refused 11 0)
+  foreign-state : {j : Job} → IsCode code j → (Fits code s → ⊥) → StepAnswer code s i (refused 12 0)
+  picked : {j : Job} → IsCode code j → Fits code s → StepAnswer code s i (done (pick (sumOf j) code s i))
+
+pub data RunAnswer (code : List ℕ) (s : State) (is : List ℕ) : Outcome Ran → Type 0 where
+  foreign-code : Foreign code → RunAnswer code s is (refused 11 0)
+  foreign-state : {j : Job} → IsCode code j → (Fits code s → ⊥) → RunAnswer code s is (refused 12 0)
+  long-list : {j : Job} → IsCode code j → Fits code s → 32768 < length is → RunAnswer code s is (refused 13 0)
+  ran : {j : Job} → IsCode code j → Fits code s → length is ≤ 32768 → RunAnswer code s is (done (run (sumOf j) code s is))

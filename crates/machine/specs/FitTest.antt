@@ -1,0 +1,104 @@
+-- The test that decides whether a state fits its code.
+use Prim.Native.Nat.{ℕ, zero, suc}
+use mathlib.Core.Bool.{Bool, true, false, cond, not, _&&_, _||_}
+use mathlib.Core.List.{List, [], _∷_, _++_}
+use mathlib.Core.Option.{Option, none, some}
+use lib.Dec.{eqb, ltb}
+use lib.IntN.{ℤ, pos}
+use lib.ListN.{length, drop, getD}
+use lib.Signed.{ltZ}
+use Rattle.machine.specs.declared.Thread.{Thread}
+use Rattle.machine.specs.Steps.{State, exists, threadAt}
+use Rattle.machine.specs.Fits.{Child, Walked, unmoved, walkOp, nextPlace, ownCode}
+use Rattle.code.specs.Reader.{Op, opAt}
+use Rattle.script.specs.Outcome.{Outcome, refused, done}
+use Rattle.word.specs.Registers.{member}
+use Rattle.word.specs.Registers as registers
+
+abbrev pub goingOn : Outcome Op → (Op → Option Walked) → Option Walked
+goingOn (refused number place) f = none
+goingOn (done op) f = f op
+
+-- along a thread's own code from a place up to a target; `fuel` is more than the places between
+unfoldable pub walk : (fuel : ℕ) (bytes : List ℕ) (end target place : ℕ) → Walked → Option Walked
+walk zero bytes end target place w = none
+walk (suc fuel) bytes end target place w =
+    elim (eqb place target) [
+      | true ↦ some w
+      | false ↦ elim (ltb place end) [
+        | true ↦ goingOn (opAt (drop place bytes)) (λ op. walk fuel bytes end target (nextPlace op place) (walkOp op place w))
+        | false ↦ none
+      ]
+    ]
+
+unfoldable pub walkTo : List ℕ → Thread → Option Walked
+walkTo bytes t = walk (suc (t .place)) bytes (t .end) (t .place) (t .start) unmoved
+
+abbrev pub isZero : ℤ → Bool
+isZero n = not (ltZ n (pos 0) || ltZ (pos 0) n)
+
+-- the numbers from v on for which the test is false are 0, `left` of them being left
+unfoldable pub freeFrom : (left v : ℕ) → (ℕ → Bool) → List ℤ → Bool
+freeFrom zero v marked ns = true
+freeFrom (suc left) v marked ns = (marked v || isZero (getD ns v (pos 0))) && freeFrom left (suc v) marked ns
+
+abbrev pub free : (ℕ → Bool) → List ℤ → Bool
+free marked ns = freeFrom 64 0 marked ns
+
+abbrev pub agreesWith : Thread → Option Walked → Bool
+agreesWith t none = false
+agreesWith t (some w) =
+    eqb (t .height) (w .height) && (eqb (t .begin) (w .begin) && (eqb (t .base) (w .base) && (not (eqb (w .begin) 0) || (eqb (t .reads) registers.none && eqb (t .writes) registers.none))))
+
+-- a thread's record
+unfoldable pub placed : List ℕ → Thread → Bool
+placed bytes t =
+    agreesWith t (walkTo bytes t) && (free (member (t .reads)) (t .seen) && (free (member (t .writes)) (t .kept) && free (λ n. ltb n (t .height)) (t .cells)))
+
+-- a record of no thread
+unfoldable pub allZero : Thread → Bool
+allZero t =
+    eqb (t .start) 0 && (eqb (t .end) 0 && (eqb (t .place) 0 && (eqb (t .height) 0 && (eqb (t .begin) 0 && (eqb (t .base) 0 && (eqb (t .reads) 0 && (eqb (t .writes) 0 && (free (λ n. false) (t .cells) && (free (λ n. false) (t .seen) && free (λ n. false) (t .kept))))))))))
+
+-- threads first, each placed; then records of no thread only
+unfoldable pub noneBehind : List Thread → Bool
+noneBehind [] = true
+noneBehind (t ∷ ts) = allZero t && noneBehind ts
+
+unfoldable pub inFront : List ℕ → List Thread → Bool
+inFront bytes [] = true
+inFront bytes (t ∷ ts) = elim (exists t) [ true ↦ placed bytes t && inFront bytes ts | false ↦ noneBehind (t ∷ ts) ]
+
+abbrev pub same : Child → Child → Bool
+same a b = eqb (a .start) (b .start) && eqb (a .end) (b .end)
+
+-- the child codes of the FORKs that threads have passed
+abbrev pub childrenOf : Option Walked → List Child
+childrenOf none = []
+childrenOf (some w) = w .children
+
+unfoldable pub passedBy : List ℕ → List Thread → List Child
+passedBy bytes [] = []
+passedBy bytes (t ∷ ts) = cond (exists t) (childrenOf (walkTo bytes t) ++ passedBy bytes ts) (passedBy bytes ts)
+
+unfoldable pub among : Child → List Child → Bool
+among c [] = false
+among c (d ∷ ds) = same c d || among c ds
+
+-- each thread's own code is among these
+unfoldable pub allAmong : List Child → List Thread → Bool
+allAmong cs [] = true
+allAmong cs (t ∷ ts) = (not (exists t) || among (ownCode t) cs) && allAmong cs ts
+
+-- how many threads have this code
+unfoldable pub threadsOf : Child → List Thread → ℕ
+threadsOf c [] = 0
+threadsOf c (t ∷ ts) = cond (exists t && same c (ownCode t)) (suc (threadsOf c ts)) (threadsOf c ts)
+
+unfoldable pub oneEach : List Child → List Thread → Bool
+oneEach [] ts = true
+oneEach (c ∷ cs) ts = eqb (threadsOf c ts) 1 && oneEach cs ts
+
+unfoldable pub fits : List ℕ → State → Bool
+fits bytes s =
+    eqb (length (s .threads)) 16 && (eqb (length (s .registers)) 64 && (same (ownCode (threadAt s 0)) (record { start = 5; end = length bytes }) && (inFront bytes (s .threads) && (allAmong (passedBy bytes (s .threads)) (drop 1 (s .threads)) && oneEach (passedBy bytes (s .threads)) (s .threads)))))

@@ -1,0 +1,138 @@
+-- Document 01: "A state fits its code if ..". A test that decides it is in FitTest.
+use Prim.Native.Nat.{ℕ, suc, _+_, _-_, _≤_, _<_}
+use mathlib.Core.Path.{_≡_}
+use mathlib.Core.Bool.{true, false}
+use mathlib.Core.List.{List, [], _∷_}
+use lib.IntN.{pos}
+use lib.ListN.{length, drop, getD}
+use Rattle.machine.specs.declared.Thread.{Thread}
+use Rattle.machine.specs.Threads.{blank}
+use Rattle.machine.specs.Steps.{State, exists, threadAt}
+use Rattle.code.specs.Reader.{Op, opAt}
+use Rattle.code.specs.Reader as code
+use Rattle.script.specs.Outcome.{done}
+use Rattle.word.specs.Registers.{none, member}
+
+-- a FORK's child code, from its start up to its end
+pub record Child : Type 0 where
+  pub start : ℕ
+  pub end : ℕ
+
+-- What the instructions before a place leave there: the stack height; the place and stack height of the BEGIN of an open transaction, 0
+-- if none is open; and the child codes of the FORKs passed, the last one first.
+pub record Walked : Type 0 where
+  pub height : ℕ
+  pub begin : ℕ
+  pub base : ℕ
+  pub children : List Child
+
+abbrev pub unmoved : Walked
+unmoved = record { height = 0; begin = 0; base = 0; children = [] }
+
+abbrev pub higher : Walked → Walked
+higher w = record { height = suc (w .height); begin = w .begin; base = w .base; children = w .children }
+
+-- the instruction at a place
+unfoldable pub walkOp : Op → (place : ℕ) → Walked → Walked
+walkOp (code.push n) q w = higher w
+walkOp code.add q w = record { height = w .height - 1; begin = w .begin; base = w .base; children = w .children }
+walkOp (code.read v) q w = higher w
+walkOp (code.write v) q w = w
+walkOp code.begin q w = record { height = w .height; begin = q; base = w .height; children = w .children }
+walkOp code.commit q w = record { height = w .height; begin = 0; base = 0; children = w .children }
+walkOp (code.fork size) q w =
+    record { height = suc (w .height); begin = w .begin; base = w .base; children = record { start = q + 3; end = q + 3 + size } ∷ w .children }
+
+-- "less the child code of the FORKs in it": the parent goes on behind it
+unfoldable pub nextPlace : Op → (place : ℕ) → ℕ
+nextPlace (code.push n) q = q + 5
+nextPlace code.add q = q + 1
+nextPlace (code.read v) q = q + 2
+nextPlace (code.write v) q = q + 2
+nextPlace code.begin q = q + 1
+nextPlace code.commit q = q + 1
+nextPlace (code.fork size) q = q + 3 + size
+
+-- the places of a thread's own code, from its start on, and what the instructions before each leave
+pub data Walks (bytes : List ℕ) (start end : ℕ) : (place : ℕ) → Walked → Type 0 where
+  starts : Walks bytes start end start unmoved
+  passes : {place : ℕ} {w : Walked} {op : Op} → Walks bytes start end place w → place < end → opAt (drop place bytes) ≡ done op → Walks bytes start end (nextPlace op place) (walkOp op place w)
+
+-- one of a list
+pub data In (x : Child) : List Child → Type 0 where
+  here : {xs : List Child} → In x (x ∷ xs)
+  there : {y : Child} {xs : List Child} → In x xs → In x (y ∷ xs)
+
+abbrev pub ownCode : Thread → Child
+ownCode t = record { start = t .start; end = t .end }
+
+-- the thread has passed the FORK of this child code
+pub record Passed (bytes : List ℕ) (t : Thread) (child : Child) : Type 0 where
+  pub walked : Walked
+  pub walks : Walks bytes (t .start) (t .end) (t .place) walked
+  pub one : In child (walked .children)
+
+-- a thread's record
+pub record Placed (bytes : List ℕ) (t : Thread) : Type 0 where
+  pub walked : Walked
+  -- "each place is at an instruction of the thread's own code or at its end"
+  pub walks : Walks bytes (t .start) (t .end) (t .place) walked
+  -- "the stack height is the one which the instructions before that place leave"
+  pub height : t .height ≡ walked .height
+  -- "a transaction is open exactly from after BEGIN until COMMIT is done, its notes being its BEGIN's place and stack height", "notes being
+  -- empty otherwise"
+  pub begin : t .begin ≡ walked .begin
+  pub base : t .base ≡ walked .base
+  -- "logs .. being empty otherwise"
+  pub no-reads : walked .begin ≡ 0 → t .reads ≡ none
+  pub no-writes : walked .begin ≡ 0 → t .writes ≡ none
+  -- "Log values not marked, stack cells above the height .. hold 0"
+  pub seen-free : (v : ℕ) → member (t .reads) v ≡ false → getD (t .seen) v (pos 0) ≡ pos 0
+  pub kept-free : (v : ℕ) → member (t .writes) v ≡ false → getD (t .kept) v (pos 0) ≡ pos 0
+  pub cells-free : (n : ℕ) → t .height ≤ n → getD (t .cells) n (pos 0) ≡ pos 0
+
+-- thread i exists
+abbrev pub Exists : State → ℕ → Type 0
+Exists s i = exists (threadAt s i) ≡ true
+
+-- thread i exists, and this is its own code
+pub record ThreadOf (s : State) (child : Child) (i : ℕ) : Type 0 where
+  pub there : Exists s i
+  pub own : ownCode (threadAt s i) ≡ child
+
+-- some thread has passed the FORK of this child code
+pub record Forked (bytes : List ℕ) (s : State) (child : Child) : Type 0 where
+  pub parent : ℕ
+  pub there : Exists s parent
+  pub passed : Passed bytes (threadAt s parent) child
+
+-- exactly one thread has this code
+pub record OneThread (s : State) (child : Child) : Type 0 where
+  pub thread : ℕ
+  pub its : ThreadOf s child thread
+  pub alone : (i : ℕ) → ThreadOf s child i → i ≡ thread
+
+pub record Fits (bytes : List ℕ) (s : State) : Type 0 where
+  -- "A run of other than 16 records, or a table of other than 64 registers, is a foreign state"
+  pub records : length (s .threads) ≡ 16
+  pub registers : length (s .registers) ≡ 64
+  -- "thread 0 owns the whole code"
+  pub root : ownCode (threadAt s 0) ≡ record { start = 5; end = length bytes }
+  -- "and each child its FORK's child code"; "every FORK that its thread has passed has .. one thread, and no other thread exists"
+  pub child : (i : ℕ) → Exists s (suc i) → Forked bytes s (ownCode (threadAt s (suc i)))
+  -- "every FORK that its thread has passed has exactly one thread"
+  pub one : (c : Child) → Forked bytes s c → OneThread s c
+  pub placed : (i : ℕ) → Exists s i → Placed bytes (threadAt s i)
+  -- "Threads are numbered without gaps"
+  pub no-gap : (i : ℕ) → Exists s (suc i) → Exists s i
+  -- "records of threads that do not exist hold 0"
+  pub no-thread : (i : ℕ) → exists (threadAt s i) ≡ false → threadAt s i ≡ blank
+
+-- ---- what every state that can be lent has by its type alone: 64 cells, 64 values in each log
+pub record TypedThread (t : Thread) : Type 0 where
+  pub cells : length (t .cells) ≡ 64
+  pub seen : length (t .seen) ≡ 64
+  pub kept : length (t .kept) ≡ 64
+
+abbrev pub Typed : State → Type 0
+Typed s = (i : ℕ) → TypedThread (threadAt s i)

@@ -1,0 +1,90 @@
+-- How the records of a state stand for the source's soup of threads that carry their code (source 5.2.4).
+use Prim.Native.Nat.{ℕ, _≤_, _<_}
+use mathlib.Core.Path.{_≡_}
+use mathlib.Core.List.{List, [], _∷_, _++_}
+use mathlib.Core.Option.{Option, none, some}
+use lib.ListN.{length, getD}
+use Rattle.code.specs.Compile.{ε}
+use Rattle.machine.specs.declared.Thread.{Thread}
+use Rattle.machine.specs.Steps.{State, numberOf, threadAt, pick}
+use Rattle.stm.specs.Events.{Event, idle, pushed, summed, forked, begun, looked, wrote, committed, sentBack}
+use Rattle.machine.specs.Source.{empty, SThread, StepM, Preempt, ForkM, PushM, AddM, BeginM, ReadM, WriteM, Committed, Failed}
+use Rattle.script.specs.Turns.{Registers}
+use Rattle.machine.specs.Stands.{Stands, ValuedC, stackFrom, logOf}
+use Rattle.word.specs.Sum.{Rule}
+
+-- A record and a thread of the source. Its code is the record's own code from its place on; while a transaction is open, f is the code from
+-- its BEGIN on, and r and w are the logs. Outside a transaction the source leaves in f, r and w what the last one had; the record empties them.
+pub record Carries (bytes : List ℕ) (t : Thread) (m : SThread) : Type 0 where
+  pub code : Stands bytes (t .place) (t .end) (m .code)
+  pub valued : ValuedC (m .code)
+  pub stack : m .stack ≡ stackFrom (t .cells) 0 (t .height)
+  pub again : 1 ≤ t .begin → Stands bytes (t .begin) (t .end) (m .again) × ValuedC (m .again)
+  pub reads : 1 ≤ t .begin → (v : ℕ) → m .reads v ≡ logOf (t .reads) (t .seen) v
+  pub writes : 1 ≤ t .begin → (v : ℕ) → m .writes v ≡ logOf (t .writes) (t .kept) v
+
+-- a thread with nothing to do
+abbrev pub nobody : SThread
+nobody = record { code = ε; stack = []; again = ε; reads = empty; writes = empty }
+
+-- the soup of a state: its threads in the order of their numbers
+pub record Soup (bytes : List ℕ) (s : State) (soup : List SThread) : Type 0 where
+  pub number : length soup ≡ numberOf (s .threads)
+  pub carries : (i : ℕ) → i < length soup → Carries bytes (threadAt s i) (getD soup i nobody)
+
+-- the rules' names
+pub data Name : Type 0 where
+  fork push add begin read write commit fail : Name
+
+-- the rule of a step; Preempt only says which thread steps
+unfoldable pub ruleOf : {sum : Rule} {h h′ : Registers} {s s′ : List SThread} → StepM sum h s h′ s′ → Name
+ruleOf (Preempt x) = ruleOf x
+ruleOf ForkM = fork
+ruleOf PushM = push
+ruleOf AddM = add
+ruleOf BeginM = begin
+ruleOf ReadM = read
+ruleOf WriteM = write
+ruleOf (Committed e) = commit
+ruleOf (Failed e) = fail
+
+-- it is the first thread of the soup that steps
+unfoldable pub First : {sum : Rule} {h h′ : Registers} {s s′ : List SThread} → StepM sum h s h′ s′ → Type 0
+First (Preempt x) = ⊥
+First ForkM = Unit {0}
+First PushM = Unit {0}
+First AddM = Unit {0}
+First BeginM = Unit {0}
+First ReadM = Unit {0}
+First WriteM = Unit {0}
+First (Committed e) = Unit {0}
+First (Failed e) = Unit {0}
+
+-- the rule of an event
+abbrev pub named : Event → Option Name
+named idle = none
+named pushed = some push
+named (summed inside) = some add
+named forked = some fork
+named begun = some begin
+named (looked source) = some read
+named wrote = some write
+named committed = some commit
+named (sentBack v) = some fail
+
+-- A pick of thread i as a step of the soup, which leaves the heap h′ and the soup′. The source puts a forked child behind its parent,
+-- document 01 gives it the next number.
+pub record StepOn (bytes : List ℕ) (sum : Rule) (s : State) (i : ℕ) (soup : List SThread) (h′ : Registers) (soup′ : List SThread) : Type 0 where
+  pub front : List SThread
+  pub m : SThread
+  pub m′ : SThread
+  pub behind : List SThread
+  pub new : List SThread
+  pub number : length front ≡ i
+  pub was : soup ≡ front ++ (m ∷ behind)
+  pub step : StepM sum (s .registers) (m ∷ behind) h′ (m′ ∷ (new ++ behind))
+  pub its : First step
+  pub rule : named (pick sum bytes s i .event) ≡ some (ruleOf step)
+  pub becomes : soup′ ≡ front ++ (m′ ∷ (new ++ behind))
+  pub heap : pick sum bytes s i .state .registers ≡ h′
+  pub left : Soup bytes (pick sum bytes s i .state) (front ++ (m′ ∷ (behind ++ new)))

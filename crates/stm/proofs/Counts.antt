@@ -1,0 +1,25 @@
+-- Events behind events: the counts add up, the orders follow one another. Assumes nothing.
+use Prim.Native.Nat.{ℕ, suc, _+_}
+use mathlib.Core.Bool.{Bool, true, false, cond}
+use mathlib.Core.Path.{_≡_, refl, ap}
+use mathlib.Core.List.{List, [], _∷_, _++_}
+use native.Mathlib.Omega.{arith}
+use Rattle.stm.specs.Events.{Event, Happened, counted, isTurn, order}
+
+pub counted-append : (f : Event → Bool) (hs ks : List Happened) → counted f (hs ++ ks) ≡ counted f hs + counted f ks
+unfolding counted
+counted-append f [] ks = omega arith
+counted-append f (h ∷ hs) ks = go (f (h .event)) (counted-append f hs ks)
+  where
+    go : (b : Bool) → counted f (hs ++ ks) ≡ counted f hs + counted f ks → cond b (suc (counted f (hs ++ ks))) (counted f (hs ++ ks)) ≡ cond b (suc (counted f hs)) (counted f hs) + counted f ks
+    go true e = omega arith
+    go false e = e
+
+pub order-append : (hs ks : List Happened) → order (hs ++ ks) ≡ order hs ++ order ks
+unfolding order
+order-append [] ks = refl
+order-append (h ∷ hs) ks = go (isTurn (h .event)) (order-append hs ks)
+  where
+    go : (b : Bool) → order (hs ++ ks) ≡ order hs ++ order ks → cond b (h .thread ∷ order (hs ++ ks)) (order (hs ++ ks)) ≡ cond b (h .thread ∷ order hs) (order hs) ++ order ks
+    go true e = ap {B = List ℕ} (λ (l : List ℕ). h .thread ∷ l) e
+    go false e = e
