@@ -2,11 +2,11 @@
 use Prim.Native.Nat.{ℕ, _≤_}
 use mathlib.Core.Logic.{_↔_}
 use mathlib.Core.Path.{_≡_, refl, sym, ap, _∙_}
-use mathlib.Core.List.{List, _++_}
+use mathlib.Core.List.{List}
 use native.Mathlib.Omega.{arith}
 use lib.ListN.{length, take, drop}
 use lib.Seq.{take-append-seam}
-use borrow.Author.Tests.{le-ltb, ltb-false}
+use borrow.Author.Tests.{le-ltb}
 use lib.Dec.{ltb}
 use mathlib.Core.Bool.{Bool, true, false}
 use Rattle.code.specs.Bytes.{compiled, IsCode}
@@ -16,9 +16,9 @@ use Rattle.code.proofs.ReadBack.{read-is-code}
 use Rattle.compiler.specs.CompileTo.{compileTo}
 use Rattle.decompiler.specs.ReadBackTo.{bytesOf, readBackTo}
 use Rattle.delivery.specs.declared.Answer.the-variants.{Done, Refused}
-use Rattle.delivery.specs.Delivered.{Delivered, onto, fitting, settled, delivered}
+use Rattle.delivery.specs.Delivered.{onto, delivered}
 use Rattle.script.specs.Bytes.{Bytes}
-use Rattle.script.specs.Outcome.{Outcome, refused, done, refuse, onward, mapped}
+use Rattle.script.specs.Outcome.{Outcome, refused, done, mapped}
 use Rattle.script.specs.Reader.{Job, readJob}
 use Rattle.script.specs.Refusal.{IsJob}
 use Rattle.script.proofs.Accepts.{accepted-is-job, job-is-accepted}

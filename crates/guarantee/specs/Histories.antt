@@ -1,0 +1,93 @@
+-- Document 01, "Runs and turns": lists of calls that run a job's code by picks, and what demand 3 says of them.
+use Prim.Native.Nat.{ℕ, _<_, _≤_}
+use mathlib.Core.Logic.{_↔_}
+use mathlib.Core.Path.{_≡_}
+use mathlib.Core.List.{List, [], _∷_, _++_}
+use lib.IntN.{ℤ, pos}
+use lib.ListN.{length, getD}
+use Rattle.code.specs.Bytes.{compiled}
+use Rattle.machine.specs.Steps.{State, Stepped, threadAt, fresh, Ran}
+use Rattle.stm.specs.Events.{Happened, counted, isCommit, backs, order}
+use Rattle.machine.specs.Fits.{Exists, Typed}
+use Rattle.machine.specs.Answers.{sumOf, stepOf, runOf}
+use Rattle.script.specs.Bytes.{Bytes}
+use Rattle.script.specs.Outcome.{Outcome, refused, done, mapped}
+use Rattle.script.specs.Reader.{Job}
+use Rattle.script.specs.Turns.{Script, initial, turns, Result}
+
+-- a call, with what it is lent
+pub data Call : Type 0 where
+  step : (code : List ℕ) (state : State) (pick : ℕ) → Call
+  run : (code : List ℕ) (state : State) (picks : List ℕ) → Call
+
+abbrev pub codeOf : Call → List ℕ
+codeOf (step code s i) = code
+codeOf (run code s is) = code
+
+abbrev pub stateOf : Call → State
+stateOf (step code s i) = s
+stateOf (run code s is) = s
+
+abbrev pub picksOf : Call → List ℕ
+picksOf (step code s i) = i ∷ []
+picksOf (run code s is) = is
+
+-- what every call has by the types of what it is lent
+pub record Lent (c : Call) : Type 0 where
+  pub code : Bytes (codeOf c)
+  pub state : Typed (stateOf c)
+  pub picks : Bytes (picksOf c)
+
+-- what a call comes to; "a step by itself counts as one with a single pick"
+abbrev pub alone : ℕ → Stepped → Ran
+alone i r = record { state = r .state; events = record { thread = i; event = r .event } ∷ [] }
+
+abbrev pub comesTo : Call → Outcome Ran
+comesTo (step code s i) = mapped (alone i) (stepOf code s i)
+comesTo (run code s is) = runOf code s is
+
+-- A list of calls over a job's code, the state behind it, and its events. "The first call that is not refused has the job's code and a fresh
+-- state; each later one that is not refused has the same code and the state that the one before it left." "A refused call, whatever it was
+-- lent, leaves that state as it was, and its picks do not count."
+pub data History (code : List ℕ) : State → List Happened → Type 0 where
+  none : History code (fresh code) []
+  turned-down : {s : State} {events : List Happened} {number place : ℕ} → History code s events → (c : Call) → Lent c → comesTo c ≡ refused number place → History code s events
+  followed : {s : State} {events : List Happened} {r : Ran} → History code s events → (c : Call) → Lent c → codeOf c ≡ code → stateOf c ≡ s → comesTo c ≡ done r → History code (r .state) (events ++ r .events)
+
+-- the script itself, fed a list of thread numbers
+unfoldable pub scriptAfter : Job → List ℕ → Script
+scriptAfter j is = turns (sumOf j) (initial (j .tree)) is
+
+-- "A thread ends at the end of its own code; its result is the one number left on its stack"
+pub record Ended (s : State) (i : ℕ) (n : ℤ) : Type 0 where
+  pub there : Exists s i
+  pub place : threadAt s i .place ≡ threadAt s i .end
+  pub height : threadAt s i .height ≡ 1
+  pub result : getD (threadAt s i .cells) 0 (pos 0) ≡ n
+
+-- a thread that has ended, and the script's result for it
+pub record SameResult (s : State) (script : Script) (i : ℕ) : Type 0 where
+  pub number : ℤ
+  pub ended : Ended s i number
+  pub script's : Result script i number
+
+-- "after it the registers' values and the numbers of the threads that exist are exactly those of the script itself, .. given one turn for each
+-- outside sum, fork and commit in the order in which these came, and each thread that has ended has the script's result for it"
+pub record Whole (j : Job) (s : State) (events : List Happened) : Type 0 where
+  pub registers : s .registers ≡ scriptAfter j (order events) .registers
+  pub threads : (i : ℕ) → Exists s i ↔ (i < length (scriptAfter j (order events) .threads))
+  pub results : (i : ℕ) → Exists s i → threadAt s i .place ≡ threadAt s i .end → SameResult s (scriptAfter j (order events)) i
+
+-- "Every list of turns that the script can take is the order of some such list of calls", which "also ends every thread that is then a VALP in
+-- the script"
+pub record Taken (j : Job) (is : List ℕ) : Type 0 where
+  pub state : State
+  pub events : List Happened
+  pub history : History (compiled j) state events
+  pub its-order : order events ≡ is
+  pub ends : (i : ℕ) (n : ℤ) → Result (scriptAfter j is) i n → Ended state i n
+
+-- "no thread is sent back twice between neighbouring commits or after the last, nor at all before the first"
+pub record SentBack (events : List Happened) : Type 0 where
+  pub not-twice : (before between behind : List Happened) → events ≡ before ++ (between ++ behind) → counted isCommit between ≡ 0 → (i : ℕ) → backs i between ≤ 1
+  pub none-first : (before behind : List Happened) → events ≡ before ++ behind → counted isCommit before ≡ 0 → (i : ℕ) → backs i before ≡ 0
