@@ -5,6 +5,9 @@ use Rattle.code.specs.Compile.{compileT, compileP}
 use Rattle.code.specs.Bytes.{instructionBytes, instructionsBytes, codeMark, codeBytes, compiled}
 use Rattle.code.specs.Reader.{operand as codeOperand, opOf, opAt, doOp, closed, readOps, within, marked as codeMarked, readCode}
 use Rattle.machine.specs.Threads.{blank, spawned, push, add, begin, sourceOf, read, write, closed as closedAt, stale, firstStale, overlaid}
+use Rattle.machine.specs.Fits.{walkOp, nextPlace}
+use Rattle.machine.specs.FitTest.{walk, walkTo, freeFrom, placed, allZero, noneBehind, inFront, passedBy, among, allAmong, threadsOf, oneEach, fits}
+use Rattle.machine.specs.Answers.{freshOf, stepOf, runOf, countsOf, freshSays, stepSays, runSays}
 use Rattle.machine.specs.Steps.{numberOf, commit, instruction, pick, fresh, run}
 use Rattle.stm.specs.Events.{counted, order}
 use Rattle.word.specs.Registers.{none, member, with}
@@ -14,7 +17,7 @@ use Rattle.script.specs.Reader.{permitted, operand, nodeOf, nodeAt, grown, fork
 use Rattle.word.specs.Sum.{residue, signed, wrap, wrapping}
 
 pub cases : Cases
-unfolding wrapping wrap signed residue readJob readNodes nodeAt nodeOf permitted operand grown forkOf marked taken jobBytes jobMark bytesP bytesT nodeBytes bytes16 bytes32 nodesP nodesT forks atomics threads instructions longest bound codeT codeP codeLength compiled codeBytes codeMark compileP compileT instructionBytes instructionsBytes readCode readOps closed doOp opAt opOf codeOperand codeMarked within depthT depthP blank spawned push add begin sourceOf read write closedAt stale firstStale overlaid numberOf commit instruction pick fresh run counted order none member with
+unfolding wrapping wrap signed residue readJob readNodes nodeAt nodeOf permitted operand grown forkOf marked taken jobBytes jobMark bytesP bytesT nodeBytes bytes16 bytes32 nodesP nodesT forks atomics threads instructions longest bound codeT codeP codeLength compiled codeBytes codeMark compileP compileT instructionBytes instructionsBytes readCode readOps closed doOp opAt opOf codeOperand codeMarked within depthT depthP blank spawned push add begin sourceOf read write closedAt stale firstStale overlaid numberOf commit instruction pick fresh run counted order none member with walkOp nextPlace walk walkTo freeFrom placed allZero noneBehind inFront passedBy among allAmong threadsOf oneEach fits freshOf stepOf runOf countsOf freshSays stepSays runSays
 cases =
     record {
       below-range = refl;
@@ -37,22 +40,36 @@ cases =
       whole-size = refl;
       whole-bound = refl;
       seven-steps = refl;
-      seven-done = record { place = refl; height = refl; result = refl };
-      low-done = record { place = refl; height = refl; result = refl };
+      seven-done = record { there = refl; place = refl; height = refl; result = refl };
+      low-done = record { there = refl; place = refl; height = refl; result = refl };
       own-read = refl;
       own-seen = refl;
       own-added = refl;
       own-kept = refl;
-      own-done = record { place = refl; height = refl; result = refl };
+      own-done = record { there = refl; place = refl; height = refl; result = refl };
       own-register = refl;
       whole-steps = refl;
       whole-idle = refl;
       whole-commits = refl;
       whole-back-count = refl;
-      whole-0 = record { place = refl; height = refl; result = refl };
-      whole-1 = record { place = refl; height = refl; result = refl };
-      whole-2 = record { place = refl; height = refl; result = refl };
+      whole-0 = record { there = refl; place = refl; height = refl; result = refl };
+      whole-1 = record { there = refl; place = refl; height = refl; result = refl };
+      whole-2 = record { there = refl; place = refl; height = refl; result = refl };
       whole-registers = refl;
       whole-order = refl;
+      none-there = refl;
       none-open = refl;
+      run-whole = refl;
+      run-none = refl;
+      step-idle = refl;
+      foreign-code = refl;
+      foreign-fresh = refl;
+      foreign-table = refl;
+      laid-down = refl;
+      foreign-state = refl;
+      long-list = refl;
+      long-foreign = refl;
+      other-order = refl;
+      unnamed = refl;
+      marked-outside = refl;
     }

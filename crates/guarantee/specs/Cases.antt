@@ -1,10 +1,11 @@
 -- The joint table of worked cases: each row is an equation between what a definition computes and what document 01 says.
 use Prim.Native.Nat.{ℕ}
-use mathlib.Core.Bool.{not}
+use mathlib.Core.Bool.{true, false, not}
 use mathlib.Core.Path.{_≡_}
 use mathlib.Core.List.{List, [], _∷_, _++_}
-use lib.IntN.{ℤ, pos, negsuc}
-use lib.ListN.{length, getD, replicate}
+use lib.Dec.{eqb}
+use lib.IntN.{pos, negsuc}
+use lib.ListN.{length, getD, set, replicate}
 use Rattle.script.specs.Tree.{Proc, ValP, AddP, Atomic, Fork, ValT, AddT, Read, Write}
 use Rattle.script.specs.Bytes.{jobBytes}
 use Rattle.script.specs.Count.{bound, codeLength}
@@ -12,8 +13,12 @@ use Rattle.script.specs.Outcome.{Outcome, refused, done}
 use Rattle.script.specs.Reader.{Job, readJob}
 use Rattle.code.specs.Bytes.{compiled}
 use Rattle.code.specs.Reader.{readCode}
-use Rattle.machine.specs.Steps.{Ran, threadAt, fresh, run}
-use Rattle.stm.specs.Events.{counted, isIdle, isCommit, isBack, order}
+use Rattle.guarantee.specs.Histories.{Ended}
+use Rattle.machine.specs.Threads.{blank, noted}
+use Rattle.machine.specs.Steps.{State, Ran, exists, threadAt, fresh, run}
+use Rattle.machine.specs.FitTest.{fits}
+use Rattle.machine.specs.Answers.{freshSays, stepSays, runSays}
+use Rattle.stm.specs.Events.{fromTable, idle, counted, isIdle, isCommit, isBack, order}
 use Rattle.word.specs.Sum.{wrapping}
 
 -- job version 1, and so many nodes
@@ -59,12 +64,6 @@ ran code picks = run wrapping code (fresh code) picks
 abbrev pub steps : Ran → ℕ
 steps r = counted (λ e. not (isIdle e)) (r .events)
 
--- the number of a thread's record, its place behind its code, and the number left on its stack
-pub record Ended (r : Ran) (i : ℕ) (n : ℤ) : Type 0 where
-  pub place : threadAt (r .state) i .place ≡ threadAt (r .state) i .end
-  pub height : threadAt (r .state) i .height ≡ 1
-  pub result : getD (threadAt (r .state) i .cells) 0 (pos 0) ≡ n
-
 abbrev pub sevenCode : List ℕ
 sevenCode = compiled (record { version = 1; tree = ValP (pos 7) })
 
@@ -79,6 +78,18 @@ ownCode = compiled (record { version = 1; tree = Atomic (AddT (Write 0 (ValT (po
 -- the whole case's picks
 abbrev pub wholePicks : List ℕ
 wholePicks = times 3 0 ++ (times 2 1 ++ (times 6 2 ++ times 10 1))
+
+-- no record of a thread
+abbrev pub noThreads : State
+noThreads = record { registers = replicate 64 (pos 0); threads = replicate 16 blank }
+
+-- threads 1 and 2 exchanged
+abbrev pub exchanged : State → State
+exchanged s = record { registers = s .registers; threads = set (set (s .threads) 1 (threadAt s 2)) 2 (threadAt s 1) }
+
+-- thread 1's read log marks register 63, with the value 9
+abbrev pub marked : State → State
+marked s = record { registers = s .registers; threads = set (s .threads) 1 (noted fromTable 63 (pos 9) (threadAt s 1)) }
 
 pub record Cases : Type 0 where
   -- sums
@@ -107,21 +118,39 @@ pub record Cases : Type 0 where
   pub whole-bound : bound wholeTree ≡ 27
   -- the machine
   pub seven-steps : steps (ran sevenCode (times 1 0)) ≡ 1
-  pub seven-done : Ended (ran sevenCode (times 1 0)) 0 (pos 7)
-  pub low-done : Ended (ran lowCode (times 3 0)) 0 (pos 2147483647)
+  pub seven-done : Ended (ran sevenCode (times 1 0) .state) 0 (pos 7)
+  pub low-done : Ended (ran lowCode (times 3 0) .state) 0 (pos 2147483647)
   pub own-read : threadAt (ran ownCode (times 4 0) .state) 0 .reads ≡ 0
   pub own-seen : threadAt (ran ownCode (times 4 0) .state) 0 .seen ≡ replicate 64 (pos 0)
   pub own-added : threadAt (ran ownCode (times 5 0) .state) 0 .reads ≡ 0
   pub own-kept : threadAt (ran ownCode (times 5 0) .state) 0 .seen ≡ replicate 64 (pos 0)
-  pub own-done : Ended (ran ownCode (times 6 0)) 0 (pos 10)
+  pub own-done : Ended (ran ownCode (times 6 0) .state) 0 (pos 10)
   pub own-register : getD (ran ownCode (times 6 0) .state .registers) 0 (pos 0) ≡ pos 5
   pub whole-steps : steps (ran wholeCode wholePicks) ≡ 21
   pub whole-idle : counted isIdle (ran wholeCode wholePicks .events) ≡ 0
   pub whole-commits : counted isCommit (ran wholeCode wholePicks .events) ≡ 2
   pub whole-back-count : counted isBack (ran wholeCode wholePicks .events) ≡ 1
-  pub whole-0 : Ended (ran wholeCode wholePicks) 0 (pos 0)
-  pub whole-1 : Ended (ran wholeCode wholePicks) 1 (pos 2)
-  pub whole-2 : Ended (ran wholeCode wholePicks) 2 (pos 1)
+  pub whole-0 : Ended (ran wholeCode wholePicks .state) 0 (pos 0)
+  pub whole-1 : Ended (ran wholeCode wholePicks .state) 1 (pos 2)
+  pub whole-2 : Ended (ran wholeCode wholePicks .state) 2 (pos 1)
   pub whole-registers : ran wholeCode wholePicks .state .registers ≡ pos 2 ∷ replicate 63 (pos 0)
   pub whole-order : order (ran wholeCode wholePicks .events) ≡ 0 ∷ 0 ∷ 0 ∷ 2 ∷ 1 ∷ []
-  pub none-open : threadAt (ran sevenCode [] .state) 0 .place ≡ 5
+  -- an empty pick list leaves thread 0 open
+  pub none-there : exists (threadAt (ran sevenCode [] .state) 0) ≡ true
+  pub none-open : eqb (threadAt (ran sevenCode [] .state) 0 .place) (threadAt (ran sevenCode [] .state) 0 .end) ≡ false
+  -- the calls: counts, and refusals 11 before 12 before 13
+  pub run-whole : runSays wholeCode (fresh wholeCode) wholePicks ≡ done (record { steps = 21; idle = 0; commits = 2; back = 1 })
+  pub run-none : runSays sevenCode (fresh sevenCode) [] ≡ done (record { steps = 0; idle = 0; commits = 0; back = 0 })
+  pub step-idle : stepSays sevenCode (ran sevenCode (times 1 0) .state) 0 ≡ done idle
+  pub foreign-code : stepSays [] noThreads 0 ≡ refused 11 0
+  pub foreign-fresh : freshSays sevenCode (record { registers = replicate 64 (pos 0); threads = replicate 15 blank }) ≡ refused 12 0
+  pub foreign-table : freshSays sevenCode (record { registers = replicate 63 (pos 0); threads = replicate 16 blank }) ≡ refused 12 0
+  pub laid-down : freshSays sevenCode noThreads ≡ done tt
+  pub foreign-state : stepSays sevenCode noThreads 0 ≡ refused 12 0
+  pub long-list : runSays sevenCode (fresh sevenCode) (times 32769 0) ≡ refused 13 0
+  pub long-foreign : runSays sevenCode noThreads (times 32769 0) ≡ refused 12 0
+  -- states that fit: both children of the whole case in the other order; a log that marks a register which its transaction never names
+  pub other-order : fits wholeCode (exchanged (ran wholeCode (times 2 0) .state)) ≡ true
+  pub unnamed : fits wholeCode (marked (ran wholeCode (times 2 0 ++ times 1 1) .state)) ≡ true
+  -- and one that does not: the same register marked outside a transaction
+  pub marked-outside : fits wholeCode (marked (ran wholeCode (times 2 0) .state)) ≡ false

@@ -1,3 +1,3 @@
--- The worked cases of document 01, "Slides for the bench", marked M there.
-pub mod Cases
+-- What is promised of the whole: lists of calls and what demand 3 says of them; the worked cases of document 01, "Slides for the bench".
 pub mod Histories
+pub mod Cases
