@@ -33,7 +33,8 @@ use Rattle.script.proofs.Accepts.{accepted-is-job, passed}
 use Rattle.machine.specs.Stands.{Stands, stackFrom}
 use Rattle.machine.proofs.Codes.{stands-end, stands-inside}
 use Rattle.machine.proofs.Showings.{Shows, shut, open′}
-use Rattle.machine.proofs.Mirrors.{Mirrors, below-exists, exists-below}
+use Rattle.machine.proofs.Numbers.{below-exists, exists-below}
+use Rattle.machine.proofs.Mirrors.{Mirrors}
 use Rattle.machine.proofs.Fresh.{fresh-typed, fresh-fits, fresh-mirrors}
 use Rattle.machine.proofs.Runs.{Run, run-keeps}
 use Rattle.stm.specs.Cells.{byValue}

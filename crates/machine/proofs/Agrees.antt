@@ -7,7 +7,7 @@ use Rattle.code.specs.Compile.{ε, compileP}
 use Rattle.code.specs.Bytes.{IsCode}
 use Rattle.script.specs.Reader.{Job}
 use Rattle.script.specs.Turns.{Registers}
-use Rattle.machine.specs.Steps.{State, Stepped, pick, Ran, run}
+use Rattle.machine.specs.Steps.{State, pick, run}
 use Rattle.machine.specs.Fits.{Fits, Typed}
 use Rattle.machine.specs.Source.{SThread, StepM}
 use Rattle.machine.specs.Soup.{Soup, StepOn}

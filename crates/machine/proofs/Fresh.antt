@@ -17,7 +17,8 @@ use Rattle.machine.specs.Stands.{stackFrom}
 use Rattle.machine.proofs.Codes.{code-ready}
 use Rattle.machine.proofs.Placings.{typed-spawned, placed-spawned}
 use Rattle.machine.proofs.Showings.{Shows, shut}
-use Rattle.machine.proofs.Mirrors.{Mirrors, number-is}
+use Rattle.machine.proofs.Mirrors.{Mirrors}
+use Rattle.machine.proofs.Numbers.{number-is, blank-absent}
 use Rattle.stm.specs.Cells.{byValue}
 use Rattle.stm.specs.Tasks.{taskAt, start}
 use Rattle.stm.specs.Meaning.{Outside}
@@ -26,10 +27,6 @@ no-record : (n i : ℕ) → getD (replicate n blank) i blank ≡ blank
 no-record zero i = refl
 no-record (suc n) zero = refl
 no-record (suc n) (suc i) = no-record n i
-
-blank-absent : exists blank ≡ false
-unfolding blank
-blank-absent = refl
 
 typed-blank : TypedThread blank
 unfolding blank

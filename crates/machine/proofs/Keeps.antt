@@ -1,6 +1,6 @@
 -- What an instruction leaves fits the code again. Assumes nothing.
-use Prim.Native.Nat.{ℕ, zero, suc, _+_, _-_, _≤_, _<_}
-use mathlib.Core.Bool.{Bool, true, false, cond, not}
+use Prim.Native.Nat.{ℕ, zero, suc, _+_, _≤_, _<_}
+use mathlib.Core.Bool.{Bool, true, false, not}
 use mathlib.Core.Path.{_≡_, refl, sym, ap, subst, _∙_}
 use mathlib.Core.List.{List, [], _∷_, _++_}
 use native.Mathlib.Decide.{decLt}
@@ -17,6 +17,7 @@ use Rattle.machine.specs.declared.Thread.{Thread}
 use Rattle.machine.specs.Threads.{blank, spawned}
 use Rattle.machine.specs.Steps.{State, Stepped, exists, numberOf, threadAt}
 use Rattle.machine.specs.Fits.{Child, Walked, Walks, starts, In, here, there, ownCode, Passed, Placed, Exists, ThreadOf, Forked, OneThread, Fits, TypedThread, Typed}
+use Rattle.machine.proofs.Numbers.{before-end, never, exists-below, in-table}
 use Rattle.machine.proofs.Walking.{walks-once}
 use Rattle.machine.proofs.Placings.{typed-spawned, placed-spawned}
 use Rattle.machine.proofs.Regions.{link-low, link-once, none-in, FirstOr, first, other, first-or, LastOnce, last-once, LinkOf, passed-link, no-more}
@@ -26,57 +27,9 @@ use Rattle.stm.specs.Tasks.{Did}
 use Rattle.stm.specs.Meaning.{Outside}
 use Rattle.stm.proofs.Bound.{forks-proc}
 
-never : {A : Type 0} → _≡_ {A = Bool} true false → A
-never e = absurd (let z : _≡_ {A = ℕ} 0 1 = cc in omega arith)
-
--- ---- the number of threads
-blank-no : exists blank ≡ false
-unfolding blank
-blank-no = refl
-
-number-not : (ts : List Thread) → exists (getD ts (numberOf ts) blank) ≡ false
-unfolding numberOf
-number-not [] = blank-no
-number-not (t ∷ ts) = go (exists t) refl (number-not ts)
-  where
-    go : (b : Bool) → exists t ≡ b → exists (getD ts (numberOf ts) blank) ≡ false → exists (getD (t ∷ ts) (cond b (suc (numberOf ts)) 0) blank) ≡ false
-    go true e r = r
-    go false e r = e
-
-number-there : (ts : List Thread) (k : ℕ) → k < numberOf ts → exists (getD ts k blank) ≡ true
-unfolding numberOf
-number-there [] k l = absurd (omega arith)
-number-there (t ∷ ts) k l = go (exists t) refl k l (λ m x. number-there ts m x)
-  where
-    go : (b : Bool) → exists t ≡ b → (k : ℕ) → k < cond b (suc (numberOf ts)) 0 → ((m : ℕ) → m < numberOf ts → exists (getD ts m blank) ≡ true) → exists (getD (t ∷ ts) k blank) ≡ true
-    go true e zero l r = e
-    go true e (suc k) l r = r k (omega arith)
-    go false e k l r = absurd (omega arith)
-
-getD-past : (ts : List Thread) (k : ℕ) → length ts ≤ k → getD ts k blank ≡ blank
-getD-past [] k l = refl
-getD-past (t ∷ ts) zero l = absurd (omega arith)
-getD-past (t ∷ ts) (suc k) l = getD-past ts k (omega arith)
-
--- a thread's number is one of the table
-pub in-table : (s : State) (k : ℕ) → Exists s k → k < length (s .threads)
-in-table s k e = go (decLt k (length (s .threads)))
-  where
-    go : Dec (k < length (s .threads)) → k < length (s .threads)
-    go (yes l) = l
-    go (no m) = never (sym e ∙ (ap exists (getD-past (s .threads) k (omega arith)) ∙ blank-no))
-
 -- the threads of a state that fits are those with lower numbers
-pub below-number : {bytes : List ℕ} (s : State) → Fits bytes s → (k : ℕ) → Exists s k → k < numberOf (s .threads)
-below-number s f k e = go (decLt k (numberOf (s .threads)))
-  where
-    down : (d k : ℕ) → Exists s (d + k) → Exists s k
-    down zero k e = subst (Exists s) (let z : 0 + k ≡ k = omega arith in z) e
-    down (suc d) k e = down d k (f .no-gap (d + k) (subst (Exists s) (let z : suc d + k ≡ suc (d + k) = omega arith in z) e))
-
-    go : Dec (k < numberOf (s .threads)) → k < numberOf (s .threads)
-    go (yes l) = l
-    go (no m) = never (sym (down (k - numberOf (s .threads)) (numberOf (s .threads)) (subst (Exists s) (let z : k ≡ (k - numberOf (s .threads)) + numberOf (s .threads) = omega arith in z) e)) ∙ number-not (s .threads))
+below-number : {bytes : List ℕ} (s : State) → Fits bytes s → (k : ℕ) → Exists s k → k < numberOf (s .threads)
+below-number s f k e = exists-below s (f .no-gap) k e
 
 -- the thread of a code is one
 pub same-thread : {bytes : List ℕ} (s : State) → Fits bytes s → (a b : ℕ) → Exists s a → Exists s b → ownCode (threadAt s a) ≡ ownCode (threadAt s b) → a ≡ b
@@ -152,16 +105,16 @@ module _ {bytes : List ℕ} {j : Job} (c : IsCode bytes j) (o : Outside (compile
     where
       links : (m : ℕ) → m < n → Parent (row x m)
       links zero l = (ownCode (threadAt s i), new-link x k)
-      links (suc m) l = parent m (number-there (s .threads) (suc m) l)
+      links (suc m) l = parent m (before-end (s .threads) (suc m) l)
 
       apart : (a b : ℕ) → a < b → b < n → row x a .start ≡ row x b .start → ⊥
       apart a zero l m q = absurd (omega arith)
       apart zero (suc b) l m q =
-          let h = number-there (s .threads) (suc b) m in
+          let h = before-end (s .threads) (suc b) m in
           unowned x k (suc b) (record { there = h; own = sym (link-once (new-link x k) (parent b h .1) q .1) })
       apart (suc a) (suc b) l m q =
-          let g = number-there (s .threads) (suc a) (omega arith) in
-          let h = number-there (s .threads) (suc b) m in
+          let g = before-end (s .threads) (suc a) (omega arith) in
+          let h = before-end (s .threads) (suc b) m in
           let z = same-thread s f (suc a) (suc b) g h (link-once (parent a g .1) (parent b h .1) q .1) in
           absurd (omega arith)
 
@@ -179,10 +132,10 @@ module _ {bytes : List ℕ} {j : Job} (c : IsCode bytes j) (o : Outside (compile
     own′ = each (λ (k : ℕ). ownCode (threadAt s′ k) ≡ ownCode (threadAt s k)) (ap ownCode at-i ∙ own-t) (λ k l q. ap ownCode q)
 
     there′ : (k : ℕ) → k < n → Exists s′ k
-    there′ k l = ap (λ (x : Child). not (eqb (x .start) 0)) (own′ k l) ∙ number-there (s .threads) k l
+    there′ k l = ap (λ (x : Child). not (eqb (x .start) 0)) (own′ k l) ∙ before-end (s .threads) k l
 
     placed′ : (k : ℕ) → k < n → Placed bytes (threadAt s′ k)
-    placed′ = each (λ (k : ℕ). Placed bytes (threadAt s′ k)) (subst (Placed bytes) (sym at-i) p) (λ k l q. subst (Placed bytes) (sym q) (f .placed k (number-there (s .threads) k l)))
+    placed′ = each (λ (k : ℕ). Placed bytes (threadAt s′ k)) (subst (Placed bytes) (sym at-i) p) (λ k l q. subst (Placed bytes) (sym q) (f .placed k (before-end (s .threads) k l)))
 
     typed′ : (k : ℕ) → k < n → TypedThread (threadAt s′ k)
     typed′ = each (λ (k : ℕ). TypedThread (threadAt s′ k)) (subst TypedThread (sym at-i) ty) (λ k l q. subst TypedThread (sym q) (y k))
@@ -207,7 +160,7 @@ module _ {bytes : List ℕ} {j : Job} (c : IsCode bytes j) (o : Outside (compile
         record { there = there′ k l; own = own′ k l ∙ h .own }
 
     thread-from : (x : Child) (k : ℕ) → k < n → ThreadOf s′ x k → ThreadOf s x k
-    thread-from x k l h = record { there = number-there (s .threads) k l; own = sym (own′ k l) ∙ h .own }
+    thread-from x k l h = record { there = before-end (s .threads) k l; own = sym (own′ k l) ∙ h .own }
 
     -- a FORK passed now was passed before, or is the one done
     data Was (x : Child) : Type 0 where
@@ -225,10 +178,10 @@ module _ {bytes : List ℕ} {j : Job} (c : IsCode bytes j) (o : Outside (compile
     was : (x : Child) (k : ℕ) → k < n → Passed bytes (threadAt s′ k) x → Was x
     was x = each (λ (k : ℕ). Passed bytes (threadAt s′ k) x → Was x)
         (λ h. either x born (subst (λ (l : List Child). In x l) kids (passed-now x (subst (λ (u : Thread). Passed bytes u x) at-i h))) (λ z. now z))
-        (λ k l q h. before (record { parent = k; there = number-there (s .threads) k l; passed = subst (λ (u : Thread). Passed bytes u x) q h }))
+        (λ k l q h. before (record { parent = k; there = before-end (s .threads) k l; passed = subst (λ (u : Thread). Passed bytes u x) q h }))
 
     child′ : (k : ℕ) → suc k < n → Forked bytes s′ (ownCode (threadAt s′ (suc k)))
-    child′ k l = subst (Forked bytes s′) (sym (own′ (suc k) l)) (forked-to (ownCode (threadAt s (suc k))) (f .child k (number-there (s .threads) (suc k) l)))
+    child′ k l = subst (Forked bytes s′) (sym (own′ (suc k) l)) (forked-to (ownCode (threadAt s (suc k))) (f .child k (before-end (s .threads) (suc k) l)))
 
   i-in : i < length (s .threads)
   i-in = in-table s i e
@@ -271,7 +224,7 @@ module _ {bytes : List ℕ} {j : Job} (c : IsCode bytes j) (o : Outside (compile
     quiet-no k h = go (decLt k n)
       where
         go : Dec (k < n) → threadAt quiet k ≡ blank
-        go (yes l) = never (sym (there′ quiet quiet-i quiet-other [] kids k l) ∙ h)
+        go (yes l) = never (there′ quiet quiet-i quiet-other [] kids k l) h
         go (no m) = quiet-above k m ∙ f .no-thread k (sym (ap exists (quiet-above k m)) ∙ h)
 
     quiet-typed : Typed quiet
@@ -435,8 +388,8 @@ module _ {bytes : List ℕ} {j : Job} (c : IsCode bytes j) (o : Outside (compile
     more-no k h = go (place k)
       where
         go : Place k → threadAt more k ≡ blank
-        go (older l) = never (sym (there′ more more-i more-other (new ∷ []) kids k l) ∙ h)
-        go (newest q) = never (sym (ap exists (ap (threadAt more) q ∙ more-new) ∙ born-exists) ∙ h)
+        go (older l) = never (there′ more more-i more-other (new ∷ []) kids k l) h
+        go (newest q) = never (ap exists (ap (threadAt more) q ∙ more-new) ∙ born-exists) h
         go (above m) = more-above k m ∙ f .no-thread k (sym (ap exists (more-above k m)) ∙ h)
 
     more-fits : Fits bytes more

@@ -2,6 +2,7 @@
 pub mod Picks
 pub mod Walking
 pub mod FitTests
+pub mod Numbers
 pub mod Codes
 pub mod Shapes
 pub mod Placings

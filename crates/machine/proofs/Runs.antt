@@ -16,7 +16,8 @@ use Rattle.machine.specs.Stands.{stackFrom, logOf, Ready}
 use Rattle.machine.proofs.Shapes.{Shape, out, open′ as shape-open, shape}
 use Rattle.machine.proofs.Showings.{Shows, shut, open′}
 use Rattle.machine.proofs.Simulates.{Held}
-use Rattle.machine.proofs.Mirrors.{Mirrors, Picked, stood, went, works, below-exists, pick-mirrors, idle-missing}
+use Rattle.machine.proofs.Mirrors.{Mirrors, Picked, stood, went, works, pick-mirrors, idle-missing}
+use Rattle.machine.proofs.Numbers.{below-exists}
 use Rattle.machine.proofs.Regions.{held}
 use Rattle.machine.proofs.Keeps.{keeps, has-room}
 use Rattle.stm.specs.Cells.{byValue}

@@ -28,7 +28,8 @@ use Rattle.machine.proofs.Codes.{stands-end, stands-inside, stands-op, 
 use Rattle.machine.proofs.Shapes.{same-op, taking-two}
 use Rattle.machine.proofs.Showings.{Shows, shut, open′}
 use Rattle.machine.proofs.Simulates.{Held}
-use Rattle.machine.proofs.Mirrors.{Mirrors, at-end, number-small, number-is, below-exists, exists-below, never, or-true, same-start, spawned-exists, less-than, no-inside, idle-now, idles, does}
+use Rattle.machine.proofs.Mirrors.{Mirrors, or-true, same-start, spawned-exists, less-than, no-inside, idle-now, idles, does}
+use Rattle.machine.proofs.Numbers.{at-end, number-small, number-is, below-exists, exists-below, never}
 use Rattle.machine.proofs.Rules.{Peeled, peel, only}
 use Rattle.machine.proofs.Carryings.{newborn, Forks, nobody as no-child, child, Follows, Fine, follows}
 use Rattle.stm.specs.Cells.{byValue}

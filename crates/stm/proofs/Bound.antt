@@ -13,6 +13,7 @@ use lib.Seq.{getD-set-same}
 use Rattle.stm.specs.Cells.{Cells}
 use Rattle.stm.specs.Tasks.{Log, Task, outside, inside, over, Did, firstStale, overwritten, commits, stays, goes, stepOutside, stepInside, stepTask, System, taskAt, started, did, next, endOf, eventsOf, start}
 use Rattle.stm.specs.Meaning.{TakesOutside, TakesInside, Outside, Inside, behind, beginsIn, begins, forksIn, forksOf, toCome, commitsToCome, forksToCome, dirty, total}
+use Rattle.stm.proofs.Codes.{proc-runs}
 use Rattle.stm.proofs.SentBack.{Staleness, staleness, at-next, never, no}
 use Rattle.code.specs.Compile.{Code, PUSH, ADD, READ, WRITE, BEGIN, COMMIT, FORK, ε, _⨾_, compileT, compileP}
 use Rattle.code.specs.Counts.{instructionCount, codeCount, untilCommit, longestAt, longestIn}
@@ -20,7 +21,7 @@ use Rattle.code.proofs.Heights.{count-proc, longest-proc}
 use Rattle.stm.specs.Events.{Event, idle, pushed, summed, forked, begun, looked, wrote, committed, sentBack, counted, isIdle, isCommit, isBack}
 use Rattle.script.specs.Tree.{Tran, ValT, AddT, Read, Write, Proc, ValP, AddP, Atomic, Fork}
 use Rattle.script.specs.Count.{forks, atomics, threads, instructions, longest, bound}
-use Rattle.script.specs.Limits.{ValuedT, ValuedP}
+use Rattle.script.specs.Limits.{ValuedP}
 use Rattle.word.specs.Sum.{Rule}
 
 -- ---- code
@@ -53,24 +54,10 @@ closed (BEGIN ⨾ c) h b x = absurd x
 closed (COMMIT ⨾ c) h b x = record { count-behind = refl; begins-behind = omega arith; forks-behind = omega arith; longest-behind = omega arith }
 closed (FORK k ⨾ c) h b x = absurd x
 
-inside-tran : (t : Tran) (c : Code) (h b : ℕ) → ValuedT t → Inside c (suc h) b → Inside (compileT t c) h b
-unfolding compileT Inside TakesInside
-inside-tran (ValT n) c h b v x = x
-inside-tran (AddT s t) c h b v x = inside-tran s (compileT t (ADD ⨾ c)) h b (v .0) (inside-tran t (ADD ⨾ c) (suc h) b (v .1) x)
-inside-tran (Read u) c h b v x = (v, x)
-inside-tran (Write u t) c h b v x = inside-tran t (WRITE u ⨾ c) h b (v .1) (v .0, x)
-
-outside-then : (p : Proc) (c : Code) (h : ℕ) → ValuedP p → Outside c (suc h) → Outside (compileP p c) h
-unfolding compileP Outside TakesOutside Inside TakesInside
-outside-then (ValP n) c h v x = x
-outside-then (AddP a b) c h v x = outside-then a (compileP b (ADD ⨾ c)) h (v .0) (outside-then b (ADD ⨾ c) (suc h) (v .1) x)
-outside-then (Atomic t) c h v x = inside-tran t (COMMIT ⨾ c) 0 h v (refl, x)
-outside-then (Fork p) c h v x = (outside-then p ε 0 v refl, x)
-
 -- a script's code runs from an empty stack
 pub outside-proc : (p : Proc) → ValuedP p → Outside (compileP p ε) 0
 unfolding Outside
-outside-proc p v = outside-then p ε 0 v refl
+outside-proc p v = proc-runs p ε 0 v refl
 
 begins-tran : (t : Tran) (c : Code) → begins (compileT t c) ≡ begins c
 unfolding compileT begins beginsIn
