@@ -252,7 +252,11 @@ read-sound zero [] f p [] ts b l e = record { count = refl; text = refl; fine = 
 read-sound zero [] f p (x ∷ bs) ts b l e =
     let e′ : refused 9 p ≡ done ts = rw (eqb·suc-zero (length bs)) at e in
     absurd (let z : _≡_ {A = ℕ} 0 1 = cc in omega arith)
-read-sound zero (d ∷ ds) f p bs ts b l e = absurd (let z : _≡_ {A = ℕ} 0 1 = cc in omega arith)
+read-sound zero (d ∷ ds) f p [] ts b l e = absurd (let z : _≡_ {A = ℕ} 0 1 = cc in omega arith)
+read-sound zero (d ∷ ds) f p (x ∷ bs) ts b l e =
+    let both : (readNodes zero (d ∷ ds) f p (x ∷ bs) ≡ done ts) × (eqb (suc (length bs)) 0 ≡ eqb (suc (length bs)) 0) = (e, refl) in
+    let e′ = (rw (eqb·suc-zero (length bs)) at both) .0 in
+    absurd (let z : _≡_ {A = ℕ} 0 1 = cc in omega arith)
 read-sound (suc left) [] f p bs ts b l e = absurd (let z : _≡_ {A = ℕ} 0 1 = cc in omega arith)
 read-sound (suc left) (d ∷ ds) f p bs ts b l e =
     let w = seen (d .depth) f p (d .sort) bs b l in
