@@ -1,5 +1,5 @@
--- An idle pick changes nothing, only a COMMIT that takes effect changes the registers, and runs follow one another. Assumes nothing.
-use Prim.Native.Nat.{ℕ, _+_}
+-- An idle pick changes nothing, only a COMMIT that takes effect changes the registers, runs follow one another, and each pick is counted once. Assumes nothing.
+use Prim.Native.Nat.{ℕ, suc, _+_}
 use mathlib.Core.Bool.{Bool, true, false, cond, not, _||_}
 use mathlib.Core.Path.{_≡_, refl}
 use mathlib.Core.List.{List, [], _∷_, _++_}
@@ -9,7 +9,8 @@ use lib.ListN.{length, drop, set}
 use Rattle.machine.specs.declared.Thread.{Thread}
 use Rattle.machine.specs.Threads.{closed, firstStale, overlaid}
 use Rattle.machine.specs.Steps.{State, Stepped, put, exists, threadAt, commit, instruction, doing, pick, Ran, run}
-use Rattle.stm.specs.Events.{idle, committed, sentBack, isIdle, isCommit}
+use Rattle.machine.specs.Answers.{countsOf}
+use Rattle.stm.specs.Events.{Happened, counted, idle, committed, sentBack, isIdle, isCommit}
 use Rattle.code.specs.Reader.{Op, opAt}
 use Rattle.code.specs.Reader as code
 use Rattle.script.specs.Outcome.{Outcome, refused, done}
@@ -80,3 +81,16 @@ unfolding run
 run-append sum bytes s [] js = refl
 run-append sum bytes s (i ∷ is) js =
     rw (run-append sum bytes (pick sum bytes s i .state) is js)
+
+-- each pick is a step or idle, and is counted once
+pub each-counted : (sum : Rule) (bytes : List ℕ) (s : State) (is : List ℕ) → countsOf (run sum bytes s is .events) .steps + countsOf (run sum bytes s is .events) .idle ≡ length is
+unfolding run counted countsOf
+each-counted sum bytes s [] = refl
+each-counted sum bytes s (i ∷ is) = go (isIdle (pick sum bytes s i .event)) (each-counted sum bytes (pick sum bytes s i .state) is)
+  where
+    rest : List Happened
+    rest = run sum bytes (pick sum bytes s i .state) is .events
+
+    go : (b : Bool) → counted (λ e. not (isIdle e)) rest + counted isIdle rest ≡ length is → cond (not b) (suc (counted (λ e. not (isIdle e)) rest)) (counted (λ e. not (isIdle e)) rest) + cond b (suc (counted isIdle rest)) (counted isIdle rest) ≡ suc (length is)
+    go true e = omega arith
+    go false e = omega arith
