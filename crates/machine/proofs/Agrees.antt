@@ -1,23 +1,62 @@
 -- For code that is not foreign: steps keep the fit of a state, and agree with the source's machine. Assumes nothing.
-use Prim.Native.Nat.{ℕ}
-use mathlib.Core.Bool.{false}
-use mathlib.Core.Path.{_≡_}
+use Prim.Native.Nat.{ℕ, _+_}
+use mathlib.Core.Bool.{Bool, true, false, cond}
+use mathlib.Core.Path.{_≡_, refl, ap, _∙_}
 use mathlib.Core.List.{List}
-use Rattle.code.specs.Compile.{ε, compileP}
+use borrow.Author.Tests.{lt-ltb, ne-eqb}
+use lib.Dec.{ltb}
+use lib.ListN.{length, drop, set}
+use Rattle.code.specs.Compile.{Instruction, Code, ε, _⨾_, compileP}
 use Rattle.code.specs.Bytes.{IsCode}
+use Rattle.code.specs.Reader.{Op, opAt}
+use Rattle.code.specs.Reader as code
+use Rattle.script.specs.Outcome.{done}
 use Rattle.script.specs.Reader.{Job}
 use Rattle.script.specs.Turns.{Registers}
-use Rattle.machine.specs.Steps.{State, pick, run}
-use Rattle.machine.specs.Fits.{Fits, Typed}
+use Rattle.machine.specs.declared.Thread.{Thread}
+use Rattle.machine.specs.Threads.{closed, firstStale, overlaid}
+use Rattle.machine.specs.Steps.{State, Stepped, put, threadAt, commit, instruction, pick, run}
+use Rattle.machine.specs.Fits.{Exists, Fits, Typed}
 use Rattle.machine.specs.Source.{SThread, StepM}
 use Rattle.machine.specs.Soup.{Soup, StepOn}
+use Rattle.machine.specs.Stands.{opOf, Ready}
+use Rattle.machine.proofs.Numbers.{in-table}
+use Rattle.machine.proofs.Codes.{stands-end, ready-op}
+use Rattle.machine.proofs.Showings.{Shows, shut, open′}
+use Rattle.machine.proofs.Mirrors.{idle-now, no-inside, does as picks}
 use Rattle.machine.proofs.Regions.{held}
-use Rattle.machine.proofs.Runs.{mirror, room-for, pick-keeps, run-keeps}
+use Rattle.machine.proofs.Runs.{shows-of, mirror, room-for, pick-keeps, run-keeps}
 use Rattle.machine.proofs.Soups.{soup-of, pick-steps, step-picks}
-use Rattle.stm.specs.Events.{isIdle}
+use Rattle.stm.specs.Events.{committed, sentBack, isIdle}
+use Rattle.stm.specs.Cells.{byValue}
+use Rattle.stm.specs.Tasks.{Task}
 use Rattle.stm.specs.Meaning.{Outside}
 use Rattle.stm.proofs.Bound.{outside-proc}
 use Rattle.word.specs.Sum.{Rule}
+
+never-idle : (sum : Rule) (s : State) (i : ℕ) (t : Thread) (op : Op) → isIdle (instruction sum s i t op .event) ≡ false
+unfolding instruction commit
+never-idle sum s i t (code.push n) = refl
+never-idle sum s i t code.add = refl
+never-idle sum s i t (code.read v) = refl
+never-idle sum s i t (code.write v) = refl
+never-idle sum s i t code.begin = refl
+never-idle sum s i t code.commit = by (ltb (firstStale 64 0 t (s .registers)) 64)
+  where
+    result : Bool → Stepped
+    result b =
+        cond
+        b
+        (record { state = put s i (closed (t .begin) (t .base) t); event = sentBack (firstStale 64 0 t (s .registers)) })
+        (record {
+          state = record { registers = overlaid 64 0 t (s .registers); threads = set (s .threads) i (closed (t .place + 1) (t .height) t) };
+          event = committed;
+        })
+
+    by : (b : Bool) → isIdle (result b .event) ≡ false
+    by true = refl
+    by false = refl
+never-idle sum s i t (code.fork size) = refl
 
 module _ {code : List ℕ} {j : Job} (c : IsCode code j) where
   outer : Outside (compileP (j .tree) ε) 0
@@ -52,3 +91,26 @@ module _ {code : List ℕ} {j : Job} (c : IsCode code j) where
   step-is-pick sum s f y soup x h′ soup′ e =
       let m = mirror c outer s f y in
       step-picks code sum s (m .0) (m .1) (f .no-gap) (λ k there. held c outer s f y k there) (λ i. room-for c outer sum s (m .0) f y (m .1) i) soup x h′ soup′ e
+
+  -- "Each other pick does one instruction": the one at the thread's place, and is not idle
+  pub record DoesOne (sum : Rule) (s : State) (i : ℕ) : Type 0 where
+    pub op : Op
+    pub at-place : opAt (drop (threadAt s i .place) code) ≡ done op
+    pub does : pick sum code s i ≡ instruction sum s i (threadAt s i) op
+    pub not-idle : isIdle (pick sum code s i .event) ≡ false
+
+  pub does-one : (sum : Rule) (s : State) → Fits code s → Typed s → (i : ℕ) → Exists s i → (threadAt s i .place ≡ threadAt s i .end → ⊥) → DoesOne sum s i
+  does-one sum s f y i e ne = go (shows-of (held c outer s f y i e))
+    where
+      one : {ins : Instruction} {k : Code} → Ready code (threadAt s i .place) (threadAt s i .end) (ins ⨾ k) (threadAt s i .height) → DoesOne sum s i
+      one {ins} r =
+          let small : ltb i (length (s .threads)) ≡ true = lt-ltb i (length (s .threads)) (in-table s i e) in
+          let busy : idle-now s i ≡ false = rw (small, e, ne-eqb (threadAt s i .place) (threadAt s i .end) ne) in
+          let d = picks code sum s i (opOf ins) busy (ready-op r) in
+          record { op = opOf ins; at-place = ready-op r; does = d; not-idle = ap (λ (x : Stepped). isIdle (x .event)) d ∙ never-idle sum s i (threadAt s i) (opOf ins) }
+
+      go : (task : Task byValue) × Shows code (threadAt s i) task → DoesOne sum s i
+      go (t, shut ε r o z) = absurd (ne (stands-end (r .stands)))
+      go (t, shut (ins ⨾ k) r o z) = one r
+      go (t, open′ body ε k r o h w g x q) = absurd (no-inside k (threadAt s i .base) o)
+      go (t, open′ body (ins ⨾ k) n r o h w g x q) = one r
