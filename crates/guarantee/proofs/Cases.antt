@@ -57,6 +57,15 @@ cases =
       whole-2 = record { there = refl; place = refl; height = refl; result = refl };
       whole-registers = refl;
       whole-order = refl;
+      high-back = refl;
+      high-place = refl;
+      high-height = refl;
+      high-cells = refl;
+      high-begin = refl;
+      high-base = refl;
+      high-reads = refl;
+      high-seen = refl;
+      high-done = record { there = refl; place = refl; height = refl; result = refl };
       none-there = refl;
       none-open = refl;
       run-whole = refl;

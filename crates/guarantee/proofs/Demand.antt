@@ -8,7 +8,7 @@ use native.Mathlib.Omega.{arith}
 use lib.Dec.{ltb}
 use lib.IntN.{ℤ, pos}
 use lib.ListN.{length, getD}
-use Rattle.guarantee.specs.Histories.{Call, step, run, codeOf, stateOf, picksOf, Lent, alone, comesTo, History, none, turned-down, followed, scriptAfter, Ended, SameResult, Whole, Taken, SentBack}
+use Rattle.guarantee.specs.Histories.{Call, step, run, codeOf, stateOf, picksOf, Lent, alone, comesTo, History, none, turned-down, followed, scriptAfter, Ended, SameResult, Whole, Taken, SentBack, Demand3}
 use Rattle.code.specs.Compile.{Code, ε, _⨾_, compileP}
 use Rattle.code.specs.Bytes.{compiled, IsCode}
 use Rattle.code.specs.Reader.{readCode}
@@ -351,3 +351,13 @@ module _ (job : List ℕ) (j : Job) (b : Bytes job) (accepted : readJob job ≡ 
           let e : Exists (ran .state) i = below-exists (ran .state) i (subst (λ (m : ℕ). i < m) (sym (k .mirrors .number)) l) in
           let x = shows-ended (threadAt (ran .state) i) n (subst (λ (y : Task byValue). Shows (compiled j) (threadAt (ran .state) i) y) t (k .mirrors .shown i l)) in
           record { there = e; place = x .0; height = x .1 .0; result = x .1 .1 }
+
+-- Demand 3: for every accepted job
+pub demand-3 : (job : List ℕ) (j : Job) → Bytes job → readJob job ≡ done j → Demand3 j
+demand-3 job j b accepted =
+    record {
+      whole = λ h. sound job j b accepted h;
+      orders = λ is can. every-order job j b accepted is can;
+      sent-back = λ h. sent-back job j b accepted h;
+      ends = λ h. bounded job j b accepted h;
+    }

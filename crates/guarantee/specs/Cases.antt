@@ -75,6 +75,13 @@ lowCode = compiled (record { version = 1; tree = AddP (ValP (negsuc 2147483647))
 abbrev pub ownCode : List ℕ
 ownCode = compiled (record { version = 1; tree = Atomic (AddT (Write 0 (ValT (pos 5))) (Read 0)) })
 
+-- ADDP 5 (ADDP (FORK (ATOMIC (WRITE 0 1))) (ATOMIC (READ 0))), whose root is sent back with two numbers below its transaction
+abbrev pub highCode : List ℕ
+highCode = compiled (record { version = 1; tree = AddP (ValP (pos 5)) (AddP (Fork (Atomic (Write 0 (ValT (pos 1))))) (Atomic (Read 0))) })
+
+abbrev pub highPicks : List ℕ
+highPicks = times 4 0 ++ (times 4 1 ++ times 1 0)
+
 -- the whole case's picks
 abbrev pub wholePicks : List ℕ
 wholePicks = times 3 0 ++ (times 2 1 ++ (times 6 2 ++ times 10 1))
@@ -135,6 +142,16 @@ pub record Cases : Type 0 where
   pub whole-2 : Ended (ran wholeCode wholePicks .state) 2 (pos 1)
   pub whole-registers : ran wholeCode wholePicks .state .registers ≡ pos 2 ∷ replicate 63 (pos 0)
   pub whole-order : order (ran wholeCode wholePicks .events) ≡ 0 ∷ 0 ∷ 0 ∷ 2 ∷ 1 ∷ []
+  -- a sent-back thread: at its BEGIN, its stack as it was there, logs and notes empty
+  pub high-back : counted isBack (ran highCode highPicks .events) ≡ 1
+  pub high-place : threadAt (ran highCode highPicks .state) 0 .place ≡ 22
+  pub high-height : threadAt (ran highCode highPicks .state) 0 .height ≡ 2
+  pub high-cells : threadAt (ran highCode highPicks .state) 0 .cells ≡ pos 5 ∷ pos 0 ∷ replicate 62 (pos 0)
+  pub high-begin : threadAt (ran highCode highPicks .state) 0 .begin ≡ 0
+  pub high-base : threadAt (ran highCode highPicks .state) 0 .base ≡ 0
+  pub high-reads : threadAt (ran highCode highPicks .state) 0 .reads ≡ 0
+  pub high-seen : threadAt (ran highCode highPicks .state) 0 .seen ≡ replicate 64 (pos 0)
+  pub high-done : Ended (ran highCode (highPicks ++ times 5 0) .state) 0 (pos 6)
   -- an empty pick list leaves thread 0 open
   pub none-there : exists (threadAt (ran sevenCode [] .state) 0) ≡ true
   pub none-open : eqb (threadAt (ran sevenCode [] .state) 0 .place) (threadAt (ran sevenCode [] .state) 0 .end) ≡ false

@@ -1,5 +1,6 @@
 -- Document 01, "Runs and turns": lists of calls that run a job's code by picks, and what demand 3 says of them.
 use Prim.Native.Nat.{ℕ, _<_, _≤_}
+use mathlib.Core.Bool.{not}
 use mathlib.Core.Logic.{_↔_}
 use mathlib.Core.Path.{_≡_}
 use mathlib.Core.List.{List, [], _∷_, _++_}
@@ -7,13 +8,14 @@ use lib.IntN.{ℤ, pos}
 use lib.ListN.{length, getD}
 use Rattle.code.specs.Bytes.{compiled}
 use Rattle.machine.specs.Steps.{State, Stepped, threadAt, fresh, Ran}
-use Rattle.stm.specs.Events.{Happened, counted, isCommit, backs, order}
+use Rattle.stm.specs.Events.{Happened, counted, isIdle, isCommit, backs, order}
 use Rattle.machine.specs.Fits.{Exists, Typed}
 use Rattle.machine.specs.Answers.{sumOf, stepOf, runOf}
+use Rattle.script.specs.Count.{bound}
 use Rattle.script.specs.Bytes.{Bytes}
 use Rattle.script.specs.Outcome.{Outcome, refused, done, mapped}
 use Rattle.script.specs.Reader.{Job}
-use Rattle.script.specs.Turns.{Script, initial, turns, Result}
+use Rattle.script.specs.Turns.{Script, initial, turns, CanTake, Result}
 
 -- a call, with what it is lent
 pub data Call : Type 0 where
@@ -91,3 +93,11 @@ pub record Taken (j : Job) (is : List ℕ) : Type 0 where
 pub record SentBack (events : List Happened) : Type 0 where
   pub not-twice : (before between behind : List Happened) → events ≡ before ++ (between ++ behind) → counted isCommit between ≡ 0 → (i : ℕ) → backs i between ≤ 1
   pub none-first : (before behind : List Happened) → events ≡ before ++ behind → counted isCommit before ≡ 0 → (i : ℕ) → backs i before ≡ 0
+
+-- Demand 3, whole, of an accepted job
+pub record Demand3 (j : Job) : Type 0 where
+  pub whole : {s : State} {events : List Happened} → History (compiled j) s events → Whole j s events
+  pub orders : (is : List ℕ) → CanTake (sumOf j) (initial (j .tree)) is → Taken j is
+  pub sent-back : {s : State} {events : List Happened} → History (compiled j) s events → SentBack events
+  -- "the job ends within L + (K−1)×(T−1)×M steps, or L if K is 0, idle picks uncounted"
+  pub ends : {s : State} {events : List Happened} → History (compiled j) s events → counted (λ e. not (isIdle e)) events ≤ bound (j .tree)

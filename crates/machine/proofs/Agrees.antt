@@ -1,11 +1,12 @@
 -- For code that is not foreign: steps keep the fit of a state, and agree with the source's machine. Assumes nothing.
-use Prim.Native.Nat.{ℕ, _+_}
+use Prim.Native.Nat.{ℕ, zero, suc, _+_, _<_}
 use mathlib.Core.Bool.{Bool, true, false, cond}
-use mathlib.Core.Path.{_≡_, refl, ap, _∙_}
+use mathlib.Core.Path.{_≡_, refl, sym, ap, _∙_}
 use mathlib.Core.List.{List}
+use native.Mathlib.Omega.{arith}
 use borrow.Author.Tests.{lt-ltb, ne-eqb}
 use lib.Dec.{ltb}
-use lib.ListN.{length, drop, set}
+use lib.ListN.{length, drop, getD, set}
 use Rattle.code.specs.Compile.{Instruction, Code, ε, _⨾_, compileP}
 use Rattle.code.specs.Bytes.{IsCode}
 use Rattle.code.specs.Reader.{Op, opAt}
@@ -14,22 +15,23 @@ use Rattle.script.specs.Outcome.{done}
 use Rattle.script.specs.Reader.{Job}
 use Rattle.script.specs.Turns.{Registers}
 use Rattle.machine.specs.declared.Thread.{Thread}
-use Rattle.machine.specs.Threads.{closed, firstStale, overlaid}
-use Rattle.machine.specs.Steps.{State, Stepped, put, threadAt, commit, instruction, pick, run}
+use Rattle.machine.specs.Threads.{spawned, closed, firstStale, overlaid}
+use Rattle.machine.specs.Steps.{State, Stepped, put, threadAt, commit, instruction, pick, fresh, run}
 use Rattle.machine.specs.Fits.{Exists, Fits, Typed}
 use Rattle.machine.specs.Source.{SThread, StepM}
-use Rattle.machine.specs.Soup.{Soup, StepOn}
-use Rattle.machine.specs.Stands.{opOf, Ready}
+use Rattle.machine.specs.Soup.{Carries, nobody, Soup, load, StepOn}
+use Rattle.machine.specs.Stands.{stackFrom, opOf, Ready}
 use Rattle.machine.proofs.Numbers.{in-table}
-use Rattle.machine.proofs.Codes.{stands-end, ready-op}
+use Rattle.machine.proofs.Codes.{stands-end, ready-op, code-ready}
 use Rattle.machine.proofs.Showings.{Shows, shut, open′}
 use Rattle.machine.proofs.Mirrors.{idle-now, no-inside, does as picks}
+use Rattle.machine.proofs.Fresh.{fresh-mirrors}
 use Rattle.machine.proofs.Regions.{held}
 use Rattle.machine.proofs.Runs.{shows-of, mirror, room-for, pick-keeps, run-keeps}
 use Rattle.machine.proofs.Soups.{soup-of, pick-steps, step-picks}
 use Rattle.stm.specs.Events.{committed, sentBack, isIdle}
 use Rattle.stm.specs.Cells.{byValue}
-use Rattle.stm.specs.Tasks.{Task}
+use Rattle.stm.specs.Tasks.{Task, start}
 use Rattle.stm.specs.Meaning.{Outside}
 use Rattle.stm.proofs.Bound.{outside-proc}
 use Rattle.word.specs.Sum.{Rule}
@@ -79,6 +81,23 @@ module _ {code : List ℕ} {j : Job} (c : IsCode code j) where
   -- a fitting state stands for a soup of the source's threads
   pub has-soup : (s : State) → Fits code s → Typed s → (soup : List SThread) × Soup code s soup
   has-soup s f y = soup-of (mirror c outer s f y .1)
+
+  -- a fresh state stands for the source's loaded process
+  pub fresh-soup : Soup code (fresh code) (load (j .tree))
+  unfolding fresh spawned stackFrom start
+  fresh-soup = record { number = sym (fresh-mirrors code c outer .number); carries = carried }
+    where
+      carried : (i : ℕ) → i < 1 → Carries code (threadAt (fresh code) i) (getD (load (j .tree)) i nobody)
+      carried zero l =
+          record {
+            code = code-ready c .stands;
+            valued = code-ready c .valued;
+            stack = refl;
+            again = λ b. absurd (omega arith);
+            reads = λ b v. absurd (omega arith);
+            writes = λ b v. absurd (omega arith);
+          }
+      carried (suc i) l = absurd (omega arith)
 
   -- a pick that is not idle is a step of the source's machine, by the rule that its event names
   pub pick-is-step : (sum : Rule) (s : State) → Fits code s → Typed s → (soup : List SThread) → Soup code s soup → (i : ℕ) → isIdle (pick sum code s i .event) ≡ false → (h′ : Registers) × ((soup′ : List SThread) × StepOn code sum s i soup h′ soup′)

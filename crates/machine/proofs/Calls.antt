@@ -13,6 +13,8 @@ use Rattle.machine.specs.FitTest.{fits}
 use Rattle.machine.specs.Answers as answers
 use Rattle.machine.specs.Answers.{sumOf, rightLengths, fitting, freshOf, stepOf, runOf, FreshAnswer, StepAnswer, RunAnswer}
 use Rattle.machine.proofs.FitTests.{fits-exactly}
+use Rattle.machine.proofs.Fresh.{fresh-fits, fresh-typed}
+use Rattle.machine.proofs.Agrees.{step-fits, run-fits}
 use Rattle.code.specs.Bytes.{IsCode}
 use Rattle.code.specs.Reader.{readCode}
 use Rattle.code.proofs.Foreign.{only-foreign, foreign-exactly}
@@ -79,3 +81,32 @@ run-answers code s is b y = by (readCode code) refl
         let z = only-foreign code n p e in
         subst (λ (x : Outcome Ran). RunAnswer code s is x) (sym (ap (λ (m : ℕ). refused m p) (z .0) ∙ ap (λ (m : ℕ). refused 11 m) (z .1))) (answers.foreign-code (foreign-exactly code b .0 (eleven code n p e)))
     by (done j) e = fitted (read-is-code code j b e) (fits code s) refl
+
+-- ---- what the calls leave: a state that fits, or the one that was lent
+-- `fresh` that is not refused leaves a state that fits
+pub fresh-leaves : (code : List ℕ) (s r : State) → Bytes code → freshOf code s ≡ done r → Fits code r × Typed r
+fresh-leaves code s r b e = by (freshOf code s) e (fresh-answers code s b)
+  where
+    by : (o : Outcome State) → o ≡ done r → FreshAnswer code s o → Fits code r × Typed r
+    by o q (answers.foreign-code f) = absurd (let z : _≡_ {A = ℕ} 0 1 = cc in omega arith)
+    by o q (answers.foreign-state c f) = absurd (let z : _≡_ {A = ℕ} 0 1 = cc in omega arith)
+    by o q (answers.laid-down c k l) = let x : fresh code ≡ r = cc in subst (λ (y : State). Fits code y × Typed y) x (fresh-fits code, fresh-typed code)
+
+-- and so does a step
+pub step-leaves : (code : List ℕ) (s : State) (i : ℕ) (r : Stepped) → Bytes code → Typed s → stepOf code s i ≡ done r → Fits code (r .state) × Typed (r .state)
+step-leaves code s i r b y e = by (stepOf code s i) e (step-answers code s i b y)
+  where
+    by : (o : Outcome Stepped) → o ≡ done r → StepAnswer code s i o → Fits code (r .state) × Typed (r .state)
+    by o q (answers.foreign-code f) = absurd (let z : _≡_ {A = ℕ} 0 1 = cc in omega arith)
+    by o q (answers.foreign-state c f) = absurd (let z : _≡_ {A = ℕ} 0 1 = cc in omega arith)
+    by o q (answers.picked {j} c f) = let x : pick (sumOf j) code s i ≡ r = cc in subst (λ (z : Stepped). Fits code (z .state) × Typed (z .state)) x (step-fits c (sumOf j) s f y i)
+
+-- and a run
+pub run-leaves : (code : List ℕ) (s : State) (is : List ℕ) (r : Ran) → Bytes code → Typed s → runOf code s is ≡ done r → Fits code (r .state) × Typed (r .state)
+run-leaves code s is r b y e = by (runOf code s is) e (run-answers code s is b y)
+  where
+    by : (o : Outcome Ran) → o ≡ done r → RunAnswer code s is o → Fits code (r .state) × Typed (r .state)
+    by o q (answers.foreign-code f) = absurd (let z : _≡_ {A = ℕ} 0 1 = cc in omega arith)
+    by o q (answers.foreign-state c f) = absurd (let z : _≡_ {A = ℕ} 0 1 = cc in omega arith)
+    by o q (answers.long-list c f l) = absurd (let z : _≡_ {A = ℕ} 0 1 = cc in omega arith)
+    by o q (answers.ran {j} c f l) = let x : run (sumOf j) code s is ≡ r = cc in subst (λ (z : Ran). Fits code (z .state) × Typed (z .state)) x (run-fits c (sumOf j) s f y is)

@@ -24,6 +24,11 @@ module _ {sum : Rule} where
   later t p =
       record { front = t ∷ p .front; m = p .m; behind = p .behind; left = p .left; was = ap (λ (l : List SThread). t ∷ l) (p .was); becomes = ap (λ (l : List SThread). t ∷ l) (p .becomes); step = p .step; first = p .first }
 
+  -- the rest of the soup makes progress
+  pub preempted : {h h′ : Registers} (front : List SThread) {s s′ : List SThread} → StepM sum h s h′ s′ → StepM sum h (front ++ s) h′ (front ++ s′)
+  preempted [] x = x
+  preempted (t ∷ front) x = Preempt (preempted front x)
+
   -- every step is one of some thread
   pub peel : {h h′ : Registers} {s s′ : List SThread} → StepM sum h s h′ s′ → Peeled sum h s h′ s′
   unfolding First

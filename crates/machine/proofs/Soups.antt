@@ -30,7 +30,7 @@ use Rattle.machine.proofs.Showings.{Shows, shut, open′}
 use Rattle.machine.proofs.Simulates.{Held}
 use Rattle.machine.proofs.Mirrors.{Mirrors, or-true, same-start, spawned-exists, less-than, no-inside, idle-now, idles, does}
 use Rattle.machine.proofs.Numbers.{at-end, number-small, number-is, below-exists, exists-below, never}
-use Rattle.machine.proofs.Rules.{Peeled, peel, only}
+use Rattle.machine.proofs.Rules.{preempted, Peeled, peel, only}
 use Rattle.machine.proofs.Carryings.{newborn, Forks, nobody as no-child, child, Follows, Fine, follows}
 use Rattle.stm.specs.Cells.{byValue}
 use Rattle.stm.specs.Tasks.{Task, outside, System, taskAt, did, stepOutside, stepTask}
@@ -287,6 +287,7 @@ module _ (bytes : List ℕ) (sum : Rule) where
         was = was;
         step = x .step behind;
         its = x .first behind;
+        whole = subst (λ (y : List SThread). StepM sum (s .registers) y (x .heap) (front ++ (x .m′ ∷ (x .new ++ behind)))) (sym was) (preempted front (x .step behind));
         rule = ap (λ (y : Stepped). named (y .event)) p ∙ x .rule behind;
         becomes = refl;
         heap = ap (λ (y : Stepped). y .state .registers) p ∙ x .registers;

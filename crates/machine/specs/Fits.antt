@@ -1,5 +1,5 @@
 -- Document 01: "A state fits its code if ..". A test that decides it is in FitTest.
-use Prim.Native.Nat.{ℕ, suc, _+_, _-_, _≤_, _<_}
+use Prim.Native.Nat.{ℕ, suc, _+_, _-_, _≤_, _<_, _^_}
 use mathlib.Core.Path.{_≡_}
 use mathlib.Core.Bool.{true, false}
 use mathlib.Core.List.{List, [], _∷_}
@@ -12,6 +12,7 @@ use Rattle.code.specs.Reader.{Op, opAt}
 use Rattle.code.specs.Reader as code
 use Rattle.script.specs.Outcome.{done}
 use Rattle.word.specs.Registers.{none, member}
+use Rattle.word.specs.Sum.{InRange}
 
 -- a FORK's child code, from its start up to its end
 pub record Child : Type 0 where
@@ -128,7 +129,7 @@ pub record Fits (bytes : List ℕ) (s : State) : Type 0 where
   -- "records of threads that do not exist hold 0"
   pub no-thread : (i : ℕ) → exists (threadAt s i) ≡ false → threadAt s i ≡ blank
 
--- ---- what every state that can be lent has by its type alone: 64 cells, 64 values in each log
+-- ---- what every state that can be lent has by its type alone: 64 cells, 64 values in each log; this is the only side condition of a theorem
 pub record TypedThread (t : Thread) : Type 0 where
   pub cells : length (t .cells) ≡ 64
   pub seen : length (t .seen) ≡ 64
@@ -136,3 +137,21 @@ pub record TypedThread (t : Thread) : Type 0 where
 
 abbrev pub Typed : State → Type 0
 Typed s = (i : ℕ) → TypedThread (threadAt s i)
+
+-- and numbers of 32 bits, sets of 64 bits, places and heights of 64 bits
+pub record RangedThread (t : Thread) : Type 0 where
+  pub cells : (n : ℕ) → InRange (getD (t .cells) n (pos 0))
+  pub seen : (v : ℕ) → InRange (getD (t .seen) v (pos 0))
+  pub kept : (v : ℕ) → InRange (getD (t .kept) v (pos 0))
+  pub reads : t .reads < 2 ^ 64
+  pub writes : t .writes < 2 ^ 64
+  pub start : t .start < 2 ^ 64
+  pub end : t .end < 2 ^ 64
+  pub place : t .place < 2 ^ 64
+  pub height : t .height < 2 ^ 64
+  pub begin : t .begin < 2 ^ 64
+  pub base : t .base < 2 ^ 64
+
+pub record Ranged (s : State) : Type 0 where
+  pub registers : (v : ℕ) → InRange (getD (s .registers) v (pos 0))
+  pub threads : (i : ℕ) → RangedThread (threadAt s i)

@@ -4,11 +4,12 @@ use mathlib.Core.Path.{_≡_}
 use mathlib.Core.List.{List, [], _∷_, _++_}
 use mathlib.Core.Option.{Option, none, some}
 use lib.ListN.{length, getD}
-use Rattle.code.specs.Compile.{ε}
+use Rattle.code.specs.Compile.{ε, compileP}
 use Rattle.machine.specs.declared.Thread.{Thread}
 use Rattle.machine.specs.Steps.{State, numberOf, threadAt, pick}
 use Rattle.stm.specs.Events.{Event, idle, pushed, summed, forked, begun, looked, wrote, committed, sentBack}
 use Rattle.machine.specs.Source.{empty, SThread, StepM, Preempt, ForkM, PushM, AddM, BeginM, ReadM, WriteM, Committed, Failed}
+use Rattle.script.specs.Tree.{Proc}
 use Rattle.script.specs.Turns.{Registers}
 use Rattle.machine.specs.Stands.{Stands, ValuedC, stackFrom, logOf}
 use Rattle.word.specs.Sum.{Rule}
@@ -72,6 +73,10 @@ named wrote = some write
 named committed = some commit
 named (sentBack v) = some fail
 
+-- `load`, source 5.3.1: "the compiled code for the process, together with an empty stack, restart code and read and write logs"
+abbrev pub load : Proc → List SThread
+load p = record { code = compileP p ε; stack = []; again = ε; reads = empty; writes = empty } ∷ []
+
 -- A pick of thread i as a step of the soup, which leaves the heap h′ and the soup′. The source puts a forked child behind its parent,
 -- document 01 gives it the next number.
 pub record StepOn (bytes : List ℕ) (sum : Rule) (s : State) (i : ℕ) (soup : List SThread) (h′ : Registers) (soup′ : List SThread) : Type 0 where
@@ -85,6 +90,7 @@ pub record StepOn (bytes : List ℕ) (sum : Rule) (s : State) (i : ℕ) (soup : 
   pub step : StepM sum (s .registers) (m ∷ behind) h′ (m′ ∷ (new ++ behind))
   pub its : First step
   pub rule : named (pick sum bytes s i .event) ≡ some (ruleOf step)
+  pub whole : StepM sum (s .registers) soup h′ soup′
   pub becomes : soup′ ≡ front ++ (m′ ∷ (new ++ behind))
   pub heap : pick sum bytes s i .state .registers ≡ h′
   pub left : Soup bytes (pick sum bytes s i .state) (front ++ (m′ ∷ (behind ++ new)))
