@@ -17,7 +17,7 @@ use Rattle.machine.specs.declared.Thread.{Thread}
 use Rattle.machine.specs.Steps as steps
 use Rattle.machine.specs.Steps.{State, Stepped, exists, numberOf, threadAt, pick, fresh, Ran}
 use Rattle.stm.specs.Events.{Happened, counted, isIdle, isCommit, backs, order}
-use Rattle.machine.specs.Fits.{Exists, Fits, Typed}
+use Rattle.machine.specs.Fits.{Exists, Fits, Typed, Ranged}
 use Rattle.machine.specs.FitTest.{fits}
 use Rattle.machine.specs.Answers.{sumOf, fitting, stepOf, runOf}
 use Rattle.machine.proofs.Picks.{run-append}
@@ -36,6 +36,7 @@ use Rattle.machine.proofs.Showings.{Shows, shut, open′}
 use Rattle.machine.proofs.Numbers.{below-exists, exists-below}
 use Rattle.machine.proofs.Mirrors.{Mirrors}
 use Rattle.machine.proofs.Fresh.{fresh-typed, fresh-fits, fresh-mirrors}
+use Rattle.machine.proofs.Ranges.{wrapping-in-range, fresh-ranged, run-ranged}
 use Rattle.machine.proofs.Runs.{Run, run-keeps}
 use Rattle.stm.specs.Cells.{byValue}
 use Rattle.stm.specs.Tasks.{Log, Task, outside, inside, System, taskAt, next, start, endOf, eventsOf}
@@ -209,6 +210,7 @@ module _ (job : List ℕ) (j : Job) (b : Bytes job) (accepted : readJob job ≡ 
     mirrors : Mirrors (compiled j) s (endOf byValue (sumOf j) (start byValue (compileP (j .tree) ε)) picks)
     fit : Fits (compiled j) s
     typed : Typed s
+    ranges : Ranged s
 
   behind : {s : State} {events : List Happened} → History (compiled j) s events → Behind s events
   behind {s} {events} h =
@@ -220,6 +222,7 @@ module _ (job : List ℕ) (j : Job) (b : Bytes job) (accepted : readJob job ≡ 
         mirrors = subst (λ (r : Ran). Mirrors (compiled j) (r .state) (endOf byValue (sumOf j) (start byValue (compileP (j .tree) ε)) (m .0))) (m .1) (k .mirrors);
         fit = subst (λ (r : Ran). Fits (compiled j) (r .state)) (m .1) (k .fits);
         typed = subst (λ (r : Ran). Typed (r .state)) (m .1) (k .typed);
+        ranges = subst (λ (r : Ran). Ranged (r .state)) (m .1) (run-ranged is-code (sumOf j) wrapping-in-range (fresh (compiled j)) (fresh-fits (compiled j)) (fresh-typed (compiled j)) (fresh-ranged is-code) (m .0));
       }
 
   -- ---- sound
@@ -300,12 +303,12 @@ module _ (job : List ℕ) (j : Job) (b : Bytes job) (accepted : readJob job ≡ 
     unfolding steps.run
     steps-history [] bel s events h k = subst (λ (es : List Happened). History (compiled j) s es) (sym (append-nil events)) h
     steps-history (i ∷ is) bel s events h k =
-        let one : History (compiled j) (pick (sumOf j) (compiled j) s i .state) (events ++ (record { thread = i; event = pick (sumOf j) (compiled j) s i .event } ∷ [])) = followed h (step (compiled j) s i) (lent i (bel .0) s (k .typed)) refl refl (comes i s (k .fit) (k .typed)) in
+        let one : History (compiled j) (pick (sumOf j) (compiled j) s i .state) (events ++ (record { thread = i; event = pick (sumOf j) (compiled j) s i .event } ∷ [])) = followed h (step (compiled j) s i) (lent i (bel .0) s (k .typed) (k .ranges)) refl refl (comes i s (k .fit) (k .typed)) in
         let rest = steps-history is (bel .1) (pick (sumOf j) (compiled j) s i .state) (events ++ (record { thread = i; event = pick (sumOf j) (compiled j) s i .event } ∷ [])) one (behind one) in
         subst (λ (es : List Happened). History (compiled j) (steps.run (sumOf j) (compiled j) (pick (sumOf j) (compiled j) s i .state) is .state) es) (append-assoc events (record { thread = i; event = pick (sumOf j) (compiled j) s i .event } ∷ []) (steps.run (sumOf j) (compiled j) (pick (sumOf j) (compiled j) s i .state) is .events)) rest
       where
-        lent : (i : ℕ) → i < small → (s : State) → Typed s → Lent (step (compiled j) s i)
-        lent i l s y = record { code = code-bytes j (is-job .within .valued); state = y; picks = record { small = one-byte i (omega arith) } }
+        lent : (i : ℕ) → i < small → (s : State) → Typed s → Ranged s → Lent (step (compiled j) s i)
+        lent i l s y z = record { code = code-bytes j (is-job .within .valued); state = y; ranges = z; picks = record { small = one-byte i (omega arith) } }
 
         comes : (i : ℕ) (s : State) → Fits (compiled j) s → Typed s → comesTo (step (compiled j) s i) ≡ done (alone i (pick (sumOf j) (compiled j) s i))
         comes i s f y = step-taken j (compiled j) s i read (fits-exactly (compiled j) s y .1 f)

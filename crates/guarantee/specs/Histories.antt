@@ -9,7 +9,7 @@ use lib.ListN.{length, getD}
 use Rattle.code.specs.Bytes.{compiled}
 use Rattle.machine.specs.Steps.{State, Stepped, threadAt, fresh, Ran}
 use Rattle.stm.specs.Events.{Happened, counted, isIdle, isCommit, backs, order}
-use Rattle.machine.specs.Fits.{Exists, Typed}
+use Rattle.machine.specs.Fits.{Exists, Typed, Ranged}
 use Rattle.machine.specs.Answers.{sumOf, stepOf, runOf}
 use Rattle.script.specs.Count.{bound}
 use Rattle.script.specs.Bytes.{Bytes}
@@ -38,6 +38,7 @@ picksOf (run code s is) = is
 pub record Lent (c : Call) : Type 0 where
   pub code : Bytes (codeOf c)
   pub state : Typed (stateOf c)
+  pub ranges : Ranged (stateOf c)
   pub picks : Bytes (picksOf c)
 
 -- what a call comes to; "a step by itself counts as one with a single pick"

@@ -1,8 +1,8 @@
 -- For code that is not foreign: steps keep the fit of a state, and agree with the source's machine. Assumes nothing.
 use Prim.Native.Nat.{ℕ, zero, suc, _+_, _<_}
 use mathlib.Core.Bool.{Bool, true, false, cond}
-use mathlib.Core.Path.{_≡_, refl, sym, ap, _∙_}
-use mathlib.Core.List.{List}
+use mathlib.Core.Path.{_≡_, refl, sym, ap, subst, _∙_}
+use mathlib.Core.List.{List, _∷_, _++_}
 use native.Mathlib.Omega.{arith}
 use borrow.Author.Tests.{lt-ltb, ne-eqb}
 use lib.Dec.{ltb}
@@ -14,6 +14,8 @@ use Rattle.code.specs.Reader as code
 use Rattle.script.specs.Outcome.{done}
 use Rattle.script.specs.Reader.{Job}
 use Rattle.script.specs.Turns.{Registers}
+use Rattle.script.specs.Soup.{Same}
+use Rattle.script.proofs.Same.{cut, picks-at, same-refl, same-sym, same-trans, take-both, same-left}
 use Rattle.machine.specs.declared.Thread.{Thread}
 use Rattle.machine.specs.Threads.{spawned, closed, firstStale, overlaid}
 use Rattle.machine.specs.Steps.{State, Stepped, put, threadAt, commit, instruction, pick, fresh, run}
@@ -28,6 +30,7 @@ use Rattle.machine.proofs.Mirrors.{idle-now, no-inside, does as picks}
 use Rattle.machine.proofs.Fresh.{fresh-mirrors}
 use Rattle.machine.proofs.Regions.{held}
 use Rattle.machine.proofs.Runs.{shows-of, mirror, room-for, pick-keeps, run-keeps}
+use Rattle.machine.proofs.Rules.{preempted, peel, own}
 use Rattle.machine.proofs.Soups.{soup-of, pick-steps, step-picks}
 use Rattle.stm.specs.Events.{committed, sentBack, isIdle}
 use Rattle.stm.specs.Cells.{byValue}
@@ -61,7 +64,8 @@ never-idle sum s i t code.commit = by (ltb (firstStale 64 0 t (s .registers)) 64
 never-idle sum s i t (code.fork size) = refl
 
 module _ {code : List ℕ} {j : Job} (c : IsCode code j) where
-  outer : Outside (compileP (j .tree) ε) 0
+  -- a job's code runs from an empty stack
+  pub outer : Outside (compileP (j .tree) ε) 0
   outer = outside-proc (j .tree) (c .within .valued)
 
   -- "each step leaves a state that fits as one that fits, what it frees being 0"
@@ -110,6 +114,43 @@ module _ {code : List ℕ} {j : Job} (c : IsCode code j) where
   step-is-pick sum s f y soup x h′ soup′ e =
       let m = mirror c outer s f y in
       step-picks code sum s (m .0) (m .1) (f .no-gap) (λ k there. held c outer s f y k there) (λ i. room-for c outer sum s (m .0) f y (m .1) i) soup x h′ soup′ e
+
+  -- ---- soups in any order: "the soup itself is to be regarded as a multi-set" (source 5.1.3)
+  -- a pick that is not idle is a step of any soup that is the same as the state's, and leaves one that is the same as the state's
+  pub pick-is-step-same : (sum : Rule) (s : State) → Fits code s → Typed s → (threads soup : List SThread) → Soup code s threads → Same soup threads → (i : ℕ) → isIdle (pick sum code s i .event) ≡ false → (soup′ : List SThread) × ((threads′ : List SThread) × (StepM sum (s .registers) soup (pick sum code s i .state .registers) soup′ × (Soup code (pick sum code s i .state) threads′ × Same soup′ threads′)))
+  pick-is-step-same sum s f y threads soup x same i e =
+      let p = pick-is-step sum s f y threads x i e in
+      let o = p .1 .1 in
+      let k = take-both (subst (λ (l : List SThread). Same l soup) (o .was) (same-sym same)) (picks-at (o .front) (o .m) (o .behind)) in
+      let c = cut (k .picks) in
+      let rests : Same (c .front ++ c .behind) (o .front ++ o .behind) = same-sym (subst (λ (l : List SThread). Same (o .front ++ o .behind) l) (c .rest) (k .same)) in (
+        c .front ++ (o .m′ ∷ (o .new ++ c .behind)),
+        (
+          o .front ++ (o .m′ ∷ (o .behind ++ o .new)),
+          (
+            subst (λ (l : List SThread). StepM sum (s .registers) l (pick sum code s i .state .registers) (c .front ++ (o .m′ ∷ (o .new ++ c .behind)))) (sym (c .whole)) (subst (λ (h : Registers). StepM sum (s .registers) (c .front ++ (o .m ∷ c .behind)) h (c .front ++ (o .m′ ∷ (o .new ++ c .behind)))) (sym (o .heap)) (preempted (c .front) (o .step (c .behind)))),
+            (o .left, same-left (o .m′) (o .new) (c .front) (c .behind) (o .front) (o .behind) rests),
+          ),
+        ),
+      )
+
+  -- and each step of such a soup is such a pick
+  pub step-is-pick-same : (sum : Rule) (s : State) → Fits code s → Typed s → (threads soup : List SThread) → Soup code s threads → Same soup threads → (h′ : Registers) (soup′ : List SThread) → StepM sum (s .registers) soup h′ soup′ → (i : ℕ) × ((threads′ : List SThread) × ((isIdle (pick sum code s i .event) ≡ false) × ((pick sum code s i .state .registers ≡ h′) × (Soup code (pick sum code s i .state) threads′ × Same soup′ threads′))))
+  step-is-pick-same sum s f y threads soup x same h′ soup′ st =
+      let d = peel st in
+      let w = own (d .step) (d .first) in
+      let k = take-both (subst (λ (l : List SThread). Same l threads) (d .was) same) (picks-at (d .front) (d .m) (d .behind)) in
+      let c = cut (k .picks) in
+      let rests : Same (d .front ++ d .behind) (c .front ++ c .behind) = subst (λ (l : List SThread). Same (d .front ++ d .behind) l) (c .rest) (k .same) in
+      let moved : StepM sum (s .registers) threads h′ (c .front ++ (w .m′ ∷ (w .new ++ c .behind))) = subst (λ (l : List SThread). StepM sum (s .registers) l h′ (c .front ++ (w .m′ ∷ (w .new ++ c .behind)))) (sym (c .whole)) (preempted (c .front) (w .step (c .behind))) in
+      let p = step-is-pick sum s f y threads x h′ (c .front ++ (w .m′ ∷ (w .new ++ c .behind))) moved in
+      let o = p .1 .1 in
+      let left : soup′ ≡ d .front ++ (w .m′ ∷ (w .new ++ d .behind)) = d .becomes ∙ ap (λ (l : List SThread). d .front ++ l) (w .leaves) in
+      let one : Same (d .front ++ (w .m′ ∷ (w .new ++ d .behind))) (c .front ++ (w .m′ ∷ (c .behind ++ w .new))) = same-left (w .m′) (w .new) (d .front) (d .behind) (c .front) (c .behind) rests in
+      let two : Same (c .front ++ (w .m′ ∷ (w .new ++ c .behind))) (c .front ++ (w .m′ ∷ (c .behind ++ w .new))) = same-left (w .m′) (w .new) (c .front) (c .behind) (c .front) (c .behind) (same-refl (c .front ++ c .behind)) in
+      let three : Same (o .front ++ (o .m′ ∷ (o .new ++ o .behind))) (o .front ++ (o .m′ ∷ (o .behind ++ o .new))) = same-left (o .m′) (o .new) (o .front) (o .behind) (o .front) (o .behind) (same-refl (o .front ++ o .behind)) in
+      let all : Same soup′ (o .front ++ (o .m′ ∷ (o .behind ++ o .new))) = subst (λ (l : List SThread). Same l (o .front ++ (o .m′ ∷ (o .behind ++ o .new)))) (sym left) (same-trans one (same-trans (same-sym two) (subst (λ (l : List SThread). Same l (o .front ++ (o .m′ ∷ (o .behind ++ o .new)))) (sym (o .becomes)) three))) in
+      (p .0, (o .front ++ (o .m′ ∷ (o .behind ++ o .new)), (p .1 .0, (o .heap, (o .left, all)))))
 
   -- "Each other pick does one instruction": the one at the thread's place, and is not idle
   pub record DoesOne (sum : Rule) (s : State) (i : ℕ) : Type 0 where

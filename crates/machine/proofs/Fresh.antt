@@ -23,7 +23,8 @@ use Rattle.stm.specs.Cells.{byValue}
 use Rattle.stm.specs.Tasks.{taskAt, start}
 use Rattle.stm.specs.Meaning.{Outside}
 
-no-record : (n i : ℕ) → getD (replicate n blank) i blank ≡ blank
+-- a run of records of no thread
+pub no-record : (n i : ℕ) → getD (replicate n blank) i blank ≡ blank
 no-record zero i = refl
 no-record (suc n) zero = refl
 no-record (suc n) (suc i) = no-record n i

@@ -18,3 +18,4 @@ pub mod Carryings
 pub mod Soups
 pub mod Calls
 pub mod Agrees
+pub mod Ranges

@@ -19,6 +19,13 @@ pub record Peeled (sum : Rule) (h : Registers) (soup : List SThread) (h′ : Reg
   pub step : StepM sum h (m ∷ behind) h′ left
   pub first : First step
 
+-- a thread's own step is one beside any other threads
+pub record Own (sum : Rule) (h : Registers) (m : SThread) (h′ : Registers) (behind left : List SThread) : Type 0 where
+  pub m′ : SThread
+  pub new : List SThread
+  pub leaves : left ≡ m′ ∷ (new ++ behind)
+  pub step : (others : List SThread) → StepM sum h (m ∷ others) h′ (m′ ∷ (new ++ others))
+
 module _ {sum : Rule} where
   later : {h h′ : Registers} (t : SThread) {s s′ : List SThread} → Peeled sum h s h′ s′ → Peeled sum h (t ∷ s) h′ (t ∷ s′)
   later t p =
@@ -64,3 +71,15 @@ module _ {sum : Rule} where
   only (Failed e) a (Preempt y) b = absurd b
   only (Failed e) a (Committed f) b = absurd (let z : _≡_ {A = ℕ} 0 1 = cc in omega arith)
   only (Failed e) a (Failed f) b = (refl, refl)
+
+  pub own : {h h′ : Registers} {m : SThread} {behind left : List SThread} → (x : StepM sum h (m ∷ behind) h′ left) → First x → Own sum h m h′ behind left
+  unfolding First
+  own (Preempt x) f = absurd f
+  own ForkM f = record { m′ = _; new = _ ∷ []; leaves = refl; step = λ others. ForkM }
+  own PushM f = record { m′ = _; new = []; leaves = refl; step = λ others. PushM }
+  own AddM f = record { m′ = _; new = []; leaves = refl; step = λ others. AddM }
+  own BeginM f = record { m′ = _; new = []; leaves = refl; step = λ others. BeginM }
+  own ReadM f = record { m′ = _; new = []; leaves = refl; step = λ others. ReadM }
+  own WriteM f = record { m′ = _; new = []; leaves = refl; step = λ others. WriteM }
+  own (Committed e) f = record { m′ = _; new = []; leaves = refl; step = λ others. Committed e }
+  own (Failed e) f = record { m′ = _; new = []; leaves = refl; step = λ others. Failed e }

@@ -285,10 +285,10 @@ module _ (bytes : List ℕ) (sum : Rule) where
         new = x .new;
         number = at;
         was = was;
-        step = x .step behind;
-        its = x .first behind;
+        step = x .step;
+        its = x .first;
         whole = subst (λ (y : List SThread). StepM sum (s .registers) y (x .heap) (front ++ (x .m′ ∷ (x .new ++ behind)))) (sym was) (preempted front (x .step behind));
-        rule = ap (λ (y : Stepped). named (y .event)) p ∙ x .rule behind;
+        rule = λ others. ap (λ (y : Stepped). named (y .event)) p ∙ x .rule others;
         becomes = refl;
         heap = ap (λ (y : Stepped). y .state .registers) p ∙ x .registers;
         left = subst (λ (y : Stepped). Soup bytes (y .state) (front ++ (x .m′ ∷ (behind ++ x .new)))) (sym p) (go (x .new) (r .state .threads) (x .threads));
@@ -389,6 +389,6 @@ module _ (bytes : List ℕ) (sum : Rule) where
           let o = only (d .step) (d .first) (y .step (d .behind)) (y .first (d .behind)) in
           let z = step-on s soup x (a .records) gap i (d .front) (d .m) (d .behind) refl (d .was) r p y in
           let w : soup′ ≡ d .front ++ (y .m′ ∷ (y .new ++ d .behind)) = d .becomes ∙ ap (λ (l : List SThread). d .front ++ l) (o .1) in (
-            not-idle (pick sum bytes s i .event) _ (z .rule),
+            not-idle (pick sum bytes s i .event) _ (z .rule []),
             subst (λ (l : List SThread). StepOn bytes sum s i soup h′ l) (sym w) (subst (λ (h : Registers). StepOn bytes sum s i soup h (d .front ++ (y .m′ ∷ (y .new ++ d .behind)))) (sym (o .0)) z),
           )

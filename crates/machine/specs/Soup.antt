@@ -87,9 +87,10 @@ pub record StepOn (bytes : List ℕ) (sum : Rule) (s : State) (i : ℕ) (soup : 
   pub new : List SThread
   pub number : length front ≡ i
   pub was : soup ≡ front ++ (m ∷ behind)
-  pub step : StepM sum (s .registers) (m ∷ behind) h′ (m′ ∷ (new ++ behind))
-  pub its : First step
-  pub rule : named (pick sum bytes s i .event) ≡ some (ruleOf step)
+  -- the thread's own step, whatever the other threads are
+  pub step : (others : List SThread) → StepM sum (s .registers) (m ∷ others) h′ (m′ ∷ (new ++ others))
+  pub its : (others : List SThread) → First (step others)
+  pub rule : (others : List SThread) → named (pick sum bytes s i .event) ≡ some (ruleOf (step others))
   pub whole : StepM sum (s .registers) soup h′ soup′
   pub becomes : soup′ ≡ front ++ (m′ ∷ (new ++ behind))
   pub heap : pick sum bytes s i .state .registers ≡ h′

@@ -1,21 +1,21 @@
 -- A job is accepted exactly if it is the bytes of a tree within the limits, and that tree is the one that is read. Assumes nothing.
-use Prim.Native.Nat.{ℕ, zero, suc, _+_, _*_, _/_, _%_, _≤_, _<_}
-use mathlib.Core.Path.{_≡_, refl, sym, ap, subst, _∙_}
+use Prim.Native.Nat.{ℕ, suc, _+_, _*_, _/_, _%_, _≤_}
+use mathlib.Core.Path.{_≡_, refl, ap, subst}
 use mathlib.Core.Bool.{Bool, true, false, not, _&&_}
 use mathlib.Core.List.{List, [], _∷_, _++_, append-nil}
 use native.Mathlib.Omega.{arith}
 use lib.Dec.{eqb, leb, ltb}
-use lib.ListN.{length, drop, getD}
-use borrow.Author.Tests.{lt-ltb, le-ltb, le-leb, lt-leb, eq-eqb, eqb-true, leb-true, not-false}
-use Rattle.script.specs.Tree.{Proc, ValP, AddP, Atomic, Fork, process}
-use Rattle.script.specs.Count.{nodesP, depthP, forks}
+use lib.ListN.{length}
+use borrow.Author.Tests.{le-ltb, le-leb, eq-eqb, eqb-true, leb-true, not-false}
+use Rattle.script.specs.Tree.{Proc, ValP, AddP, Atomic, Fork}
+use Rattle.script.specs.Count.{nodesP, forks}
 use Rattle.script.specs.Limits.{Within}
 use Rattle.script.specs.Bytes.{Bytes, bytes16, bytesP, jobMark, jobBytes}
-use Rattle.script.specs.Outcome.{Outcome, refused, done, refuse, mapped}
-use Rattle.script.specs.Reader.{number16, readNodes, Job, marked, taken, root, readJob}
+use Rattle.script.specs.Outcome.{Outcome, done, refuse, mapped}
+use Rattle.script.specs.Reader.{readNodes, Job, marked, taken, root, readJob}
 use Rattle.script.specs.Refusal.{Taken, IsJob}
-use Rattle.script.proofs.Numbers.{number16-bytes16, bytes16-number16, bytes-head, bytes-tail, bytes-drop}
-use Rattle.script.proofs.Reading.{read-proc, read-sound, Read-as, mapped-from}
+use Rattle.script.proofs.Numbers.{bytes16-number16, bytes-head, bytes-tail, bytes-drop}
+use Rattle.script.proofs.Reading.{read-proc, read-sound, mapped-from}
 
 nodes-some : (t : Proc) → 1 ≤ nodesP t
 unfolding nodesP

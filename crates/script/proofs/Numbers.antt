@@ -1,18 +1,18 @@
 -- Numbers of two and four bytes are read back as they were written, and written back as they were read. Assumes nothing.
-use Prim.Native.Nat.{ℕ, zero, suc, _+_, _*_, _/_, _%_, _^_, _≤_, _<_}
-use mathlib.Core.Path.{_≡_, refl, sym, ap, _∙_}
+use Prim.Native.Nat.{ℕ, suc, _+_, _*_, _/_, _%_, _^_, _<_}
+use mathlib.Core.Path.{_≡_, ap, _∙_}
 use mathlib.Core.List.{List, [], _∷_, _++_}
 use native.Mathlib.Nat.{div-add-mod', div-div-eq-div-mul}
 use native.Mathlib.Omega.{arith}
 use lib.IntN.{ℤ}
-use lib.ListN.{length, drop, getD, length-drop}
+use lib.ListN.{drop, getD, length-drop}
 use lib.Seq.{getD-drop}
 use mir.Syntax.{w8}
 use mir.Val.{Fits}
 use Rattle.script.specs.Bytes.{Bytes, bytes16, bytes32}
 use Rattle.script.specs.Reader.{number16, number32}
 use Rattle.word.specs.Sum.{InRange, residue, signed}
-use Rattle.word.proofs.Sums.{residue-small, residue-signed, signed-residue, signed-in-range}
+use Rattle.word.proofs.Sums.{residue-small, residue-signed, signed-residue}
 
 pub number16-bytes16 : (n : ℕ) → n < 65536 → (rest : List ℕ) → number16 (bytes16 n ++ rest) 0 ≡ n
 unfolding bytes16

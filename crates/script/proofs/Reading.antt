@@ -1,19 +1,17 @@
 -- The job reader accepts exactly the bytes of trees within the limits, and gives that tree. Assumes nothing.
-use Prim.Native.Nat.{ℕ, zero, suc, _+_, _*_, _≤_, _<_, max}
+use Prim.Native.Nat.{ℕ, zero, suc, _+_, _≤_}
 use mathlib.Core.Path.{_≡_, refl, sym, ap, subst, _∙_}
-use mathlib.Core.Bool.{Bool, true, false, not, _&&_}
-use mathlib.Core.List.{List, [], _∷_, _++_, append-assoc, append-nil}
+use mathlib.Core.List.{List, [], _∷_, _++_, append-assoc}
 use native.Mathlib.Omega.{arith}
-use lib.Dec.{eqb, leb, ltb, eqb·suc-zero}
-use lib.ListN.{length, drop, getD, length-append}
+use lib.Dec.{eqb, eqb·suc-zero}
+use lib.ListN.{length, length-append}
 use lib.Seq.{drop-append-seam}
-use borrow.Author.Tests.{lt-ltb, le-ltb, le-leb, lt-leb, eq-eqb}
 use Rattle.script.specs.Tree.{Tran, ValT, AddT, Read, Write, Proc, ValP, AddP, Atomic, Fork, Sort, process, transaction, Tree}
 use Rattle.script.specs.Count.{nodesT, nodesP, depthT, depthP, forks, nodes, depth, forksIn}
-use Rattle.script.specs.Limits.{ValuedT, ValuedP, Valued, Within}
-use Rattle.script.specs.Bytes.{Bytes, bytes16, Node, VALP, ADDP, ATOMIC, FORK, VALT, ADDT, READ, WRITE, nodeBytes, bytesT, bytesP, bytes, jobMark, jobBytes}
-use Rattle.script.specs.Outcome.{Outcome, refused, done, refuse, onward, mapped}
-use Rattle.script.specs.Reader.{Due, Forest, number16, nodeAt, partsThen, grown, forkOf, readNodes, Job, marked, taken, root, readJob}
+use Rattle.script.specs.Limits.{ValuedT, ValuedP, Valued}
+use Rattle.script.specs.Bytes.{Bytes, Node, VALP, ADDP, ATOMIC, FORK, VALT, ADDT, READ, WRITE, nodeBytes, bytesT, bytesP, bytes}
+use Rattle.script.specs.Outcome.{Outcome, refused, done, mapped}
+use Rattle.script.specs.Reader.{Due, Forest, partsThen, grown, forkOf, readNodes}
 use Rattle.script.specs.Refusal.{ValuedN}
 use Rattle.script.proofs.Nodes.{Sees, good, node-reads, node-sees, seen}
 use Rattle.script.proofs.Numbers.{bytes-drop}

@@ -1,19 +1,19 @@
 -- The job reader refuses n at p exactly if document 01's table does. Assumes nothing.
-use Prim.Native.Nat.{ℕ, zero, suc, _+_, _*_, _≤_, _<_}
+use Prim.Native.Nat.{ℕ, zero, suc, _+_, _≤_, _<_}
 use mathlib.Core.Path.{_≡_, refl, sym, ap, subst, subst₂, _∙_}
-use mathlib.Core.Bool.{Bool, true, false, not, _&&_}
-use mathlib.Core.Logic.{_⊎_, inl, inr}
-use mathlib.Core.List.{List, [], _∷_, _++_}
+use mathlib.Core.Bool.{Bool, true, false}
+use mathlib.Core.Logic.{inl, inr}
+use mathlib.Core.List.{List, [], _∷_}
 use native.Mathlib.Decide.{decLt, ℕ-discrete}
 use native.Mathlib.Omega.{arith}
-use lib.Dec.{eqb, leb, ltb, eqb·suc-zero}
-use lib.ListN.{length, drop, take, getD, length-append, length-drop}
-use borrow.Author.Tests.{lt-ltb, le-ltb, le-leb, lt-leb, eq-eqb, ne-eqb, eqb-true, eqb-false, leb-true, leb-false, ltb-true, ltb-false, not-true, not-false}
-use Rattle.script.specs.Tree.{Proc, Sort, process}
+use lib.Dec.{eqb, eqb·suc-zero}
+use lib.ListN.{length, drop, take, length-append, length-drop}
+use borrow.Author.Tests.{lt-ltb, le-ltb, le-leb, lt-leb, eq-eqb, ne-eqb, eqb-true}
+use Rattle.script.specs.Tree.{Sort}
 use Rattle.script.specs.Bytes.{Bytes, Node, nodeBytes, jobMark}
-use Rattle.script.specs.Outcome.{Outcome, refused, done, refuse, mapped}
-use Rattle.script.specs.Reader.{Due, Forest, number16, operand, partsThen, grown, forkOf, readNodes, Job, marked, taken, root, readJob}
-use Rattle.script.specs.Refusal.{Permitted, Taken, ValuedN, Long, Marked, Versioned, Counted, Reaches, start, next, AtKind, Refused, cut-header, cut-node, cut-operand, mark, version, count, kind, register, depth, forks, used-up, nodes-over, bytes-over}
+use Rattle.script.specs.Outcome.{Outcome, refused, done, mapped}
+use Rattle.script.specs.Reader.{Due, Forest, number16, partsThen, grown, forkOf, readNodes, marked, taken, root, readJob}
+use Rattle.script.specs.Refusal.{Long, Marked, Versioned, Counted, Reaches, start, next, Refused, cut-header, cut-node, cut-operand, mark, version, count, kind, register, depth, forks, used-up, nodes-over, bytes-over}
 use Rattle.script.proofs.Numbers.{bytes-drop}
 use Rattle.script.proofs.Nodes.{Sees, no-byte, bad-kind, too-deep, cut, bad-register, many-forks, good, node-sees, seen}
 use Rattle.script.proofs.Reading.{read-one, bytes-behind}

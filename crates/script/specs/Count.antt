@@ -1,5 +1,5 @@
 -- What documents 01 and 02 count in a script, each as a fold over its tree.
-use Prim.Native.Nat.{ℕ, zero, suc, _+_, _*_, _-_, max}
+use Prim.Native.Nat.{ℕ, suc, _+_, _*_, _-_, max}
 use mathlib.Core.List.{List, [], _∷_, _++_}
 use Rattle.script.specs.Tree.{Tran, ValT, AddT, Read, Write, Proc, ValP, AddP, Atomic, Fork, Sort, process, transaction, Tree}
 use Rattle.word.specs.Registers.{none, with}

@@ -10,14 +10,14 @@ use Rattle.script.specs.Source.{StepP}
 use Rattle.word.specs.Sum.{Rule}
 
 -- p stands in the soup, and `others` is the soup without it
-pub data Picks (p : Proc) : (others soup : List Proc) → Type 0 where
-  here : {others : List Proc} → Picks p others (p ∷ others)
-  there : {q : Proc} {others soup : List Proc} → Picks p others soup → Picks p (q ∷ others) (q ∷ soup)
+pub data Picks {A : Type 0} (p : A) : (others soup : List A) → Type 0 where
+  here : {others : List A} → Picks p others (p ∷ others)
+  there : {q : A} {others soup : List A} → Picks p others soup → Picks p (q ∷ others) (q ∷ soup)
 
 -- two soups are the same multi-set
-pub data Same : List Proc → List Proc → Type 0 where
+pub data Same {A : Type 0} : List A → List A → Type 0 where
   none : Same [] []
-  put : {p : Proc} {s others s′ : List Proc} → Picks p others s′ → Same s others → Same (p ∷ s) s′
+  put : {p : A} {s others s′ : List A} → Picks p others s′ → Same s others → Same (p ∷ s) s′
 
 -- A step of the source on the process of thread i, in the soup that has the threads in the order of their numbers.
 -- The source leaves `new`, the forked process if there is one, behind its parent p′; the script leaves it behind all.

@@ -1,7 +1,7 @@
 -- Source 5.1.2 and 5.1.3: the reduction rules for transactions and for the soup of processes, as printed there.
 -- Changed are only the sum, which is the rule's, and the heap, which is the table of 64 registers.
 use Prim.Native.Nat.{ℕ}
-use mathlib.Core.List.{List, [], _∷_}
+use mathlib.Core.List.{List, _∷_}
 use lib.IntN.{ℤ, pos}
 use lib.ListN.{getD, set}
 use Rattle.script.specs.Tree.{Tran, ValT, AddT, Read, Write, Proc, ValP, AddP, Atomic, Fork}

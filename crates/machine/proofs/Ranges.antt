@@ -1,0 +1,352 @@
+-- Every number of a state stays one that its field can hold: in a fresh state, after a pick, and after a run. Assumes nothing.
+use Prim.Native.Nat.{ℕ, zero, suc, _+_, _-_, _≤_, _<_, _^_}
+use mathlib.Core.Bool.{Bool, true, false, cond, not, or-true}
+use mathlib.Core.Path.{_≡_, refl, sym, ap, subst, _∙_}
+use mathlib.Core.List.{List, [], _∷_, _++_}
+use native.Mathlib.Omega.{arith}
+use borrow.Author.Tests.{lt-ltb, eq-eqb, ne-eqb}
+use lib.Dec.{eqb, ltb}
+use lib.IntN.{ℤ, pos}
+use lib.ListN.{length, getD, set, take, replicate, length-append}
+use Rattle.code.specs.Compile.{Instruction, Code, PUSH, ADD, READ, WRITE, BEGIN, COMMIT, FORK, ε, _⨾_}
+use Rattle.code.specs.Bytes.{instructionsBytes, IsCode}
+use Rattle.code.proofs.Flat.{code-length}
+use Rattle.code.proofs.ReadBack.{code-small}
+use Rattle.script.specs.Count.{codeLength}
+use Rattle.script.specs.Reader.{Job}
+use Rattle.machine.specs.declared.Thread.{Thread}
+use Rattle.machine.specs.Threads.{blank, spawned, push, add, begin, below, sourceOf, readFrom, noted, read, write, closed, firstStale, overlaid}
+use Rattle.machine.specs.Steps.{State, Stepped, exists, numberOf, threadAt, put, commit, instruction, pick, fresh, run}
+use Rattle.machine.specs.Fits.{Walked, Exists, Fits, Typed, RangedThread, Ranged}
+use Rattle.machine.specs.Stands.{Stands, opOf, ValuedI, ValuedC, Ready}
+use Rattle.machine.proofs.Numbers.{in-table}
+use Rattle.machine.proofs.Codes.{stands-end, stands-inside, ready-op}
+use Rattle.machine.proofs.Shapes.{Shape, out, open′ as shape-open, shape}
+use Rattle.machine.proofs.Placings.{getD-zeros}
+use Rattle.machine.proofs.Simulates.{Held}
+use Rattle.machine.proofs.Mirrors.{idle-now, idles, does}
+use Rattle.machine.proofs.Regions.{held}
+use Rattle.machine.proofs.Fresh.{no-record, fresh-typed, fresh-fits}
+use Rattle.machine.proofs.Agrees.{outer, step-fits}
+use Rattle.stm.specs.Events.{Source, fromWrites, fromReads, fromTable, committed, sentBack}
+use Rattle.word.specs.Registers.{none, member}
+use Rattle.word.specs.Sum.{InRange, Rule, wrapping}
+use Rattle.word.proofs.Sets.{with-small}
+use Rattle.word.proofs.Sums.{fits→range}
+use Rattle.word.proofs.Sums as sums
+
+-- a rule for sums that keeps numbers in range
+abbrev pub InRangeRule : Rule → Type 0
+InRangeRule sum = (a b : ℤ) → InRange a → InRange b → InRange (sum a b)
+
+-- sums that wrap are in range
+pub wrapping-in-range : InRangeRule wrapping
+wrapping-in-range a b x y = sums.wrapping-in-range a b
+
+-- ---- lists
+-- what holds of every element holds of every element after one is set
+set-keeps : {A : Type 0} (P : A → Type 0) (l : List A) (i : ℕ) (x d : A) → P x → ((n : ℕ) → P (getD l n d)) → (n : ℕ) → P (getD (set l i x) n d)
+set-keeps P [] i x d p f n = f n
+set-keeps P (a ∷ l) zero x d p f zero = p
+set-keeps P (a ∷ l) zero x d p f (suc n) = f (suc n)
+set-keeps P (a ∷ l) (suc i) x d p f zero = f zero
+set-keeps P (a ∷ l) (suc i) x d p f (suc n) = set-keeps P l i x d p (λ k. f (suc k)) n
+
+-- every number of a list
+abbrev AllInRange : List ℤ → Type 0
+AllInRange ns = (n : ℕ) → InRange (getD ns n (pos 0))
+
+zero-in-range : InRange (pos 0)
+zero-in-range = fits→range (record { sfits = omega arith })
+
+zeros-in-range : (m : ℕ) → AllInRange (replicate m (pos 0))
+zeros-in-range m n = subst InRange (sym (getD-zeros m n)) zero-in-range
+
+set-in-range : (ns : List ℤ) (i : ℕ) (x : ℤ) → InRange x → AllInRange ns → AllInRange (set ns i x)
+set-in-range ns i x p f = set-keeps InRange ns i x (pos 0) p f
+
+closed-in-range : (h : ℕ) (cells : List ℤ) (m : ℕ) → AllInRange cells → AllInRange (take h cells ++ replicate m (pos 0))
+closed-in-range zero cells m f n = zeros-in-range m n
+closed-in-range (suc h) [] m f n = zeros-in-range m n
+closed-in-range (suc h) (c ∷ cs) m f zero = f zero
+closed-in-range (suc h) (c ∷ cs) m f (suc n) = closed-in-range h cs m (λ k. f (suc k)) n
+
+overlaid-in-range : (left v : ℕ) (t : Thread) (table : List ℤ) → AllInRange (t .kept) → AllInRange table → AllInRange (overlaid left v t table)
+unfolding overlaid
+overlaid-in-range zero v t table k f = f
+overlaid-in-range (suc left) v t table k f =
+    overlaid-in-range left (suc v) t (cond (member (t .writes) v) (set table v (getD (t .kept) v (pos 0))) table) k (go (member (t .writes) v))
+  where
+    go : (b : Bool) → AllInRange (cond b (set table v (getD (t .kept) v (pos 0))) table)
+    go true = set-in-range table v (getD (t .kept) v (pos 0)) (k v) f
+    go false = f
+
+-- ---- the numbers and the sets of a record
+record Values (t : Thread) : Type 0 where
+  cells : AllInRange (t .cells)
+  seen : AllInRange (t .seen)
+  kept : AllInRange (t .kept)
+  reads : t .reads < 2 ^ 64
+  writes : t .writes < 2 ^ 64
+
+record AllValues (s : State) : Type 0 where
+  registers : AllInRange (s .registers)
+  threads : (i : ℕ) → Values (threadAt s i)
+
+none-small : none < 2 ^ 64
+unfolding none
+none-small = omega arith
+
+values-spawned : (start end : ℕ) → Values (spawned start end)
+unfolding spawned
+values-spawned start end = record { cells = zeros-in-range 64; seen = zeros-in-range 64; kept = zeros-in-range 64; reads = none-small; writes = none-small }
+
+values-push : (n : ℤ) (next : ℕ) (t : Thread) → InRange n → Values t → Values (push n next t)
+unfolding push
+values-push n next t r v = record { cells = set-in-range (t .cells) (t .height) n r (v .cells); seen = v .seen; kept = v .kept; reads = v .reads; writes = v .writes }
+
+values-add : (sum : Rule) → InRangeRule sum → (t : Thread) → Values t → Values (add sum t)
+unfolding add
+values-add sum f t v =
+    let a = sum (below t 2) (below t 1) in
+    let r : InRange (sum (below t 2) (below t 1)) = f (below t 2) (below t 1) (v .cells (t .height - 2)) (v .cells (t .height - 1)) in
+    record {
+      cells = set-in-range (set (t .cells) (t .height - 2) a) (t .height - 1) (pos 0) zero-in-range (set-in-range (t .cells) (t .height - 2) a r (v .cells));
+      seen = v .seen;
+      kept = v .kept;
+      reads = v .reads;
+      writes = v .writes;
+    }
+
+values-begin : (t : Thread) → Values t → Values (begin t)
+unfolding begin
+values-begin t v = record { cells = v .cells; seen = zeros-in-range 64; kept = zeros-in-range 64; reads = none-small; writes = none-small }
+
+read-in-range : (from : Source) (table : List ℤ) (t : Thread) (r : ℕ) → AllInRange table → Values t → InRange (readFrom from table t r)
+read-in-range fromWrites table t r f v = v .kept r
+read-in-range fromReads table t r f v = v .seen r
+read-in-range fromTable table t r f v = f r
+
+values-noted : (from : Source) (r : ℕ) (n : ℤ) (t : Thread) → InRange n → Values t → Values (noted from r n t)
+values-noted fromWrites r n t i v = v
+values-noted fromReads r n t i v = v
+values-noted fromTable r n t i v = record { cells = v .cells; seen = set-in-range (t .seen) r n i (v .seen); kept = v .kept; reads = with-small (t .reads) r (v .reads); writes = v .writes }
+
+values-read : (table : List ℤ) (r : ℕ) (t : Thread) → AllInRange table → Values t → Values (read table r t)
+unfolding read
+values-read table r t f v =
+    let from = sourceOf t r in
+    let i : InRange (readFrom (sourceOf t r) table t r) = read-in-range (sourceOf t r) table t r f v in
+    values-push (readFrom from table t r) (t .place + 2) (noted from r (readFrom from table t r) t) i (values-noted from r (readFrom from table t r) t i v)
+
+values-write : (r : ℕ) (t : Thread) → Values t → Values (write r t)
+unfolding write
+values-write r t v = record { cells = v .cells; seen = v .seen; kept = set-in-range (t .kept) r (below t 1) (v .cells (t .height - 1)) (v .kept); reads = v .reads; writes = with-small (t .writes) r (v .writes) }
+
+values-closed : (place height : ℕ) (t : Thread) → Values t → Values (closed place height t)
+unfolding closed
+values-closed place height t v = record { cells = closed-in-range height (t .cells) (64 - height) (v .cells); seen = zeros-in-range 64; kept = zeros-in-range 64; reads = none-small; writes = none-small }
+
+-- ---- the numbers and the sets of a state
+values-put : (s : State) (i : ℕ) (t : Thread) → Values t → AllValues s → AllValues (put s i t)
+values-put s i t v a = record { registers = a .registers; threads = set-keeps Values (s .threads) i t blank v (a .threads) }
+
+values-commit : (s : State) (i : ℕ) (t : Thread) (r : ℕ) → Values t → AllValues s → AllValues (commit s i t r .state)
+unfolding commit
+values-commit s i t r v a = go (ltb r 64)
+  where
+    result : Bool → Stepped
+    result b =
+        cond
+        b
+        (record { state = put s i (closed (t .begin) (t .base) t); event = sentBack r })
+        (record {
+          state = record { registers = overlaid 64 0 t (s .registers); threads = set (s .threads) i (closed (t .place + 1) (t .height) t) };
+          event = committed;
+        })
+
+    go : (b : Bool) → AllValues (result b .state)
+    go true = values-put s i (closed (t .begin) (t .base) t) (values-closed (t .begin) (t .base) t v) a
+    go false =
+        record {
+          registers = overlaid-in-range 64 0 t (s .registers) (v .kept) (a .registers);
+          threads = set-keeps Values (s .threads) i (closed (t .place + 1) (t .height) t) blank (values-closed (t .place + 1) (t .height) t v) (a .threads);
+        }
+
+values-instruction : (sum : Rule) → InRangeRule sum → (s : State) (i : ℕ) (t : Thread) (ins : Instruction) → ValuedI ins → Values t → AllValues s → AllValues (instruction sum s i t (opOf ins) .state)
+unfolding instruction ValuedI
+values-instruction sum f s i t (PUSH n) o v a = values-put s i (push n (t .place + 5) t) (values-push n (t .place + 5) t o v) a
+values-instruction sum f s i t ADD o v a = values-put s i (add sum t) (values-add sum f t v) a
+values-instruction sum f s i t (READ r) o v a = values-put s i (read (s .registers) r t) (values-read (s .registers) r t (a .registers) v) a
+values-instruction sum f s i t (WRITE r) o v a = values-put s i (write r t) (values-write r t v) a
+values-instruction sum f s i t BEGIN o v a = values-put s i (begin t) (values-begin t v) a
+values-instruction sum f s i t COMMIT o v a = values-commit s i t (firstStale 64 0 t (s .registers)) v a
+values-instruction sum f s i t (FORK k) o v a =
+    let size = length (instructionsBytes k) in
+    let parent = push (pos 0) (t .place + 3 + size) t in
+    let b : AllValues (put s i parent) = values-put s i parent (values-push (pos 0) (t .place + 3 + size) t zero-in-range v) a in
+    values-put (put s i parent) (numberOf (s .threads)) (spawned (t .place + 3) (t .place + 3 + size)) (values-spawned (t .place + 3) (t .place + 3 + size)) b
+
+-- ---- the places and the heights of a record
+-- all below 6,000, which is far below 2 ^ 64
+record Low (t : Thread) : Type 0 where
+  start : t .start < 6000
+  end : t .end < 6000
+  place : t .place < 6000
+  height : t .height < 6000
+  begin : t .begin < 6000
+  base : t .base < 6000
+
+fits-64 : (n : ℕ) → n < 6000 → n < 2 ^ 64
+fits-64 n l = omega arith
+
+both : (t : Thread) → Low t → Values t → RangedThread t
+both t l v =
+    record {
+      cells = v .cells;
+      seen = v .seen;
+      kept = v .kept;
+      reads = v .reads;
+      writes = v .writes;
+      start = fits-64 (t .start) (l .start);
+      end = fits-64 (t .end) (l .end);
+      place = fits-64 (t .place) (l .place);
+      height = fits-64 (t .height) (l .height);
+      begin = fits-64 (t .begin) (l .begin);
+      base = fits-64 (t .base) (l .base);
+    }
+
+values-of : (s : State) → Ranged s → AllValues s
+values-of s r =
+    record {
+      registers = r .registers;
+      threads = λ i. let t = r .threads i in record { cells = t .cells; seen = t .seen; kept = t .kept; reads = t .reads; writes = t .writes };
+    }
+
+low-blank : Low blank
+unfolding blank
+low-blank = record { start = omega arith; end = omega arith; place = omega arith; height = omega arith; begin = omega arith; base = omega arith }
+
+-- code that stands in the bytes is within them
+stands-within : {bytes : List ℕ} {place end : ℕ} {c : Code} → Stands bytes place end c → (place ≤ end) × (end ≤ length bytes)
+stands-within {bytes} {place} {end} {c} s =
+    let a : length bytes ≡ length (s .front) + length (instructionsBytes c ++ s .rest) = ap length (s .text) ∙ length-append (s .front) (instructionsBytes c ++ s .rest) in
+    let b = length-append (instructionsBytes c) (s .rest) in
+    let f = s .from in
+    let u = s .until in
+    (omega arith, omega arith)
+
+-- the places of a thread that fits are within its code, and its heights at most 64
+low-held : {bytes : List ℕ} {t : Thread} → length bytes < 6000 → Held bytes t → Low t
+low-held {bytes} {t} short h = go (shape (h .region) (h .outer) (h .somewhere) (h .placed .walks))
+  where
+    height : t .height ≡ h .placed .walked .height
+    height = h .placed .height
+
+    begin′ : t .begin ≡ h .placed .walked .begin
+    begin′ = h .placed .begin
+
+    base : t .base ≡ h .placed .walked .base
+    base = h .placed .base
+
+    region : (t .start ≤ t .end) × (t .end ≤ length bytes)
+    region = stands-within (h .region .stands)
+
+    here : (b e : ℕ) {c : Code} → h .placed .walked .begin ≡ b → b < 6000 → h .placed .walked .base ≡ e → e ≤ 64 → Ready bytes (t .place) (t .end) c (h .placed .walked .height) → Low t
+    here b e bq bl eq el r =
+        let p = stands-within (r .stands) in
+        let p0 = p .0 in
+        let p1 = p .1 in
+        let g0 = region .0 in
+        let low = r .low in
+        let hq = height in
+        let bq′ = begin′ in
+        let eq′ = base in
+        record { start = omega arith; end = omega arith; place = omega arith; height = omega arith; begin = omega arith; base = omega arith }
+
+    go : Shape bytes (t .start) (t .end) (t .place) (h .placed .walked) → Low t
+    go (out c r o b z) = here 0 0 b (omega arith) z (omega arith) r
+    go (shape-open body c k r i e g) =
+        let p = stands-within (g .again .stands) in
+        let p0 = p .0 in
+        let p1 = p .1 in
+        here (h .placed .walked .begin) (h .placed .walked .base) refl (omega arith) refl (g .again .low) r
+
+-- ---- states
+values-blank : Values blank
+unfolding blank
+values-blank = record { cells = zeros-in-range 64; seen = zeros-in-range 64; kept = zeros-in-range 64; reads = none-small; writes = none-small }
+
+values-fresh : (bytes : List ℕ) → AllValues (fresh bytes)
+unfolding fresh
+values-fresh bytes = record { registers = zeros-in-range 64; threads = each }
+  where
+    each : (i : ℕ) → Values (getD (spawned 5 (length bytes) ∷ replicate 15 blank) i blank)
+    each zero = values-spawned 5 (length bytes)
+    each (suc i) = subst Values (sym (no-record 15 i)) values-blank
+
+module _ {code : List ℕ} {j : Job} (c : IsCode code j) where
+  -- a job's code has at most 5 bytes for each of 1,000 nodes, and 5 more
+  code-short : length code < 6000
+  unfolding codeLength
+  code-short =
+      let a : length code ≡ codeLength (j .tree) = ap length (c .text) ∙ code-length j in
+      let b = code-small (j .tree) .1 in
+      let d = c .within .few in
+      omega arith
+
+  low-fits : (s : State) → Fits code s → Typed s → (i : ℕ) → Low (threadAt s i)
+  low-fits s f y i = go (exists (threadAt s i)) refl
+    where
+      go : (b : Bool) → exists (threadAt s i) ≡ b → Low (threadAt s i)
+      go true e = low-held code-short (held c (outer c) s f y i e)
+      go false e = subst Low (sym (f .no-thread i e)) low-blank
+
+  ranged : (s : State) → Fits code s → Typed s → AllValues s → Ranged s
+  ranged s f y a = record { registers = a .registers; threads = λ i. both (threadAt s i) (low-fits s f y i) (a .threads i) }
+
+  -- the numbers of a fresh state are such as their fields can hold
+  pub fresh-ranged : Ranged (fresh code)
+  fresh-ranged = ranged (fresh code) (fresh-fits code) (fresh-typed code) (values-fresh code)
+
+  module _ (sum : Rule) (g : InRangeRule sum) where
+    pick-values : (s : State) → Fits code s → Typed s → AllValues s → (i : ℕ) → AllValues (pick sum code s i .state)
+    unfolding ValuedC
+    pick-values s f y a i = go (exists (threadAt s i)) refl
+      where
+        stays : idle-now s i ≡ true → AllValues (pick sum code s i .state)
+        stays e = subst (λ (r : Stepped). AllValues (r .state)) (sym (idles code sum s i e)) a
+
+        by : Exists s i → (k : Code) {h : ℕ} → Ready code (threadAt s i .place) (threadAt s i .end) k h → AllValues (pick sum code s i .state)
+        by e ε r =
+            let small : ltb i (length (s .threads)) ≡ true = lt-ltb i (length (s .threads)) (in-table s i e) in
+            let q : eqb (threadAt s i .place) (threadAt s i .end) ≡ true = eq-eqb (threadAt s i .place) (threadAt s i .end) (stands-end (r .stands)) in
+            stays (rw (small, e, q))
+        by e (ins ⨾ k) r =
+            let small : ltb i (length (s .threads)) ≡ true = lt-ltb i (length (s .threads)) (in-table s i e) in
+            let l = stands-inside (r .stands) in
+            let busy : idle-now s i ≡ false = rw (small, e, ne-eqb (threadAt s i .place) (threadAt s i .end) (λ z. absurd (omega arith))) in
+            subst (λ (x : Stepped). AllValues (x .state)) (sym (does code sum s i (opOf ins) busy (ready-op r)))
+            (values-instruction sum g s i (threadAt s i) ins (r .valued .0) (a .threads i) a)
+
+        at-shape : Exists s i → {w : Walked} → Shape code (threadAt s i .start) (threadAt s i .end) (threadAt s i .place) w → AllValues (pick sum code s i .state)
+        at-shape e (out k r o b z) = by e k r
+        at-shape e (shape-open body k n r o q b) = by e k r
+
+        go : (b : Bool) → exists (threadAt s i) ≡ b → AllValues (pick sum code s i .state)
+        go true e = let h = held c (outer c) s f y i e in at-shape e (shape (h .region) (h .outer) (h .somewhere) (h .placed .walks))
+        go false e = stays (rw e (or-true (not (ltb i (length (s .threads))))))
+
+    -- a pick leaves the numbers of a state such as their fields can hold
+    pub pick-ranged : (s : State) → Fits code s → Typed s → Ranged s → (i : ℕ) → Ranged (pick sum code s i .state)
+    pick-ranged s f y r i =
+        let k = step-fits c sum s f y i in
+        ranged (pick sum code s i .state) (k .0) (k .1) (pick-values s f y (values-of s r) i)
+
+    -- and so does a run
+    pub run-ranged : (s : State) → Fits code s → Typed s → Ranged s → (is : List ℕ) → Ranged (run sum code s is .state)
+    unfolding run
+    run-ranged s f y r [] = r
+    run-ranged s f y r (i ∷ is) =
+        let k = step-fits c sum s f y i in
+        run-ranged (pick sum code s i .state) (k .0) (k .1) (pick-ranged s f y r i) is
