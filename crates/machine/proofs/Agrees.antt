@@ -4,7 +4,7 @@ use mathlib.Core.Bool.{Bool, true, false, cond}
 use mathlib.Core.Path.{_≡_, refl, sym, ap, subst, _∙_}
 use mathlib.Core.List.{List, _∷_, _++_}
 use native.Mathlib.Omega.{arith}
-use borrow.Author.Tests.{lt-ltb, ne-eqb}
+use borrow.Author.Tests.{lt-ltb}
 use lib.Dec.{ltb}
 use lib.ListN.{length, drop, getD, set}
 use Rattle.code.specs.Compile.{Instruction, Code, ε, _⨾_, compileP}
@@ -26,7 +26,8 @@ use Rattle.machine.specs.Stands.{stackFrom, opOf, Ready}
 use Rattle.machine.proofs.Numbers.{in-table}
 use Rattle.machine.proofs.Codes.{stands-end, ready-op, code-ready}
 use Rattle.machine.proofs.Showings.{Shows, shut, open′}
-use Rattle.machine.proofs.Mirrors.{idle-now, no-inside, does as picks}
+use Rattle.machine.proofs.Picks.{does as picks}
+use Rattle.machine.proofs.Mirrors.{no-inside}
 use Rattle.machine.proofs.Fresh.{fresh-mirrors}
 use Rattle.machine.proofs.Regions.{held}
 use Rattle.machine.proofs.Runs.{shows-of, mirror, room-for, pick-keeps, run-keeps}
@@ -165,8 +166,7 @@ module _ {code : List ℕ} {j : Job} (c : IsCode code j) where
       one : {ins : Instruction} {k : Code} → Ready code (threadAt s i .place) (threadAt s i .end) (ins ⨾ k) (threadAt s i .height) → DoesOne sum s i
       one {ins} r =
           let small : ltb i (length (s .threads)) ≡ true = lt-ltb i (length (s .threads)) (in-table s i e) in
-          let busy : idle-now s i ≡ false = rw (small, e, ne-eqb (threadAt s i .place) (threadAt s i .end) ne) in
-          let d = picks code sum s i (opOf ins) busy (ready-op r) in
+          let d = picks sum code s i (opOf ins) small e ne (ready-op r) in
           record { op = opOf ins; at-place = ready-op r; does = d; not-idle = ap (λ (x : Stepped). isIdle (x .event)) d ∙ never-idle sum s i (threadAt s i) (opOf ins) }
 
       go : (task : Task byValue) × Shows code (threadAt s i) task → DoesOne sum s i

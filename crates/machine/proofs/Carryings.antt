@@ -275,7 +275,7 @@ module _ (bytes : List ℕ) (sum : Rule) (s : State) (j : ℕ) (t : Thread) (y :
           carries = record {
             code = stands-next (x .code);
             valued = x .valued .1;
-            stack = sym (stack-add (t .cells) 0 (t .height - 2) (t .height) (sum (below t 2) (below t 1)) (omega arith) (let z = y .cells in omega arith)) ∙ ap (λ (n : ℕ). stackFrom (add sum t .cells) 0 n) (let z : suc (t .height - 2) ≡ t .height - 1 = omega arith in z);
+            stack = sym (stack-add (t .cells) 0 (t .height - 2) (t .height) (sum (below t 2) (below t 1)) _ (omega arith) (let z = y .cells in omega arith)) ∙ ap (λ (n : ℕ). stackFrom (add sum t .cells) 0 n) (let z : suc (t .height - 2) ≡ t .height - 1 = omega arith in z);
             again = x .again;
             reads = x .reads;
             writes = x .writes;
@@ -333,7 +333,7 @@ module _ (bytes : List ℕ) (sum : Rule) (s : State) (j : ℕ) (t : Thread) (y :
               carries = record {
                 code = stands-next (x .code);
                 valued = x .valued .1;
-                stack = x .stack ∙ sym (stack-closed (t .cells) 0 (t .height) (t .height) (omega arith) (let z = y .cells in omega arith));
+                stack = x .stack ∙ sym (stack-closed (t .cells) 0 (t .height) (t .height) _ (omega arith) (let z = y .cells in omega arith));
                 again = λ o. absurd (omega arith);
                 reads = λ o. absurd (omega arith);
                 writes = λ o. absurd (omega arith);
@@ -354,7 +354,7 @@ module _ (bytes : List ℕ) (sum : Rule) (s : State) (j : ℕ) (t : Thread) (y :
               carries = record {
                 code = x .again (l .1) .0;
                 valued = x .again (l .1) .1;
-                stack = let g : t .height ≡ suc (t .base) = l .0 in ap (λ (n : ℕ). stackFrom (t .cells) 0 n) (let z : t .height - 1 ≡ t .base = omega arith in z) ∙ sym (stack-closed (t .cells) 0 (t .base) (t .base) (omega arith) (let z = y .cells in omega arith));
+                stack = let g : t .height ≡ suc (t .base) = l .0 in ap (λ (n : ℕ). stackFrom (t .cells) 0 n) (let z : t .height - 1 ≡ t .base = omega arith in z) ∙ sym (stack-closed (t .cells) 0 (t .base) (t .base) _ (omega arith) (let z = y .cells in omega arith));
                 again = λ o. absurd (omega arith);
                 reads = λ o. absurd (omega arith);
                 writes = λ o. absurd (omega arith);

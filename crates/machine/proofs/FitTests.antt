@@ -147,7 +147,7 @@ is-placed bytes t y e = go (walkTo bytes t) refl (first (agreesWith t (walkTo by
           no-writes = a .no-writes;
           seen-free = all-freed (member (t .reads)) (t .seen) (y .seen) (first b2 (b3 && b4) r1);
           kept-free = all-freed (member (t .writes)) (t .kept) (y .kept) (first b3 b4 r2);
-          cells-free = λ n l. all-freed (λ n. ltb n (t .height)) (t .cells) (y .cells) (second b3 b4 r2) n (le-ltb n (t .height) l);
+          cells-free = λ n l. all-freed (λ n. ltb n (t .height)) (t .cells) (y .cells) (second b3 b4 r2) n (le-ltb n (t .height) (omega arith));
         }
 
 place : (bytes : List ℕ) (t : Thread) → Placed bytes t → placed bytes t ≡ true
@@ -158,9 +158,9 @@ place bytes t p =
     let b3 = free (member (t .writes)) (t .kept) in
     let b4 = free (λ n. ltb n (t .height)) (t .cells) in
     both b1 (b2 && (b3 && b4)) agreed
-    (both b2 (b3 && b4) (free-from 64 0 (member (t .reads)) (t .seen) (p .seen-free))
-    (both b3 b4 (free-from 64 0 (member (t .writes)) (t .kept) (p .kept-free))
-    (free-from 64 0 (λ n. ltb n (t .height)) (t .cells) (λ n h. p .cells-free n (ltb-false n (t .height) h)))))
+    (both b2 (b3 && b4) (free-from _ 0 (member (t .reads)) (t .seen) (p .seen-free))
+    (both b3 b4 (free-from _ 0 (member (t .writes)) (t .kept) (p .kept-free))
+    (free-from _ 0 (λ n. ltb n (t .height)) (t .cells) (λ n h. p .cells-free n (ltb-false n (t .height) h)))))
   where
     agreed : agreesWith t (walkTo bytes t) ≡ true
     agreed =
@@ -174,7 +174,7 @@ zeroed ns n e =
     (λ i l. all-freed (λ n. false) ns n e i refl ∙ sym (getD-replicate 64 i (pos 0) (pos 0) (omega arith)))
 
 zeros-free : free (λ n. false) zeros ≡ true
-zeros-free = free-from 64 0 (λ n. false) zeros (λ i m. go i (decLt i 64))
+zeros-free = free-from _ 0 (λ n. false) zeros (λ i m. go i (decLt i 64))
   where
     go : (i : ℕ) → Dec (i < 64) → getD zeros i (pos 0) ≡ pos 0
     go i (yes l) = getD-replicate 64 i (pos 0) (pos 0) l
@@ -494,7 +494,7 @@ one-each : (cs : List Child) (ts : List Thread) → ((c : Child) → In c cs →
 unfolding oneEach
 one-each [] ts f = refl
 one-each (c ∷ cs) ts f =
-    both (eqb (threadsOf c ts) 1) (oneEach cs ts) (eq-eqb (threadsOf c ts) 1 (has-one c ts (f c here))) (one-each cs ts (λ d i. f d (there i)))
+    rw (has-one c ts (f c here)) (one-each cs ts (λ d i. f d (there i)))
 
 -- ---- the whole test
 forked : (bytes : List ℕ) (s : State) (c : Child) → Parent bytes (s .threads) c → Forked bytes s c

@@ -1,25 +1,26 @@
 -- A state and the system of tasks that its records show: a pick does the same to both. Assumes nothing.
 use Prim.Native.Nat.{ℕ, zero, suc, _≤_, _<_}
-use mathlib.Core.Bool.{Bool, true, false, not, _||_}
+use mathlib.Core.Bool.{Bool, true, false, not}
 use mathlib.Core.Path.{_≡_, refl, sym, ap, subst, _∙_}
 use mathlib.Core.List.{List, [], _∷_, _++_, append-nil}
 use native.Mathlib.Omega.{arith}
 use native.Mathlib.Decide.{decLt}
-use borrow.Author.Tests.{eqb-true, eqb-false, eq-eqb, ne-eqb, lt-ltb}
+use borrow.Author.Tests.{eqb-true, eqb-false, ne-eqb, lt-ltb}
 use lib.Dec.{eqb, ltb}
 use lib.IntN.{ℤ}
 use lib.ListN.{length, drop, getD, set, length-set, length-append}
 use lib.Seq.{getD-set-same, getD-set-other, set-getD, getD-append-seam}
 use Rattle.code.specs.Compile.{Instruction, Code, ε, _⨾_}
-use Rattle.code.specs.Reader.{Op, opAt}
-use Rattle.script.specs.Outcome.{Outcome, done}
+use Rattle.code.specs.Reader.{opAt}
+use Rattle.script.specs.Outcome.{done}
 use Rattle.machine.specs.declared.Thread.{Thread}
 use Rattle.machine.specs.Threads.{blank, spawned}
-use Rattle.machine.specs.Steps.{State, Stepped, exists, numberOf, threadAt, instruction, doing, pick}
+use Rattle.machine.specs.Steps.{State, Stepped, exists, numberOf, threadAt, instruction, pick}
 use Rattle.stm.specs.Events.{idle}
 use Rattle.machine.specs.Fits.{Child, Exists}
 use Rattle.machine.specs.Stands.{stackFrom, opOf, Ready}
 use Rattle.machine.proofs.Numbers.{at-end, never, number-is, below-exists, exists-below, number-small}
+use Rattle.machine.proofs.Picks.{missing-idle, ended-idle, does}
 use Rattle.machine.proofs.Codes.{stands-end, stands-inside, ready-op}
 use Rattle.machine.proofs.Showings.{Shows, shut, open′}
 use Rattle.machine.proofs.Simulates.{Held, Born, nobody, child, Simulated, from-outside, from-inside}
@@ -49,25 +50,7 @@ pub data Picked (bytes : List ℕ) (sum : Rule) (s : State) (sys : System byValu
   stood : pick sum bytes s i ≡ record { state = s; event = idle } → did byValue sum sys i ≡ record { task = taskAt byValue sys i; table = sys .table; children = []; event = idle } → Picked bytes sum s sys i old
   went : (r : Stepped) → pick sum bytes s i ≡ r → Exists s i → Simulated bytes s i (threadAt s i) old r (did byValue sum sys i) → Picked bytes sum s sys i old
 
-abbrev pub idle-now : State → ℕ → Bool
-idle-now s i = not (ltb i (length (s .threads))) || (not (exists (threadAt s i)) || eqb (threadAt s i .place) (threadAt s i .end))
-
 module _ (bytes : List ℕ) (sum : Rule) where
-  abbrev picked : State → ℕ → Bool → Stepped
-  picked s j b =
-      elim b [
-        | true ↦ record { state = s; event = idle }
-        | false ↦ doing sum s j (threadAt s j) (opAt (drop (threadAt s j .place) bytes))
-      ]
-
-  pub idles : (s : State) (i : ℕ) → idle-now s i ≡ true → pick sum bytes s i ≡ record { state = s; event = idle }
-  unfolding pick
-  idles s i e = ap (λ (b : Bool). picked s i b) e
-
-  pub does : (s : State) (i : ℕ) (op : Op) → idle-now s i ≡ false → opAt (drop (threadAt s i .place) bytes) ≡ done op → pick sum bytes s i ≡ instruction sum s i (threadAt s i) op
-  unfolding pick
-  does s i op e f = ap (λ (b : Bool). picked s i b) e ∙ ap (λ (o : Outcome Op). doing sum s i (threadAt s i) o) f
-
   -- a thread that exists is picked
   pub works : (s : State) (sys : System byValue) → Mirrors bytes s sys → (i : ℕ) → i < length (sys .tasks) → (h : Held bytes (threadAt s i)) → Picked bytes sum s sys i (h .placed .walked .children)
   unfolding stepTask stepOutside
@@ -84,10 +67,9 @@ module _ (bytes : List ℕ) (sum : Rule) where
 
       at-place : (ins : Instruction) (t : Task byValue) → taskAt byValue sys i ≡ t → threadAt s i .place < threadAt s i .end → opAt (drop (threadAt s i .place) bytes) ≡ done (opOf ins) → Simulated bytes s i (threadAt s i) (h .placed .walked .children) (instruction sum s i (threadAt s i) (opOf ins)) (stepTask byValue sum (s .registers) t) → Picked bytes sum s sys i (h .placed .walked .children)
       at-place ins t q less o x =
-          let busy : idle-now s i ≡ false = rw (small, e, ne-eqb (threadAt s i .place) (threadAt s i .end) (λ z. absurd (omega arith))) in
           went
           (instruction sum s i (threadAt s i) (opOf ins))
-          (does s i (opOf ins) busy o)
+          (does sum bytes s i (opOf ins) small e (λ z. absurd (omega arith)) o)
           e
           (subst (λ (y : Task byValue). Simulated bytes s i (threadAt s i) (h .placed .walked .children) (instruction sum s i (threadAt s i) (opOf ins)) (stepTask byValue sum (sys .table) y)) (sym q)
           (subst (λ (y : List ℤ). Simulated bytes s i (threadAt s i) (h .placed .walked .children) (instruction sum s i (threadAt s i) (opOf ins)) (stepTask byValue sum y t)) (m .table) x))
@@ -95,7 +77,7 @@ module _ (bytes : List ℕ) (sum : Rule) where
       ended : (σ : List ℤ) → taskAt byValue sys i ≡ outside ε σ → threadAt s i .place ≡ threadAt s i .end → Picked bytes sum s sys i (h .placed .walked .children)
       ended σ q z =
           stood
-          (idles s i (let a : eqb (threadAt s i .place) (threadAt s i .end) ≡ true = eq-eqb (threadAt s i .place) (threadAt s i .end) z in rw (small, e, a)))
+          (ended-idle sum bytes s i z)
           (ap (λ (y : Task byValue). stepTask byValue sum (sys .table) y) q ∙ ap (λ (y : Task byValue). record { task = y; table = sys .table; children = []; event = idle }) (sym q))
 
       go : (t : Task byValue) → taskAt byValue sys i ≡ t → Shows bytes (threadAt s i) t → Picked bytes sum s sys i (h .placed .walked .children)
@@ -219,10 +201,6 @@ module _ {bytes : List ℕ} where
               subst (λ (y : Task byValue). Shows bytes (getD (set (s .threads) n t) k blank) y) (sym (getD-front (sys .tasks) task k g)) (subst (λ (y : Thread). Shows bytes y (taskAt byValue sys k)) (sym (getD-set-other (s .threads) n k t blank z)) (m .shown k g))
 
 -- ---- a pick
-pub or-true : (b : Bool) → (b || true) ≡ true
-or-true true = refl
-or-true false = refl
-
 getD-out : (xs : List (Task byValue)) (i : ℕ) → length xs ≤ i → getD xs i (over byValue) ≡ over byValue
 getD-out [] i l = refl
 getD-out (x ∷ xs) zero l = absurd (omega arith)
@@ -289,7 +267,7 @@ module _ (bytes : List ℕ) (sum : Rule) where
     where
       go : (b : Bool) → exists (threadAt s i) ≡ b → (pick sum bytes s i ≡ record { state = s; event = idle }) × (did byValue sum sys i ≡ record { task = taskAt byValue sys i; table = sys .table; children = []; event = idle })
       go true e = absurd (let a = exists-below s gap i e in let z = m .number in omega arith)
-      go false e = (idles bytes sum s i (rw e (or-true (not (ltb i (length (s .threads)))))), over-idle sum (sys .table) (taskAt byValue sys i) (getD-out (sys .tasks) i l))
+      go false e = (missing-idle sum bytes s i e, over-idle sum (sys .table) (taskAt byValue sys i) (getD-out (sys .tasks) i l))
 
   -- a pick does the same to a state and to the system that it shows
   pub pick-mirrors : (s : State) (sys : System byValue) → Mirrors bytes s sys → ((i : ℕ) → Exists s (suc i) → Exists s i) → (i : ℕ) → (Exists s i → Held bytes (threadAt s i)) → ((k : Code) → did byValue sum sys i .children ≡ k ∷ [] → numberOf (s .threads) < 16) → Mirrored bytes sum s sys i

@@ -1,16 +1,17 @@
--- An idle pick changes nothing, only a COMMIT that takes effect changes the registers, runs follow one another, and each pick is counted once. Assumes nothing.
+-- Which picks are idle; an idle pick changes nothing, only a COMMIT that takes effect changes the registers, runs follow one another, and each
+-- pick is counted once. Assumes nothing.
 use Prim.Native.Nat.{ℕ, suc, _+_}
 use mathlib.Core.Bool.{Bool, true, false, cond, not, _||_}
-use mathlib.Core.Path.{_≡_, refl}
+use mathlib.Core.Path.{_≡_, refl, sym, ap, subst, _∙_}
 use mathlib.Core.List.{List, [], _∷_, _++_}
 use native.Mathlib.Omega.{arith}
+use borrow.Author.Tests.{eqb-true, eqb-false, eq-eqb, ne-eqb}
 use lib.Dec.{eqb, ltb}
-use lib.ListN.{length, drop, set}
+use lib.ListN.{length, drop}
 use Rattle.machine.specs.declared.Thread.{Thread}
-use Rattle.machine.specs.Threads.{closed, firstStale, overlaid}
-use Rattle.machine.specs.Steps.{State, Stepped, put, exists, threadAt, commit, instruction, doing, pick, Ran, run}
+use Rattle.machine.specs.Steps.{State, Stepped, exists, threadAt, commit, instruction, doing, pick, Ran, run}
 use Rattle.machine.specs.Answers.{countsOf}
-use Rattle.stm.specs.Events.{Happened, counted, idle, committed, sentBack, isIdle, isCommit}
+use Rattle.stm.specs.Events.{Happened, counted, idle, isIdle, isCommit}
 use Rattle.code.specs.Reader.{Op, opAt}
 use Rattle.code.specs.Reader as code
 use Rattle.script.specs.Outcome.{Outcome, refused, done}
@@ -29,14 +30,11 @@ never′ e = absurd (let z : _≡_ {A = ℕ} 0 1 = cc in omega arith)
 
 commit-lawful : (s : State) (i : ℕ) (t : Thread) (v : ℕ) → Lawful s (commit s i t v)
 unfolding commit
-commit-lawful s i t v = go (ltb v 64)
+commit-lawful s i t v = go (ltb v 64) refl
   where
-    go : (b : Bool) → Lawful s (cond b (record { state = put s i (closed (t .begin) (t .base) t); event = sentBack v }) (record {
-      state = record { registers = overlaid 64 0 t (s .registers); threads = set (s .threads) i (closed (t .place + 1) (t .height) t) };
-      event = committed;
-    }))
-    go true = record { still = never; kept = λ e. refl }
-    go false = record { still = never; kept = never′ }
+    go : (b : Bool) → ltb v 64 ≡ b → Lawful s (commit s i t v)
+    go true e = rw (commit, e) (record { still = never; kept = λ e. refl })
+    go false e = rw (commit, e) (record { still = never; kept = never′ })
 
 instruction-lawful : (sum : Rule) (s : State) (i : ℕ) (t : Thread) (op : Op) → Lawful s (instruction sum s i t op)
 unfolding instruction
@@ -45,23 +43,58 @@ instruction-lawful sum s i t code.add = record { still = never; kept = λ e. ref
 instruction-lawful sum s i t (code.read v) = record { still = never; kept = λ e. refl }
 instruction-lawful sum s i t (code.write v) = record { still = never; kept = λ e. refl }
 instruction-lawful sum s i t code.begin = record { still = never; kept = λ e. refl }
-instruction-lawful sum s i t code.commit = commit-lawful s i t (firstStale 64 0 t (s .registers))
+instruction-lawful sum s i t code.commit = commit-lawful s i t _
 instruction-lawful sum s i t (code.fork size) = record { still = never; kept = λ e. refl }
 
 doing-lawful : (sum : Rule) (s : State) (i : ℕ) (t : Thread) (o : Outcome Op) → Lawful s (doing sum s i t o)
 doing-lawful sum s i t (refused number place) = record { still = λ e. refl; kept = λ e. refl }
 doing-lawful sum s i t (done op) = instruction-lawful sum s i t op
 
-pick-lawful : (sum : Rule) (bytes : List ℕ) (s : State) (i : ℕ) → Lawful s (pick sum bytes s i)
-unfolding pick
-pick-lawful sum bytes s i = go (not (ltb i (length (s .threads))) || (not (exists (threadAt s i)) || eqb (threadAt s i .place) (threadAt s i .end)))
-  where
-    go : (b : Bool) → Lawful s (elim b [
-      | true ↦ record { state = s; event = idle }
-      | false ↦ doing sum s i (threadAt s i) (opAt (drop (threadAt s i .place) bytes))
-    ])
-    go true = record { still = λ e. refl; kept = λ e. refl }
-    go false = doing-lawful sum s i (threadAt s i) (opAt (drop (threadAt s i .place) bytes))
+or-true : (b : Bool) → (b || true) ≡ true
+or-true true = refl
+or-true false = refl
+
+module _ (sum : Rule) (bytes : List ℕ) (s : State) (i : ℕ) where
+  no-record : ltb i (length (s .threads)) ≡ false → pick sum bytes s i ≡ record { state = s; event = idle }
+  unfolding pick
+  no-record e = rw (pick, e)
+
+  -- "A pick of a thread that does not exist .. is idle"
+  pub missing-idle : exists (threadAt s i) ≡ false → pick sum bytes s i ≡ record { state = s; event = idle }
+  unfolding pick
+  missing-idle e = rw (pick, e, or-true (not (ltb i (length (s .threads)))))
+
+  -- "or has ended"
+  pub ended-idle : threadAt s i .place ≡ threadAt s i .end → pick sum bytes s i ≡ record { state = s; event = idle }
+  unfolding pick
+  ended-idle z = go (ltb i (length (s .threads))) refl (exists (threadAt s i)) refl
+    where
+      go : (a : Bool) → ltb i (length (s .threads)) ≡ a → (b : Bool) → exists (threadAt s i) ≡ b → pick sum bytes s i ≡ record { state = s; event = idle }
+      go false l b e = no-record l
+      go true l false e = missing-idle e
+      go true l true e = rw (pick, l, e, z, eq-eqb (threadAt s i .end) (threadAt s i .end) refl)
+
+  -- "Each other pick does one instruction": the one at the thread's place
+  pub busy : ltb i (length (s .threads)) ≡ true → exists (threadAt s i) ≡ true → (threadAt s i .place ≡ threadAt s i .end → ⊥) → pick sum bytes s i ≡ doing sum s i (threadAt s i) (opAt (drop (threadAt s i .place) bytes))
+  unfolding pick
+  busy l e z = rw (pick, l, e, ne-eqb (threadAt s i .place) (threadAt s i .end) z)
+
+  pub does : (op : Op) → ltb i (length (s .threads)) ≡ true → exists (threadAt s i) ≡ true → (threadAt s i .place ≡ threadAt s i .end → ⊥) → opAt (drop (threadAt s i .place) bytes) ≡ done op → pick sum bytes s i ≡ instruction sum s i (threadAt s i) op
+  does op l e z f = busy l e z ∙ ap (λ (o : Outcome Op). doing sum s i (threadAt s i) o) f
+
+  idle-lawful : pick sum bytes s i ≡ record { state = s; event = idle } → Lawful s (pick sum bytes s i)
+  idle-lawful e = subst (λ (r : Stepped). Lawful s r) (sym e) (record { still = λ x. refl; kept = λ x. refl })
+
+  pick-lawful : Lawful s (pick sum bytes s i)
+  pick-lawful = go (ltb i (length (s .threads))) refl (exists (threadAt s i)) refl (eqb (threadAt s i .place) (threadAt s i .end)) refl
+    where
+      go : (a : Bool) → ltb i (length (s .threads)) ≡ a → (b : Bool) → exists (threadAt s i) ≡ b → (c : Bool) → eqb (threadAt s i .place) (threadAt s i .end) ≡ c → Lawful s (pick sum bytes s i)
+      go false l b e c z = idle-lawful (no-record l)
+      go true l false e c z = idle-lawful (missing-idle e)
+      go true l true e true z = idle-lawful (ended-idle (eqb-true (threadAt s i .place) (threadAt s i .end) z))
+      go true l true e false z =
+          subst (λ (r : Stepped). Lawful s r) (sym (busy l e (eqb-false (threadAt s i .place) (threadAt s i .end) z)))
+          (doing-lawful sum s i (threadAt s i) (opAt (drop (threadAt s i .place) bytes)))
 
 -- an idle pick "changes nothing"
 pub idle-keeps : (sum : Rule) (bytes : List ℕ) (s : State) (i : ℕ) → isIdle (pick sum bytes s i .event) ≡ true → pick sum bytes s i .state ≡ s

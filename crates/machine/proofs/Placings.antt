@@ -1,10 +1,12 @@
 -- Each instruction leaves a thread's record as one that fits, and of its type. Assumes nothing.
 use Prim.Native.Nat.{ℕ, zero, suc, _+_, _-_, _≤_, _<_}
-use mathlib.Core.Bool.{false}
+use mathlib.Core.Bool.{Bool, true, false}
 use mathlib.Core.Path.{_≡_, refl, sym, ap, subst, _∙_}
 use mathlib.Core.List.{List, [], _∷_, _++_}
 use native.Mathlib.Omega.{arith}
 use native.Mathlib.Decide.{decLt}
+use borrow.Author.Tests.{eqb-true, eqb-false}
+use lib.Dec.{eqb}
 use lib.IntN.{ℤ, pos}
 use lib.ListN.{length, drop, getD, set, take, replicate, length-set, length-append, length-replicate}
 use lib.Seq.{getD-set-same, getD-set-other, length-take-le}
@@ -30,18 +32,12 @@ getD-short [] i l = refl
 getD-short (n ∷ ns) zero l = absurd (omega arith)
 getD-short (n ∷ ns) (suc i) l = getD-short ns i (omega arith)
 
--- the cells of `closed`: those below the height stay, the others are 0
-pub closed-below : (h : ℕ) (cells : List ℤ) (i : ℕ) → i < h → h ≤ length cells → getD (take h cells ++ replicate (64 - h) (pos 0)) i (pos 0) ≡ getD cells i (pos 0)
-closed-below zero cells i l m = absurd (omega arith)
-closed-below (suc h) [] i l m = absurd (omega arith)
-closed-below (suc h) (c ∷ cs) zero l m = refl
-closed-below (suc h) (c ∷ cs) (suc i) l m = below′ h cs i (64 - suc h) (omega arith) (omega arith)
-  where
-    below′ : (h : ℕ) (cells : List ℤ) (i n : ℕ) → i < h → h ≤ length cells → getD (take h cells ++ replicate n (pos 0)) i (pos 0) ≡ getD cells i (pos 0)
-    below′ zero cells i n l m = absurd (omega arith)
-    below′ (suc h) [] i n l m = absurd (omega arith)
-    below′ (suc h) (c ∷ cs) zero n l m = refl
-    below′ (suc h) (c ∷ cs) (suc i) n l m = below′ h cs i n (omega arith) (omega arith)
+-- the cells of `closed`: those below the height stay, whatever comes above; the others are 0
+pub closed-below : (h : ℕ) (cells : List ℤ) (i : ℕ) (above : List ℤ) → i < h → h ≤ length cells → getD (take h cells ++ above) i (pos 0) ≡ getD cells i (pos 0)
+closed-below zero cells i above l m = absurd (omega arith)
+closed-below (suc h) [] i above l m = absurd (omega arith)
+closed-below (suc h) (c ∷ cs) zero above l m = refl
+closed-below (suc h) (c ∷ cs) (suc i) above l m = closed-below h cs i above (omega arith) (omega arith)
 
 pub closed-above : (h : ℕ) (cells : List ℤ) (n i : ℕ) → h ≤ i → getD (take h cells ++ replicate n (pos 0)) i (pos 0) ≡ pos 0
 closed-above zero cells n i l = getD-zeros n i
@@ -61,7 +57,7 @@ pub typed-add : (sum : Rule) (t : Thread) → TypedThread t → TypedThread (add
 unfolding add
 typed-add sum t y =
     record {
-      cells = length-set (set (t .cells) (t .height - 2) (sum (below t 2) (below t 1))) (t .height - 1) (pos 0) ∙ (length-set (t .cells) (t .height - 2) (sum (below t 2) (below t 1)) ∙ y .cells);
+      cells = length-set (set (t .cells) (t .height - 2) _) (t .height - 1) _ ∙ (length-set (t .cells) (t .height - 2) _ ∙ y .cells);
       seen = y .seen;
       kept = y .kept;
     }
@@ -71,7 +67,10 @@ unfolding begin
 typed-begin t y = record { cells = y .cells; seen = zeros-long; kept = zeros-long }
 
 typed-noted : (from : Source) (v : ℕ) (n : ℤ) (t : Thread) → TypedThread t → TypedThread (noted from v n t)
-typed-noted fromWrites v n t y = y
+typed-noted fromWrites v n t y =
+    let a = y .seen in
+    let b = length-set (t .seen) v n in
+    record { cells = y .cells; seen = omega arith; kept = y .kept }
 typed-noted fromReads v n t y = y
 typed-noted fromTable v n t y = record { cells = y .cells; seen = length-set (t .seen) v _ ∙ y .seen; kept = y .kept }
 
@@ -88,22 +87,25 @@ unfolding closed
 typed-closed place height t l y =
     let c = y .cells in
     let a : length (take height (t .cells)) ≡ height = length-take-le height (t .cells) (omega arith) in
-    let b : length (replicate (64 - height) (pos 0)) ≡ 64 - height = length-replicate (64 - height) (pos 0) in
     record {
-      cells = length-append (take height (t .cells)) (replicate (64 - height) (pos 0)) ∙ (omega arith);
+      cells = filled (take height (t .cells)) (64 - height) _ (omega arith);
       seen = zeros-long;
       kept = zeros-long;
     }
+  where
+    filled : (ns : List ℤ) (k : ℕ) (n : ℤ) → length ns + k ≡ 64 → length (ns ++ replicate k n) ≡ 64
+    filled ns k n e = length-append ns (replicate k n) ∙ (let b = length-replicate k n in omega arith)
 
 pub typed-spawned : (start end : ℕ) → TypedThread (spawned start end)
 unfolding spawned
 typed-spawned start end = record { cells = zeros-long; seen = zeros-long; kept = zeros-long }
 
 -- ---- places
-pub push-free : (cells : List ℤ) (h : ℕ) (n : ℤ) → ((i : ℕ) → h ≤ i → getD cells i (pos 0) ≡ pos 0) → (i : ℕ) → suc h ≤ i → getD (set cells h n) i (pos 0) ≡ pos 0
-push-free cells h n f i l = getD-set-other cells h i n (pos 0) (λ e. absurd (omega arith)) ∙ f i (omega arith)
-
 module _ {bytes : List ℕ} (t : Thread) (p : Placed bytes t) (inside : t .place < t .end) where
+  -- a cell above the new top is as it was
+  pub pushed-free : (n : ℤ) (i : ℕ) → t .height < i → getD (t .cells) i (pos 0) ≡ pos 0 → getD (set (t .cells) (t .height) n) i (pos 0) ≡ pos 0
+  pushed-free n i l f = getD-set-other (t .cells) (t .height) i n (pos 0) (λ e. absurd (omega arith)) ∙ f
+
   -- PUSH, and FORK's 0
   unfoldable pub placed-push : (op : Op) (n : ℤ) → opAt (drop (t .place) bytes) ≡ done op → walkOp op (t .place) (p .walked) .height ≡ suc (p .walked .height) → walkOp op (t .place) (p .walked) .begin ≡ p .walked .begin → walkOp op (t .place) (p .walked) .base ≡ p .walked .base → Placed bytes (push n (nextPlace op (t .place)) t)
   unfolding push
@@ -118,7 +120,7 @@ module _ {bytes : List ℕ} (t : Thread) (p : Placed bytes t) (inside : t .place
         no-writes = λ z. p .no-writes (sym b ∙ z);
         seen-free = p .seen-free;
         kept-free = p .kept-free;
-        cells-free = push-free (t .cells) (t .height) n (p .cells-free);
+        cells-free = λ i l. pushed-free n i (omega arith) (p .cells-free i (omega arith));
       }
 
   unfoldable pub placed-add : (sum : Rule) → opAt (drop (t .place) bytes) ≡ done code.add → 2 ≤ t .height → t .height ≤ length (t .cells) → Placed bytes (add sum t)
@@ -170,10 +172,28 @@ module _ {bytes : List ℕ} (t : Thread) (p : Placed bytes t) (inside : t .place
         base = p .base;
         no-reads = not-closed open′;
         no-writes = not-closed open′;
-        seen-free = p .seen-free;
+        seen-free = λ u m. free u m (eqb u v) refl (member (t .reads) u) refl;
         kept-free = p .kept-free;
-        cells-free = push-free (t .cells) (t .height) n (p .cells-free);
+        cells-free = λ i l. pushed-free n i (omega arith) (p .cells-free i (omega arith));
       }
+    where
+      free : (u : ℕ) → member (noted fromWrites v n t .reads) u ≡ false → (same : Bool) → eqb u v ≡ same → (marked : Bool) → member (t .reads) u ≡ marked → getD (noted fromWrites v n t .seen) u (pos 0) ≡ pos 0
+      free u m true q marked r =
+          let x : u ≡ v = eqb-true u v q in
+          let g : member (with (t .reads) v) u ≡ true = subst (λ (k : ℕ). member (with (t .reads) v) k ≡ true) (sym x) (member-same (t .reads) v small) in
+          known u m marked r g
+        where
+          known : (u : ℕ) → member (noted fromWrites v n t .reads) u ≡ false → (marked : Bool) → member (t .reads) u ≡ marked → member (with (t .reads) v) u ≡ true → getD (noted fromWrites v n t .seen) u (pos 0) ≡ pos 0
+          known u m true r g = cc
+          known u m false r g = let s = p .seen-free u r in cc
+      free u m false q marked r =
+          let g = member-other (t .reads) v u (eqb-false u v q) in
+          let h = getD-set-other (t .seen) v u n (pos 0) (eqb-false u v q) in
+          known u m marked r g h
+        where
+          known : (u : ℕ) → member (noted fromWrites v n t .reads) u ≡ false → (marked : Bool) → member (t .reads) u ≡ marked → member (with (t .reads) v) u ≡ member (t .reads) u → getD (set (t .seen) v n) u (pos 0) ≡ getD (t .seen) u (pos 0) → getD (noted fromWrites v n t .seen) u (pos 0) ≡ pos 0
+          known u m true r g h = cc
+          known u m false r g h = let s = p .seen-free u r in cc
   placed-noted v small e open′ fromReads n =
       record {
         walked = walkOp (code.read v) (t .place) (p .walked);
@@ -185,7 +205,7 @@ module _ {bytes : List ℕ} (t : Thread) (p : Placed bytes t) (inside : t .place
         no-writes = not-closed open′;
         seen-free = p .seen-free;
         kept-free = p .kept-free;
-        cells-free = push-free (t .cells) (t .height) n (p .cells-free);
+        cells-free = λ i l. pushed-free n i (omega arith) (p .cells-free i (omega arith));
       }
   placed-noted v small e open′ fromTable n =
       record {
@@ -198,7 +218,7 @@ module _ {bytes : List ℕ} (t : Thread) (p : Placed bytes t) (inside : t .place
         no-writes = not-closed open′;
         seen-free = noted-free v small _;
         kept-free = p .kept-free;
-        cells-free = push-free (t .cells) (t .height) n (p .cells-free);
+        cells-free = λ i l. pushed-free n i (omega arith) (p .cells-free i (omega arith));
       }
 
   pub placed-read : (table : List ℤ) (v : ℕ) → v < 64 → opAt (drop (t .place) bytes) ≡ done (code.read v) → 1 ≤ t .begin → Placed bytes (read table v t)
@@ -269,7 +289,7 @@ module _ {bytes : List ℕ} (t : Thread) (p : Placed bytes t) (inside : t .place
         no-writes = λ z. refl;
         seen-free = λ v m. getD-zeros 64 v;
         kept-free = λ v m. getD-zeros 64 v;
-        cells-free = λ n l. closed-above (t .height) (t .cells) (64 - t .height) n l;
+        cells-free = λ n l. closed-above (t .height) (t .cells) (64 - t .height) n (omega arith);
       }
 
   pub commit-kids : (e : opAt (drop (t .place) bytes) ≡ done code.commit) → placed-commit e .walked .children ≡ p .walked .children
@@ -290,7 +310,7 @@ placed-back t cs ws =
       no-writes = λ z. refl;
       seen-free = λ v m. getD-zeros 64 v;
       kept-free = λ v m. getD-zeros 64 v;
-      cells-free = λ n l. closed-above (t .base) (t .cells) (64 - t .base) n l;
+      cells-free = λ n l. closed-above (t .base) (t .cells) (64 - t .base) n (omega arith);
     }
 
 pub back-kids : {bytes : List ℕ} (t : Thread) (cs : List Child) (ws : Walks bytes (t .start) (t .end) (t .begin) (record { height = t .base; begin = 0; base = 0; children = cs })) → placed-back t cs ws .walked .children ≡ cs

@@ -1,11 +1,11 @@
 -- Every number of a state stays one that its field can hold: in a fresh state, after a pick, and after a run. Assumes nothing.
 use Prim.Native.Nat.{ℕ, zero, suc, _+_, _-_, _≤_, _<_, _^_}
-use mathlib.Core.Bool.{Bool, true, false, cond, not, or-true}
+use mathlib.Core.Bool.{Bool, true, false, cond}
 use mathlib.Core.Path.{_≡_, refl, sym, ap, subst, _∙_}
 use mathlib.Core.List.{List, [], _∷_, _++_}
 use native.Mathlib.Omega.{arith}
-use borrow.Author.Tests.{lt-ltb, eq-eqb, ne-eqb}
-use lib.Dec.{eqb, ltb}
+use borrow.Author.Tests.{lt-ltb}
+use lib.Dec.{ltb}
 use lib.IntN.{ℤ, pos}
 use lib.ListN.{length, getD, set, take, replicate, length-append}
 use Rattle.code.specs.Compile.{Instruction, Code, PUSH, ADD, READ, WRITE, BEGIN, COMMIT, FORK, ε, _⨾_}
@@ -24,11 +24,11 @@ use Rattle.machine.proofs.Codes.{stands-end, stands-inside, ready-op}
 use Rattle.machine.proofs.Shapes.{Shape, out, open′ as shape-open, shape}
 use Rattle.machine.proofs.Placings.{getD-zeros}
 use Rattle.machine.proofs.Simulates.{Held}
-use Rattle.machine.proofs.Mirrors.{idle-now, idles, does}
+use Rattle.machine.proofs.Picks.{missing-idle, ended-idle, does}
 use Rattle.machine.proofs.Regions.{held}
 use Rattle.machine.proofs.Fresh.{no-record, fresh-typed, fresh-fits}
 use Rattle.machine.proofs.Agrees.{outer, step-fits}
-use Rattle.stm.specs.Events.{Source, fromWrites, fromReads, fromTable, committed, sentBack}
+use Rattle.stm.specs.Events.{idle, Source, fromWrites, fromReads, fromTable, committed, sentBack}
 use Rattle.word.specs.Registers.{none, member}
 use Rattle.word.specs.Sum.{InRange, Rule, wrapping}
 use Rattle.word.proofs.Sets.{with-small}
@@ -314,19 +314,16 @@ module _ {code : List ℕ} {j : Job} (c : IsCode code j) where
     unfolding ValuedC
     pick-values s f y a i = go (exists (threadAt s i)) refl
       where
-        stays : idle-now s i ≡ true → AllValues (pick sum code s i .state)
-        stays e = subst (λ (r : Stepped). AllValues (r .state)) (sym (idles code sum s i e)) a
+        stays : pick sum code s i ≡ record { state = s; event = idle } → AllValues (pick sum code s i .state)
+        stays e = subst (λ (r : Stepped). AllValues (r .state)) (sym e) a
 
         by : Exists s i → (k : Code) {h : ℕ} → Ready code (threadAt s i .place) (threadAt s i .end) k h → AllValues (pick sum code s i .state)
         by e ε r =
-            let small : ltb i (length (s .threads)) ≡ true = lt-ltb i (length (s .threads)) (in-table s i e) in
-            let q : eqb (threadAt s i .place) (threadAt s i .end) ≡ true = eq-eqb (threadAt s i .place) (threadAt s i .end) (stands-end (r .stands)) in
-            stays (rw (small, e, q))
+            stays (ended-idle sum code s i (stands-end (r .stands)))
         by e (ins ⨾ k) r =
             let small : ltb i (length (s .threads)) ≡ true = lt-ltb i (length (s .threads)) (in-table s i e) in
             let l = stands-inside (r .stands) in
-            let busy : idle-now s i ≡ false = rw (small, e, ne-eqb (threadAt s i .place) (threadAt s i .end) (λ z. absurd (omega arith))) in
-            subst (λ (x : Stepped). AllValues (x .state)) (sym (does code sum s i (opOf ins) busy (ready-op r)))
+            subst (λ (x : Stepped). AllValues (x .state)) (sym (does sum code s i (opOf ins) small e (λ z. absurd (omega arith)) (ready-op r)))
             (values-instruction sum g s i (threadAt s i) ins (r .valued .0) (a .threads i) a)
 
         at-shape : Exists s i → {w : Walked} → Shape code (threadAt s i .start) (threadAt s i .end) (threadAt s i .place) w → AllValues (pick sum code s i .state)
@@ -335,7 +332,7 @@ module _ {code : List ℕ} {j : Job} (c : IsCode code j) where
 
         go : (b : Bool) → exists (threadAt s i) ≡ b → AllValues (pick sum code s i .state)
         go true e = let h = held c (outer c) s f y i e in at-shape e (shape (h .region) (h .outer) (h .somewhere) (h .placed .walks))
-        go false e = stays (rw e (or-true (not (ltb i (length (s .threads))))))
+        go false e = stays (missing-idle sum code s i e)
 
     -- a pick leaves the numbers of a state such as their fields can hold
     pub pick-ranged : (s : State) → Fits code s → Typed s → Ranged s → (i : ℕ) → Ranged (pick sum code s i .state)

@@ -8,7 +8,7 @@ use native.Mathlib.Omega.{arith}
 use borrow.Author.Tests.{eqb-true, eqb-false}
 use lib.Dec.{eqb}
 use lib.IntN.{ℤ, pos}
-use lib.ListN.{length, getD, set, take, replicate}
+use lib.ListN.{length, getD, set, take}
 use lib.Seq.{getD-set-same, getD-set-other}
 use lib.Signed.{ltZ}
 use Rattle.code.specs.Compile.{Code, BEGIN, _⨾_}
@@ -52,13 +52,13 @@ stack-push cells base k i n e l =
     let b : stackFrom (set cells i n) base k ≡ stackFrom cells base k = stack-set cells base k i n (omega arith) in
     rw (a, b)
 
--- ADD: the sum stands where the lower one stood
-pub stack-add : (cells : List ℤ) (base k h : ℕ) (n : ℤ) → h ≡ suc (suc k) + base → h ≤ length cells → stackFrom (set (set cells (h - 2) n) (h - 1) (pos 0)) base (suc k) ≡ n ∷ stackFrom cells base k
-stack-add cells base k h n e l =
-    stack-set (set cells (h - 2) n) base (suc k) (h - 1) (pos 0) (omega arith) ∙ stack-push cells base k (h - 2) n (omega arith) (omega arith)
+-- ADD: the sum stands where the lower one stood, whatever is put above it
+pub stack-add : (cells : List ℤ) (base k h : ℕ) (n m : ℤ) → h ≡ suc (suc k) + base → h ≤ length cells → stackFrom (set (set cells (h - 2) n) (h - 1) m) base (suc k) ≡ n ∷ stackFrom cells base k
+stack-add cells base k h n m e l =
+    stack-set (set cells (h - 2) n) base (suc k) (h - 1) m (omega arith) ∙ stack-push cells base k (h - 2) n (omega arith) (omega arith)
 
-pub stack-closed : (cells : List ℤ) (base k h : ℕ) → k + base ≤ h → h ≤ length cells → stackFrom (take h cells ++ replicate (64 - h) (pos 0)) base k ≡ stackFrom cells base k
-stack-closed cells base k h l m = stack-same (take h cells ++ replicate (64 - h) (pos 0)) cells base k (λ i less. closed-below h cells i (omega arith) m)
+pub stack-closed : (cells : List ℤ) (base k h : ℕ) (above : List ℤ) → k + base ≤ h → h ≤ length cells → stackFrom (take h cells ++ above) base k ≡ stackFrom cells base k
+stack-closed cells base k h above l m = stack-same (take h cells ++ above) cells base k (λ i less. closed-below h cells i above (omega arith) m)
 
 -- ---- logs
 pub log-none : (ns : List ℤ) → logOf registers.none ns ≡ nothing

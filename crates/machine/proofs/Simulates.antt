@@ -173,7 +173,7 @@ module _ {bytes : List ℕ} (sum : Rule) (s : State) (j : ℕ) (t : Thread) (h :
               let x : t .height - 1 ≡ suc k = omega arith in
               let a : t .height - 2 ≡ k + 0 = omega arith in
               let b : t .height - 1 ≡ suc k + 0 = omega arith in
-              rw (ap (λ (m : ℕ). stackFrom (add sum t .cells) 0 m) x, stack-add (t .cells) 0 k (t .height) (sum (below t 2) (below t 1)) (omega arith) (omega arith), a, b)
+              rw (ap (λ (m : ℕ). stackFrom (add sum t .cells) 0 m) x, stack-add (t .cells) 0 k (t .height) (sum (below t 2) (below t 1)) (pos 0) (omega arith) (omega arith), a, b)
 
       add-outside : (k : ℕ) → t .height ≡ suc (suc k) → Sim (instruction sum s j t code.add) (stepOutside byValue sum (s .registers) (ADD ⨾ c) (stackFrom (t .cells) 0 (t .height)))
       add-outside k e = subst (λ (x : ℕ). Sim (instruction sum s j t code.add) (stepOutside byValue sum (s .registers) (ADD ⨾ c) (stackFrom (t .cells) 0 x))) (sym e) (simulated k e)
@@ -251,7 +251,7 @@ module _ {bytes : List ℕ} (sum : Rule) (s : State) (j : ℕ) (t : Thread) (h :
           let room = x .ready .low in
           let a : t .height - 2 ≡ k + t .base = omega arith in
           let b : t .height - 1 ≡ suc k + t .base = omega arith in
-          stack-add (t .cells) (t .base) k (t .height) (sum (below t 2) (below t 1)) e (omega arith) ∙ ap (λ (n : ℤ). n ∷ stackFrom (t .cells) (t .base) k) (ap (λ (p : ℕ). sum (getD (t .cells) p (pos 0)) (below t 1)) a ∙ ap (λ (p : ℕ). sum (getD (t .cells) (k + t .base) (pos 0)) (getD (t .cells) p (pos 0))) b)
+          stack-add (t .cells) (t .base) k (t .height) (sum (below t 2) (below t 1)) (pos 0) e (omega arith) ∙ ap (λ (n : ℤ). n ∷ stackFrom (t .cells) (t .base) k) (ap (λ (p : ℕ). sum (getD (t .cells) p (pos 0)) (below t 1)) a ∙ ap (λ (p : ℕ). sum (getD (t .cells) (k + t .base) (pos 0)) (getD (t .cells) p (pos 0))) b)
 
   -- READ finds in the logs and the table what it finds in the record's
   found-same : (v : ℕ) → v < 64 → (a b : Bool) → foundIn byValue (cond a (some (getD (t .kept) v (pos 0))) none) (cond b (some (getD (t .seen) v (pos 0))) none) (getD (s .registers) v (pos 0)) reads v ≡ record {
@@ -362,7 +362,7 @@ module _ {bytes : List ℕ} (sum : Rule) (s : State) (j : ℕ) (t : Thread) (h :
             typed = typed-closed (t .begin) (t .base) t z (h .typed);
             placed = placed-back t (h .placed .walked .children) (back-walks h (x .somewhere));
             kids = back-kids t (h .placed .walked .children) (back-walks h (x .somewhere));
-            shows = shown-outside (shut (BEGIN ⨾ body) (x .again) (x .outer) refl) (stack-closed (t .cells) 0 (t .base) (t .base) (omega arith) (omega arith));
+            shows = shown-outside (shut (BEGIN ⨾ body) (x .again) (x .outer) refl) (stack-closed (t .cells) 0 (t .base) (t .base) _ (omega arith) (omega arith));
             start = refl;
             end = refl;
           }
@@ -380,7 +380,7 @@ module _ {bytes : List ℕ} (sum : Rule) (s : State) (j : ℕ) (t : Thread) (h :
             typed = typed-closed (t .place + 1) (t .height) t z (h .typed);
             placed = placed-commit t (h .placed) l (ready-op (x .ready));
             kids = commit-kids t (h .placed) l (ready-op (x .ready));
-            shows = shown-outside (shut c (ready-next (x .ready)) (subst (λ (n : ℕ). Outside c n) f (x .goes-on .1)) refl) (stack-closed (t .cells) 0 (t .height) (t .height) (omega arith) (omega arith) ∙ (ap (λ (n : ℕ). stackFrom (t .cells) 0 n) (sym f) ∙ one-above));
+            shows = shown-outside (shut c (ready-next (x .ready)) (subst (λ (n : ℕ). Outside c n) f (x .goes-on .1)) refl) (stack-closed (t .cells) 0 (t .height) (t .height) _ (omega arith) (omega arith) ∙ (ap (λ (n : ℕ). stackFrom (t .cells) 0 n) (sym f) ∙ one-above));
             start = refl;
             end = refl;
           }

@@ -1,12 +1,12 @@
 -- A state and its soup: a pick is a step of the soup, and every step of the soup is a pick. Assumes nothing.
 use Prim.Native.Nat.{ℕ, zero, suc, _+_, _≤_, _<_}
-use mathlib.Core.Bool.{Bool, true, false, not}
+use mathlib.Core.Bool.{Bool, true, false}
 use mathlib.Core.Path.{_≡_, refl, sym, ap, subst, _∙_}
 use mathlib.Core.List.{List, [], _∷_, _++_, append-assoc, append-nil}
 use mathlib.Core.Option.{some}
 use native.Mathlib.Omega.{arith}
 use native.Mathlib.Decide.{decLt}
-use borrow.Author.Tests.{eqb-true, eqb-false, eq-eqb, ne-eqb, lt-ltb}
+use borrow.Author.Tests.{eqb-true, eqb-false, lt-ltb}
 use lib.Dec.{eqb, ltb}
 use lib.IntN.{ℤ}
 use lib.ListN.{length, drop, getD, set, length-set, length-append, List·getD-append}
@@ -24,11 +24,12 @@ use Rattle.machine.specs.Fits.{Exists}
 use Rattle.machine.specs.Source.{Log, empty, SThread, StepM, Preempt, ForkM, PushM, AddM, BeginM, ReadM, WriteM, Committed, Failed}
 use Rattle.machine.specs.Stands.{stackFrom, logOf, opOf, ValuedC, Ready}
 use Rattle.machine.specs.Soup.{First, Carries, nobody, Soup, Name, named, StepOn}
+use Rattle.machine.proofs.Picks.{missing-idle, ended-idle, does}
 use Rattle.machine.proofs.Codes.{stands-end, stands-inside, stands-op, ready-op, ready-takes}
 use Rattle.machine.proofs.Shapes.{same-op, taking-two}
 use Rattle.machine.proofs.Showings.{Shows, shut, open′}
 use Rattle.machine.proofs.Simulates.{Held}
-use Rattle.machine.proofs.Mirrors.{Mirrors, or-true, same-start, spawned-exists, less-than, no-inside, idle-now, idles, does}
+use Rattle.machine.proofs.Mirrors.{Mirrors, same-start, spawned-exists, less-than, no-inside}
 use Rattle.machine.proofs.Numbers.{at-end, number-small, number-is, below-exists, exists-below, never}
 use Rattle.machine.proofs.Rules.{preempted, Peeled, peel, only}
 use Rattle.machine.proofs.Carryings.{newborn, Forks, nobody as no-child, child, Follows, Fine, follows}
@@ -263,15 +264,13 @@ module _ (bytes : List ℕ) (sum : Rule) where
 
       go : (c f : Code) (σ : List ℤ) (r w : Log) → Carries bytes (threadAt s i) (record { code = c; stack = σ; again = f; reads = r; writes = w }) → Move bytes sum s i (record { code = c; stack = σ; again = f; reads = r; writes = w })
       go ε f σ r w y =
-          let q : eqb (threadAt s i .place) (threadAt s i .end) ≡ true = eq-eqb (threadAt s i .place) (threadAt s i .end) (stands-end (y .code)) in
-          ended refl (idles bytes sum s i (rw (small, e, q)))
+          ended refl (ended-idle sum bytes s i (stands-end (y .code)))
       go (ins ⨾ c) f σ r w y =
           let less = stands-inside (y .code) in
           let o : opAt (drop (threadAt s i .place) bytes) ≡ done (opOf ins) = stands-op (y .code) (y .valued .0) in
-          let busy : idle-now s i ≡ false = rw (small, e, ne-eqb (threadAt s i .place) (threadAt s i .end) (λ z. absurd (omega arith))) in
           moves
           (instruction sum s i (threadAt s i) (opOf ins))
-          (does bytes sum s i (opOf ins) busy o)
+          (does sum bytes s i (opOf ins) small e (λ z. absurd (omega arith)) o)
           (follows bytes sum s i (threadAt s i) (h .typed) (shown-low shows) ins c f σ r w y (fine sum s (threadAt s i) (sys .table) shows room (opOf ins) less o))
 
   -- a thread's rule is a step of the soup
@@ -349,7 +348,7 @@ module _ (bytes : List ℕ) (sum : Rule) where
         where
           missing : (b : Bool) → exists (threadAt s i) ≡ b → ⊥
           missing true e = absurd (let z = exists-below s gap i e in omega arith)
-          missing false e = no-idle (idles bytes sum s i (rw e (or-true (not (ltb i (length (s .threads)))))))
+          missing false e = no-idle (missing-idle sum bytes s i e)
 
   some-code : {h h′ : Registers} {m : SThread} {behind s′ : List SThread} → (x : StepM sum h (m ∷ behind) h′ s′) → First x → m .code ≡ ε → ⊥
   unfolding First

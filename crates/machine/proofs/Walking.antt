@@ -5,7 +5,7 @@ use mathlib.Core.Path.{_≡_, refl, sym, subst, _∙_}
 use mathlib.Core.List.{List}
 use mathlib.Core.Option.{Option, none, some}
 use native.Mathlib.Omega.{arith}
-use borrow.Author.Tests.{eqb-true, eq-eqb, lt-ltb, ltb-true}
+use borrow.Author.Tests.{eqb-true, eq-eqb, ne-eqb, lt-ltb, ltb-true}
 use lib.Dec.{eqb, ltb}
 use lib.ListN.{drop}
 use Rattle.machine.specs.Fits.{Walked, unmoved, walkOp, nextPlace, Walks, starts, passes}
@@ -54,18 +54,7 @@ module _ (bytes : List ℕ) (start end : ℕ) where
   finds {p} {q} {w} {v} (go {op = op} lt e a) (suc fuel) l =
       let r = rises a in
       let n = next-after op p in
-      let f = finds a fuel (omega arith) in
-      again (eqb p q) refl (omega arith) f
-    where
-      again : (b : Bool) → eqb p q ≡ b → p < q → walk fuel bytes end q (nextPlace op p) (walkOp op p w) ≡ some v → elim b [
-        | true ↦ some w
-        | false ↦ elim (ltb p end) [
-          | true ↦ goingOn (opAt (drop p bytes)) (λ op′. walk fuel bytes end q (nextPlace op′ p) (walkOp op′ p w))
-          | false ↦ none
-        ]
-      ] ≡ some v
-      again true t less f = absurd (let x = eqb-true p q t in omega arith)
-      again false t less f = rw (lt-ltb p end lt, e) f
+      rw (walk, ne-eqb p q (λ x. absurd (omega arith)), lt-ltb p end lt, e) (finds a fuel (omega arith))
 
   pub walks-found : {p : ℕ} {w : Walked} → Walks bytes start end p w → walk (suc p) bytes end p start unmoved ≡ some w
   walks-found {p} ws = finds (ahead ws) (suc p) (omega arith)

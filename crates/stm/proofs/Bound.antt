@@ -188,21 +188,21 @@ module _ (K : Cells) (M : ℕ) where
   idles h t f = record { work = omega arith; commit = omega arith; fork = omega arith; formed = f; children-formed = λ k. over-formed }
 
   -- a step of an instruction other than FORK and COMMIT
-  passes : (h : List (K .Cell)) (t u : Task K) (e : Event) → isIdle e ≡ false → isCommit e ≡ false → isBack e ≡ false → toCome K t ≡ suc (toCome K u) → commitsToCome K u ≡ commitsToCome K t → forksToCome K u ≡ forksToCome K t → Formed K M u → Moves t (goes K u h e)
+  passes : (h : List (K .Cell)) (t u : Task K) (e : Event) → isIdle e ≡ false → isCommit e ≡ false → toCome K t ≡ suc (toCome K u) → commitsToCome K u ≡ commitsToCome K t → forksToCome K u ≡ forksToCome K t → Formed K M u → Moves t (goes K u h e)
   unfolding total
-  passes h t u e i c b x y z f = record { work = rw (i, b, x) (omega arith); commit = rw (c, y) (omega arith); fork = rw z (omega arith); formed = f; children-formed = λ k. over-formed }
+  passes h t u e i c x y z f = record { work = rw (i, x) (omega arith); commit = rw (c, y) (omega arith); fork = rw z (omega arith); formed = f; children-formed = λ k. over-formed }
 
   module _ (sum : Rule) where
     outside-moves : (h : List (K .Cell)) (c : Code) (σ : List ℤ) → Formed K M (outside c σ) → Moves (outside c σ) (stepOutside K sum h c σ)
     unfolding stepOutside Outside TakesOutside codeCount instructionCount begins beginsIn forksOf forksIn longestIn longestAt total
     outside-moves h ε σ f = idles h _ f
-    outside-moves h (PUSH n ⨾ c) σ f = passes h _ _ _ refl refl refl (omega arith) (omega arith) (omega arith) (f .0, omega (arith, f .1))
+    outside-moves h (PUSH n ⨾ c) σ f = passes h _ _ _ refl refl (omega arith) (omega arith) (omega arith) (f .0, omega (arith, f .1))
     outside-moves h (ADD ⨾ c) [] f = idles h _ f
     outside-moves h (ADD ⨾ c) (n ∷ []) f = idles h _ f
-    outside-moves h (ADD ⨾ c) (n ∷ m ∷ σ) f = passes h _ _ _ refl refl refl (omega arith) (omega arith) (omega arith) (f .0, omega (arith, f .1))
+    outside-moves h (ADD ⨾ c) (n ∷ m ∷ σ) f = passes h _ _ _ refl refl (omega arith) (omega arith) (omega arith) (f .0, omega (arith, f .1))
     outside-moves h (READ v ⨾ c) σ f = idles h _ f
     outside-moves h (WRITE v ⨾ c) σ f = idles h _ f
-    outside-moves h (BEGIN ⨾ c) σ f = passes h _ _ _ refl refl refl (omega arith) (omega arith) (omega arith) (record { goes-on = f .0; ready = f .0; same-behind = refl; body-longest = omega (arith, f .1); code-longest = omega (arith, f .1) })
+    outside-moves h (BEGIN ⨾ c) σ f = passes h _ _ _ refl refl (omega arith) (omega arith) (omega arith) (record { goes-on = f .0; ready = f .0; same-behind = refl; body-longest = omega (arith, f .1); code-longest = omega (arith, f .1) })
     outside-moves h (COMMIT ⨾ c) σ f = idles h _ f
     outside-moves h (FORK k ⨾ c) σ f = record {
       work = omega arith;
@@ -260,13 +260,13 @@ module _ (K : Cells) (M : ℕ) where
     inside-moves : (h : List (K .Cell)) (body : Code) (base : List ℤ) (c : Code) (σ : List ℤ) (r : Log (K .Cell)) (w : Log ℤ) → Begun M body base c σ → Moves (inside body base c σ r w) (stepInside K sum h body base c σ r w)
     unfolding stepInside Inside TakesInside codeCount instructionCount begins beginsIn forksOf forksIn longestIn longestAt behind total
     inside-moves h body base ε σ r w f = idles h _ f
-    inside-moves h body base (PUSH n ⨾ c) σ r w f = passes h _ _ _ refl refl refl (omega arith) (omega arith) (omega arith) (record { goes-on = f .goes-on; ready = f .ready; same-behind = f .same-behind; body-longest = f .body-longest; code-longest = omega (arith, f .code-longest) })
+    inside-moves h body base (PUSH n ⨾ c) σ r w f = passes h _ _ _ refl refl (omega arith) (omega arith) (omega arith) (record { goes-on = f .goes-on; ready = f .ready; same-behind = f .same-behind; body-longest = f .body-longest; code-longest = omega (arith, f .code-longest) })
     inside-moves h body base (ADD ⨾ c) [] r w f = idles h _ f
     inside-moves h body base (ADD ⨾ c) (n ∷ []) r w f = idles h _ f
-    inside-moves h body base (ADD ⨾ c) (n ∷ m ∷ σ) r w f = passes h _ _ _ refl refl refl (omega arith) (omega arith) (omega arith) (record { goes-on = f .goes-on; ready = f .ready; same-behind = f .same-behind; body-longest = f .body-longest; code-longest = omega (arith, f .code-longest) })
-    inside-moves h body base (READ v ⨾ c) σ r w f = passes h _ _ _ refl refl refl (omega arith) (omega arith) (omega arith) (record { goes-on = f .goes-on .1; ready = f .ready; same-behind = f .same-behind; body-longest = f .body-longest; code-longest = omega (arith, f .code-longest) })
+    inside-moves h body base (ADD ⨾ c) (n ∷ m ∷ σ) r w f = passes h _ _ _ refl refl (omega arith) (omega arith) (omega arith) (record { goes-on = f .goes-on; ready = f .ready; same-behind = f .same-behind; body-longest = f .body-longest; code-longest = omega (arith, f .code-longest) })
+    inside-moves h body base (READ v ⨾ c) σ r w f = passes h _ _ _ refl refl (omega arith) (omega arith) (omega arith) (record { goes-on = f .goes-on .1; ready = f .ready; same-behind = f .same-behind; body-longest = f .body-longest; code-longest = omega (arith, f .code-longest) })
     inside-moves h body base (WRITE v ⨾ c) [] r w f = idles h _ f
-    inside-moves h body base (WRITE v ⨾ c) (n ∷ σ) r w f = passes h _ _ _ refl refl refl (omega arith) (omega arith) (omega arith) (record { goes-on = f .goes-on .1; ready = f .ready; same-behind = f .same-behind; body-longest = f .body-longest; code-longest = omega (arith, f .code-longest) })
+    inside-moves h body base (WRITE v ⨾ c) (n ∷ σ) r w f = passes h _ _ _ refl refl (omega arith) (omega arith) (omega arith) (record { goes-on = f .goes-on .1; ready = f .ready; same-behind = f .same-behind; body-longest = f .body-longest; code-longest = omega (arith, f .code-longest) })
     inside-moves h body base (BEGIN ⨾ c) σ r w f = idles h _ f
     inside-moves h body base (COMMIT ⨾ c) [] r w f = idles h _ f
     inside-moves h body base (COMMIT ⨾ c) (n ∷ σ) r w f = commit-moves h body base c n σ r w f
@@ -279,13 +279,13 @@ module _ (K : Cells) (M : ℕ) where
     moves h (inside body base c σ r w) f = inside-moves h body base c σ r w f
 
 commit-no-back : (e : Event) → isCommit e ≡ true → isBack e ≡ false
-commit-no-back idle c = refl
-commit-no-back pushed c = refl
-commit-no-back (summed b) c = refl
-commit-no-back forked c = refl
-commit-no-back begun c = refl
-commit-no-back (looked x) c = refl
-commit-no-back wrote c = refl
+commit-no-back idle c = no c
+commit-no-back pushed c = no c
+commit-no-back (summed b) c = no c
+commit-no-back forked c = no c
+commit-no-back begun c = no c
+commit-no-back (looked x) c = no c
+commit-no-back wrote c = no c
 commit-no-back committed c = refl
 commit-no-back (sentBack v) c = no c
 

@@ -1,7 +1,7 @@
 -- Events behind events: the counts add up, the orders follow one another. Assumes nothing.
-use Prim.Native.Nat.{ℕ, suc, _+_}
+use Prim.Native.Nat.{suc, _+_}
 use mathlib.Core.Bool.{Bool, true, false, cond}
-use mathlib.Core.Path.{_≡_, refl, ap}
+use mathlib.Core.Path.{_≡_, refl}
 use mathlib.Core.List.{List, [], _∷_, _++_}
 use native.Mathlib.Omega.{arith}
 use Rattle.stm.specs.Events.{Event, Happened, counted, isTurn, order}
@@ -18,8 +18,8 @@ counted-append f (h ∷ hs) ks = go (f (h .event)) (counted-append f hs ks)
 pub order-append : (hs ks : List Happened) → order (hs ++ ks) ≡ order hs ++ order ks
 unfolding order
 order-append [] ks = refl
-order-append (h ∷ hs) ks = go (isTurn (h .event)) (order-append hs ks)
+order-append (h ∷ hs) ks = go (isTurn (h .event)) refl (order-append hs ks)
   where
-    go : (b : Bool) → order (hs ++ ks) ≡ order hs ++ order ks → cond b (h .thread ∷ order (hs ++ ks)) (order (hs ++ ks)) ≡ cond b (h .thread ∷ order hs) (order hs) ++ order ks
-    go true e = ap {B = List ℕ} (λ (l : List ℕ). h .thread ∷ l) e
-    go false e = e
+    go : (b : Bool) → isTurn (h .event) ≡ b → order (hs ++ ks) ≡ order hs ++ order ks → order (h ∷ (hs ++ ks)) ≡ order (h ∷ hs) ++ order ks
+    go true t e = rw (order, t, e)
+    go false t e = rw (order, t, e)
