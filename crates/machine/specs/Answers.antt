@@ -7,10 +7,10 @@ use lib.Dec.{eqb, ltb}
 use lib.ListN.{length}
 use Rattle.machine.specs.declared.Laid.{Laid}
 use Rattle.machine.specs.declared.Laid.the-variants as laid
-use Rattle.machine.specs.declared.Did.{Did}
-use Rattle.machine.specs.declared.Did.the-variants as did
-use Rattle.machine.specs.declared.Counted.{Counted}
-use Rattle.machine.specs.declared.Counted.the-variants as counts
+use Rattle.machine.specs.declared.Moved.{Moved}
+use Rattle.machine.specs.declared.Moved.the-variants as moved
+use Rattle.machine.specs.declared.Tally.{Tally}
+use Rattle.machine.specs.declared.Tally.the-variants as tally
 use Rattle.stm.specs.Events.{fromWrites, fromReads, fromTable, Event, idle, pushed, summed, forked, begun, looked, wrote, committed, sentBack, Happened, counted, isIdle, isCommit, isBack}
 use Rattle.machine.specs.Steps.{State, Stepped, pick, fresh, Ran, run}
 use Rattle.machine.specs.Fits.{Fits}
@@ -74,23 +74,23 @@ abbrev pub laidSays : Laid → Outcome (Unit {0})
 laidSays laid.Done = done tt
 laidSays (laid.Refused number place) = refused number place
 
-abbrev pub didSays : Did → Outcome Event
-didSays did.Idle = done idle
-didSays did.Pushed = done pushed
-didSays (did.Summed inside) = done (summed inside)
-didSays did.Forked = done forked
-didSays did.Begun = done begun
-didSays did.LookedInWrites = done (looked fromWrites)
-didSays did.LookedInReads = done (looked fromReads)
-didSays did.LookedInTable = done (looked fromTable)
-didSays did.Wrote = done wrote
-didSays did.Committed = done committed
-didSays (did.SentBack v) = done (sentBack v)
-didSays (did.Refused number place) = refused number place
+abbrev pub movedSays : Moved → Outcome Event
+movedSays moved.Idle = done idle
+movedSays moved.Pushed = done pushed
+movedSays (moved.Summed inside) = done (summed inside)
+movedSays moved.Forked = done forked
+movedSays moved.Begun = done begun
+movedSays moved.LookedInWrites = done (looked fromWrites)
+movedSays moved.LookedInReads = done (looked fromReads)
+movedSays moved.LookedInTable = done (looked fromTable)
+movedSays moved.Wrote = done wrote
+movedSays moved.Committed = done committed
+movedSays (moved.SentBack v) = done (sentBack v)
+movedSays (moved.Refused number place) = refused number place
 
-abbrev pub countedSays : Counted → Outcome Counts
-countedSays (counts.Ran a b c d) = done (record { steps = a; idle = b; commits = c; back = d })
-countedSays (counts.Refused number place) = refused number place
+abbrev pub tallySays : Tally → Outcome Counts
+tallySays (tally.Ran a b c d) = done (record { steps = a; idle = b; commits = c; back = d })
+tallySays (tally.Refused number place) = refused number place
 
 -- what the answers say
 unfoldable pub freshSays : (code : List ℕ) → State → Outcome (Unit {0})

@@ -28,7 +28,7 @@ pub enum Laid {
 }
 
 // the answer of `step`: what the pick did
-pub enum Did {
+pub enum Moved {
     Idle,
     Pushed,
     // whether a transaction is open
@@ -48,7 +48,7 @@ pub enum Did {
 }
 
 // the answer of `run`: steps, idle, commits, back
-pub enum Counted {
+pub enum Tally {
     Ran(usize, usize, usize, usize),
     // document 01's number, and the place
     Refused(u8, usize),
