@@ -150,6 +150,20 @@ module _ (K : Cells) where
   overwritten-past zero v w h u l p = p
   overwritten-past (suc left) v w h u l p = overwritten-past left (suc v) w (entered K (w v) v h) u l (entered-past (w v) v h u l p)
 
+  -- a commit leaves the cells of the registers that it does not write, so only a commit that writes a register can make it stale
+  entered-other : (w : Log ℤ) (v : ℕ) (h : List (K .Cell)) (u : ℕ) → w u ≡ none → cellAt K (entered K (w v) v h) u ≡ cellAt K h u
+  entered-other w v h u e = go (eqb u v) refl (w v) refl
+    where
+      go : (b : Bool) → eqb u v ≡ b → (o : Option ℤ) → w v ≡ o → cellAt K (entered K o v h) u ≡ cellAt K h u
+      go b g none f = refl
+      go true g (some n) f = absurd (let q : w u ≡ some n = subst (λ (x : ℕ). w x ≡ some n) (sym (eqb-true u v g)) f in let z : _≡_ {A = ℕ} 0 1 = cc in omega arith)
+      go false g (some n) f = getD-set-other h v u (K .written (cellAt K h v) n) (K .blank) (eqb-false u v g)
+
+  pub unwritten : (left v : ℕ) (w : Log ℤ) (h : List (K .Cell)) (u : ℕ) → w u ≡ none → cellAt K (overwritten K left v w h) u ≡ cellAt K h u
+  unfolding overwritten
+  unwritten zero v w h u e = refl
+  unwritten (suc left) v w h u e = unwritten left (suc v) w (entered K (w v) v h) u e ∙ entered-other w v h u e
+
   -- ---- stale registers
   -- where none is found, none is stale
   pub none-stale : (left v : ℕ) (r : Log (K .Cell)) (h : List (K .Cell)) → v + left ≤ firstStale K left v r h → (u : ℕ) → v ≤ u → u < v + left → staleIn K (r u) (cellAt K h u) ≡ false
