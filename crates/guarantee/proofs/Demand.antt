@@ -180,7 +180,8 @@ module _ (job : List ℕ) (j : Job) (b : Bytes job) (accepted : readJob job ≡ 
   is-job : IsJob job j
   is-job = accepted-is-job job j b accepted
 
-  is-code : IsCode (compiled j) j
+  -- an accepted job's code is not foreign
+  pub is-code : IsCode (compiled j) j
   is-code = record { version = is-job .version; within = is-job .within; text = refl }
 
   outer : Outside (compileP (j .tree) ε) 0
@@ -190,7 +191,7 @@ module _ (job : List ℕ) (j : Job) (b : Bytes job) (accepted : readJob job ≡ 
   read = there-and-back is-job
 
   -- a list of calls is one run of picks from the fresh state
-  history-run : {s : State} {events : List Happened} → History (compiled j) s events → (is : List ℕ) × (steps.run (sumOf j) (compiled j) (fresh (compiled j)) is ≡ record { state = s; events = events })
+  pub history-run : {s : State} {events : List Happened} → History (compiled j) s events → (is : List ℕ) × (steps.run (sumOf j) (compiled j) (fresh (compiled j)) is ≡ record { state = s; events = events })
   unfolding steps.run
   history-run none = ([], refl)
   history-run (turned-down h c l e) = history-run h
@@ -293,8 +294,8 @@ module _ (job : List ℕ) (j : Job) (b : Bytes job) (accepted : readJob job ≡ 
           subst (λ (es : List Happened). backs i es ≡ 0) (c .before) (sent.none-before-first byValue (sumOf j) (compileP (j .tree) ε) (c .first) i (ap (counted isCommit) (c .before) ∙ z))
 
   -- the state behind a list of calls fits the code
-  pub still-fits : {s : State} {events : List Happened} → History (compiled j) s events → Fits (compiled j) s
-  still-fits h = behind h .fit
+  pub fits-behind : {s : State} {events : List Happened} → History (compiled j) s events → Fits (compiled j) s × Typed s
+  fits-behind h = (behind h .fit, behind h .typed)
 
   -- ---- complete
   -- picks as calls, one step each

@@ -11,7 +11,14 @@ use Rattle.machine.specs.Steps.{State, Stepped, Ran, pick, fresh, run}
 use Rattle.machine.specs.Fits.{Fits, Typed}
 use Rattle.machine.specs.FitTest.{fits}
 use Rattle.machine.specs.Answers as answers
-use Rattle.machine.specs.Answers.{sumOf, rightLengths, fitting, freshOf, stepOf, runOf, FreshAnswer, StepAnswer, RunAnswer}
+use Rattle.machine.specs.declared.Laid.{Laid}
+use Rattle.machine.specs.declared.Laid.the-variants as laid
+use Rattle.machine.specs.declared.Moved.{Moved}
+use Rattle.machine.specs.declared.Moved.the-variants as moved
+use Rattle.machine.specs.declared.Tally.{Tally}
+use Rattle.machine.specs.declared.Tally.the-variants as tally
+use Rattle.machine.specs.Answers.{sumOf, rightLengths, fitting, freshOf, stepOf, runOf, leaves, freshLeaves, stepLeaves, runLeaves, Counts, laidSays, movedSays, tallySays, laidOf, movedOf, tallyOf, FreshAnswer, StepAnswer, RunAnswer}
+use Rattle.stm.specs.Events.{fromWrites, fromReads, fromTable, Event, idle, pushed, summed, forked, begun, looked, wrote, committed, sentBack}
 use Rattle.machine.proofs.FitTests.{fits-exactly}
 use Rattle.machine.proofs.Fresh.{fresh-fits, fresh-typed}
 use Rattle.machine.proofs.Agrees.{step-fits, run-fits}
@@ -110,3 +117,74 @@ run-leaves code s is r b y e = by (runOf code s is) e (run-answers code s is b y
     by o q (answers.foreign-state c f) = absurd (let z : _≡_ {A = ℕ} 0 1 = cc in omega arith)
     by o q (answers.long-list c f l) = absurd (let z : _≡_ {A = ℕ} 0 1 = cc in omega arith)
     by o q (answers.ran {j} c f l) = let x : run (sumOf j) code s is ≡ r = cc in subst (λ (z : Ran). Fits code (z .state) × Typed (z .state)) x (run-fits c (sumOf j) s f y is)
+
+-- "A refusal .. alters no lent memory"
+pub fresh-keeps : (code : List ℕ) (s : State) (n p : ℕ) → freshOf code s ≡ refused n p → freshLeaves code s ≡ s
+unfolding freshLeaves
+fresh-keeps code s n p e = ap (λ (o : Outcome State). leaves (λ (x : State). x) o s) e
+
+pub step-keeps : (code : List ℕ) (s : State) (i n p : ℕ) → stepOf code s i ≡ refused n p → stepLeaves code s i ≡ s
+unfolding stepLeaves
+step-keeps code s i n p e = ap (λ (o : Outcome Stepped). leaves (λ (x : Stepped). x .state) o s) e
+
+pub run-keeps : (code : List ℕ) (s : State) (is : List ℕ) (n p : ℕ) → runOf code s is ≡ refused n p → runLeaves code s is ≡ s
+unfolding runLeaves
+run-keeps code s is n p e = ap (λ (o : Outcome Ran). leaves (λ (x : Ran). x .state) o s) e
+
+-- a call that is not refused leaves what it comes to
+pub fresh-lays : (code : List ℕ) (s r : State) → freshOf code s ≡ done r → freshLeaves code s ≡ r
+unfolding freshLeaves
+fresh-lays code s r e = ap (λ (o : Outcome State). leaves (λ (x : State). x) o s) e
+
+pub step-moves : (code : List ℕ) (s : State) (i : ℕ) (r : Stepped) → stepOf code s i ≡ done r → stepLeaves code s i ≡ r .state
+unfolding stepLeaves
+step-moves code s i r e = ap (λ (o : Outcome Stepped). leaves (λ (x : Stepped). x .state) o s) e
+
+pub run-moves : (code : List ℕ) (s : State) (is : List ℕ) (r : Ran) → runOf code s is ≡ done r → runLeaves code s is ≡ r .state
+unfolding runLeaves
+run-moves code s is r e = ap (λ (o : Outcome Ran). leaves (λ (x : Ran). x .state) o s) e
+
+-- ---- each answer says its outcome, and each outcome has one answer
+pub laid-says : (o : Outcome (Unit {0})) → laidSays (laidOf o) ≡ o
+laid-says (refused n p) = refl
+laid-says (done tt) = refl
+
+pub moved-says : (o : Outcome Event) → movedSays (movedOf o) ≡ o
+moved-says (refused n p) = refl
+moved-says (done idle) = refl
+moved-says (done pushed) = refl
+moved-says (done (summed inside)) = refl
+moved-says (done forked) = refl
+moved-says (done begun) = refl
+moved-says (done (looked fromWrites)) = refl
+moved-says (done (looked fromReads)) = refl
+moved-says (done (looked fromTable)) = refl
+moved-says (done wrote) = refl
+moved-says (done committed) = refl
+moved-says (done (sentBack v)) = refl
+
+pub tally-says : (o : Outcome Counts) → tallySays (tallyOf o) ≡ o
+tally-says (refused n p) = refl
+tally-says (done c) = refl
+
+pub laid-of : (a : Laid) → laidOf (laidSays a) ≡ a
+laid-of laid.Done = refl
+laid-of (laid.Refused n p) = refl
+
+pub moved-of : (a : Moved) → movedOf (movedSays a) ≡ a
+moved-of moved.Idle = refl
+moved-of moved.Pushed = refl
+moved-of (moved.Summed inside) = refl
+moved-of moved.Forked = refl
+moved-of moved.Begun = refl
+moved-of moved.LookedInWrites = refl
+moved-of moved.LookedInReads = refl
+moved-of moved.LookedInTable = refl
+moved-of moved.Wrote = refl
+moved-of moved.Committed = refl
+moved-of (moved.SentBack v) = refl
+moved-of (moved.Refused n p) = refl
+
+pub tally-of : (a : Tally) → tallyOf (tallySays a) ≡ a
+tally-of (tally.Ran a b c d) = refl
+tally-of (tally.Refused n p) = refl

@@ -23,7 +23,7 @@ use Rattle.stm.specs.Events.{Event, idle, pushed, summed, forked, begun, looked
 use Rattle.machine.specs.Fits.{Exists}
 use Rattle.machine.specs.Source.{Log, empty, SThread, StepM, Preempt, ForkM, PushM, AddM, BeginM, ReadM, WriteM, Committed, Failed}
 use Rattle.machine.specs.Stands.{stackFrom, logOf, opOf, ValuedC, Ready}
-use Rattle.machine.specs.Soup.{First, Carries, nobody, Soup, Name, named, StepOn}
+use Rattle.machine.specs.Soup.{First, ruleOf, Carries, nobody, Soup, Name, named, StepOn}
 use Rattle.machine.proofs.Picks.{missing-idle, ended-idle, does}
 use Rattle.machine.proofs.Codes.{stands-end, stands-inside, stands-op, ready-op, ready-takes}
 use Rattle.machine.proofs.Shapes.{same-op, taking-two}
@@ -31,7 +31,7 @@ use Rattle.machine.proofs.Showings.{Shows, shut, open′}
 use Rattle.machine.proofs.Simulates.{Held}
 use Rattle.machine.proofs.Mirrors.{Mirrors, same-start, spawned-exists, less-than, no-inside}
 use Rattle.machine.proofs.Numbers.{at-end, number-small, number-is, below-exists, exists-below, never}
-use Rattle.machine.proofs.Rules.{preempted, Peeled, peel, only}
+use Rattle.machine.proofs.Rules.{preempted, preempted-rule, named-same, Peeled, peel, only}
 use Rattle.machine.proofs.Carryings.{newborn, Forks, nobody as no-child, child, Follows, Fine, follows}
 use Rattle.stm.specs.Cells.{byValue}
 use Rattle.stm.specs.Tasks.{Task, outside, System, taskAt, did, stepOutside, stepTask}
@@ -286,7 +286,9 @@ module _ (bytes : List ℕ) (sum : Rule) where
         was = was;
         step = x .step;
         its = x .first;
-        whole = subst (λ (y : List SThread). StepM sum (s .registers) y (x .heap) (front ++ (x .m′ ∷ (x .new ++ behind)))) (sym was) (preempted front (x .step behind));
+        whole =
+            named-same (pick sum bytes s i .event) (sym was) refl
+            (record { step = preempted front (x .step behind); rule = ap (λ (y : Stepped). named (y .event)) p ∙ (x .rule behind ∙ ap some (sym (preempted-rule front (x .step behind)))) });
         rule = λ others. ap (λ (y : Stepped). named (y .event)) p ∙ x .rule others;
         becomes = refl;
         heap = ap (λ (y : Stepped). y .state .registers) p ∙ x .registers;
@@ -363,10 +365,10 @@ module _ (bytes : List ℕ) (sum : Rule) where
   some-code (Failed q) f e = absurd (let z : _≡_ {A = ℕ} 0 1 = cc in omega arith)
 
   -- every step of the soup is a pick that is not idle
-  pub step-picks : (s : State) (sys : System byValue) → Mirrors bytes s sys → ((i : ℕ) → Exists s (suc i) → Exists s i) → ((i : ℕ) → Exists s i → Held bytes (threadAt s i)) → ((i : ℕ) (k : Code) → did byValue sum sys i .children ≡ k ∷ [] → numberOf (s .threads) < 16) → (soup : List SThread) → Soup bytes s soup → (h′ : Registers) (soup′ : List SThread) → StepM sum (s .registers) soup h′ soup′ → (i : ℕ) × ((isIdle (pick sum bytes s i .event) ≡ false) × StepOn bytes sum s i soup h′ soup′)
+  pub step-picks : (s : State) (sys : System byValue) → Mirrors bytes s sys → ((i : ℕ) → Exists s (suc i) → Exists s i) → ((i : ℕ) → Exists s i → Held bytes (threadAt s i)) → ((i : ℕ) (k : Code) → did byValue sum sys i .children ≡ k ∷ [] → numberOf (s .threads) < 16) → (soup : List SThread) → Soup bytes s soup → (h′ : Registers) (soup′ : List SThread) → (step : StepM sum (s .registers) soup h′ soup′) → (i : ℕ) × ((isIdle (pick sum bytes s i .event) ≡ false) × ((named (pick sum bytes s i .event) ≡ some (ruleOf step)) × StepOn bytes sum s i soup h′ soup′))
   step-picks s sys a gap holds room soup x h′ soup′ step = (i, by (move s sys a i small (holds i (below-exists s i small)) (room i) (d .m) carries))
     where
-      d : Peeled sum (s .registers) soup h′ soup′
+      d : Peeled sum (s .registers) soup h′ soup′ (ruleOf step)
       d = peel step
 
       i : ℕ
@@ -382,12 +384,15 @@ module _ (bytes : List ℕ) (sum : Rule) where
       carries =
           subst (λ (y : SThread). Carries bytes (threadAt s i) y) (ap (λ (y : List SThread). getD y i nobody) (d .was) ∙ getD-append-seam (d .front) (d .m) (d .behind) nobody) (x .carries i long)
 
-      by : Move bytes sum s i (d .m) → (isIdle (pick sum bytes s i .event) ≡ false) × StepOn bytes sum s i soup h′ soup′
+      by : Move bytes sum s i (d .m) → (isIdle (pick sum bytes s i .event) ≡ false) × ((named (pick sum bytes s i .event) ≡ some (ruleOf step)) × StepOn bytes sum s i soup h′ soup′)
       by (ended e p) = absurd (some-code (d .step) (d .first) e)
       by (moves r p y) =
           let o = only (d .step) (d .first) (y .step (d .behind)) (y .first (d .behind)) in
           let z = step-on s soup x (a .records) gap i (d .front) (d .m) (d .behind) refl (d .was) r p y in
-          let w : soup′ ≡ d .front ++ (y .m′ ∷ (y .new ++ d .behind)) = d .becomes ∙ ap (λ (l : List SThread). d .front ++ l) (o .1) in (
+          let w : soup′ ≡ d .front ++ (y .m′ ∷ (y .new ++ d .behind)) = d .becomes ∙ ap (λ (l : List SThread). d .front ++ l) (o .1 .0) in (
             not-idle (pick sum bytes s i .event) _ (z .rule []),
-            subst (λ (l : List SThread). StepOn bytes sum s i soup h′ l) (sym w) (subst (λ (h : Registers). StepOn bytes sum s i soup h (d .front ++ (y .m′ ∷ (y .new ++ d .behind)))) (sym (o .0)) z),
+            (
+              ap (λ (v : Stepped). named (v .event)) p ∙ (y .rule (d .behind) ∙ ap some (sym (o .1 .1) ∙ d .rule)),
+              subst (λ (l : List SThread). StepOn bytes sum s i soup h′ l) (sym w) (subst (λ (h : Registers). StepOn bytes sum s i soup h (d .front ++ (y .m′ ∷ (y .new ++ d .behind)))) (sym (o .0)) z),
+            ),
           )

@@ -92,6 +92,29 @@ abbrev pub tallySays : Tally → Outcome Counts
 tallySays (tally.Ran a b c d) = done (record { steps = a; idle = b; commits = c; back = d })
 tallySays (tally.Refused number place) = refused number place
 
+-- and the answer of each outcome
+abbrev pub laidOf : Outcome (Unit {0}) → Laid
+laidOf (refused number place) = laid.Refused number place
+laidOf (done x) = laid.Done
+
+abbrev pub movedOf : Outcome Event → Moved
+movedOf (refused number place) = moved.Refused number place
+movedOf (done idle) = moved.Idle
+movedOf (done pushed) = moved.Pushed
+movedOf (done (summed inside)) = moved.Summed inside
+movedOf (done forked) = moved.Forked
+movedOf (done begun) = moved.Begun
+movedOf (done (looked fromWrites)) = moved.LookedInWrites
+movedOf (done (looked fromReads)) = moved.LookedInReads
+movedOf (done (looked fromTable)) = moved.LookedInTable
+movedOf (done wrote) = moved.Wrote
+movedOf (done committed) = moved.Committed
+movedOf (done (sentBack v)) = moved.SentBack v
+
+abbrev pub tallyOf : Outcome Counts → Tally
+tallyOf (refused number place) = tally.Refused number place
+tallyOf (done c) = tally.Ran (c .steps) (c .idle) (c .commits) (c .back)
+
 -- what the answers say
 unfoldable pub freshSays : (code : List ℕ) → State → Outcome (Unit {0})
 freshSays code s = mapped (λ (x : State). tt) (freshOf code s)

@@ -11,6 +11,7 @@ use Rattle.stm.specs.Events.{Event, idle, pushed, summed, forked, begun, looked
 use Rattle.machine.specs.Source.{empty, SThread, StepM, Preempt, ForkM, PushM, AddM, BeginM, ReadM, WriteM, Committed, Failed}
 use Rattle.script.specs.Tree.{Proc}
 use Rattle.script.specs.Turns.{Registers}
+use Rattle.script.specs.Soup.{Same}
 use Rattle.machine.specs.Stands.{Stands, ValuedC, stackFrom, logOf}
 use Rattle.word.specs.Sum.{Rule}
 
@@ -32,6 +33,12 @@ nobody = record { code = ε; stack = []; again = ε; reads = empty; writes = emp
 pub record Soup (bytes : List ℕ) (s : State) (soup : List SThread) : Type 0 where
   pub number : length soup ≡ numberOf (s .threads)
   pub carries : (i : ℕ) → i < length soup → Carries bytes (threadAt s i) (getD soup i nobody)
+
+-- a soup of the state's threads in any order: "the soup itself is to be regarded as a multi-set" (source 5.1.3)
+pub record StandsFor (bytes : List ℕ) (s : State) (soup : List SThread) : Type 0 where
+  pub threads : List SThread
+  pub ordered : Soup bytes s threads
+  pub same : Same soup threads
 
 -- the rules' names
 pub data Name : Type 0 where
@@ -73,6 +80,11 @@ named wrote = some write
 named committed = some commit
 named (sentBack v) = some fail
 
+-- a step by the rule that an event names
+pub record ByRule (sum : Rule) (h : Registers) (soup : List SThread) (h′ : Registers) (soup′ : List SThread) (event : Event) : Type 0 where
+  pub step : StepM sum h soup h′ soup′
+  pub rule : named event ≡ some (ruleOf step)
+
 -- `load`, source 5.3.1: "the compiled code for the process, together with an empty stack, restart code and read and write logs"
 abbrev pub load : Proc → List SThread
 load p = record { code = compileP p ε; stack = []; again = ε; reads = empty; writes = empty } ∷ []
@@ -91,7 +103,7 @@ pub record StepOn (bytes : List ℕ) (sum : Rule) (s : State) (i : ℕ) (soup : 
   pub step : (others : List SThread) → StepM sum (s .registers) (m ∷ others) h′ (m′ ∷ (new ++ others))
   pub its : (others : List SThread) → First (step others)
   pub rule : (others : List SThread) → named (pick sum bytes s i .event) ≡ some (ruleOf (step others))
-  pub whole : StepM sum (s .registers) soup h′ soup′
+  pub whole : ByRule sum (s .registers) soup h′ soup′ (pick sum bytes s i .event)
   pub becomes : soup′ ≡ front ++ (m′ ∷ (new ++ behind))
   pub heap : pick sum bytes s i .state .registers ≡ h′
   pub left : Soup bytes (pick sum bytes s i .state) (front ++ (m′ ∷ (behind ++ new)))

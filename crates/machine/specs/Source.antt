@@ -74,3 +74,8 @@ pub data StepM (sum : Rule) : Registers → List SThread → Registers → List 
   WriteM : {h : Registers} {v : ℕ} {n : ℤ} {c f : Code} {σ : List ℤ} {r w : Log} {s : List SThread} → StepM sum h (record { code = WRITE v ⨾ c; stack = n ∷ σ; again = f; reads = r; writes = w } ∷ s) h (record { code = c; stack = n ∷ σ; again = f; reads = r; writes = updated w v n } ∷ s)
   Committed : {h : Registers} {n : ℤ} {c f : Code} {σ : List ℤ} {r w : Log} {s : List SThread} → consistent 64 0 r h ≡ true → StepM sum h (record { code = COMMIT ⨾ c; stack = n ∷ σ; again = f; reads = r; writes = w } ∷ s) (overridden 64 0 h w) (record { code = c; stack = n ∷ σ; again = f; reads = r; writes = w } ∷ s)
   Failed : {h : Registers} {n : ℤ} {c f : Code} {σ : List ℤ} {r w : Log} {s : List SThread} → consistent 64 0 r h ≡ false → StepM sum h (record { code = COMMIT ⨾ c; stack = n ∷ σ; again = f; reads = r; writes = w } ∷ s) h (record { code = f; stack = σ; again = f; reads = r; writes = w } ∷ s)
+
+-- ↦M*, any number of steps
+pub data StepsM (sum : Rule) : Registers → List SThread → Registers → List SThread → Type 0 where
+  stop : {h : Registers} {s : List SThread} → StepsM sum h s h s
+  then : {h h′ h″ : Registers} {s s′ s″ : List SThread} → StepM sum h s h′ s′ → StepsM sum h′ s′ h″ s″ → StepsM sum h s h″ s″

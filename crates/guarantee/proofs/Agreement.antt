@@ -1,0 +1,48 @@
+-- Demand 2 on the machine, for every accepted job. Assumes nothing.
+use Prim.Native.Nat.{ℕ}
+use mathlib.Core.Path.{_≡_, subst}
+use mathlib.Core.List.{List}
+use lib.IntN.{pos}
+use lib.ListN.{replicate}
+use Rattle.guarantee.specs.Histories.{History}
+use Rattle.guarantee.specs.Agreement.{Agreement}
+use Rattle.guarantee.proofs.Demand.{is-code, history-run, fits-behind}
+use Rattle.code.specs.Bytes.{compiled}
+use Rattle.machine.specs.Steps.{State, Ran, fresh}
+use Rattle.machine.specs.Answers.{sumOf}
+use Rattle.machine.specs.Source.{SThread, StepsM}
+use Rattle.machine.specs.Soup.{StandsFor, load}
+use Rattle.machine.proofs.Fresh.{fresh-fits, fresh-typed}
+use Rattle.machine.proofs.Agrees.{step-fits, run-fits, has-soup, fresh-soup, pick-is-step, step-is-pick, pick-is-step-same, step-is-pick-same, run-is-steps}
+use Rattle.script.specs.Bytes.{Bytes}
+use Rattle.script.specs.Outcome.{done}
+use Rattle.script.specs.Reader.{Job, readJob}
+use Rattle.script.proofs.Same.{same-refl}
+use Rattle.stm.specs.Events.{Happened}
+
+module _ (job : List ℕ) (j : Job) (b : Bytes job) (accepted : readJob job ≡ done j) where
+  reached : {s : State} {events : List Happened} → History (compiled j) s events → (soup : List SThread) × (StepsM (sumOf j) (replicate 64 (pos 0)) (load (j .tree)) (s .registers) soup × StandsFor (compiled j) s soup)
+  unfolding fresh
+  reached {s} {events} h =
+      let c = is-code job j b accepted in
+      let m = history-run job j b accepted h in
+      let r = run-is-steps c (sumOf j) (m .0) (fresh (compiled j)) (fresh-fits (compiled j)) (fresh-typed (compiled j)) (load (j .tree)) (record { threads = load (j .tree); ordered = fresh-soup c; same = same-refl (load (j .tree)) }) in
+      (r .0, subst (λ (x : Ran). StepsM (sumOf j) (replicate 64 (pos 0)) (load (j .tree)) (x .state .registers) (r .0) × StandsFor (compiled j) (x .state) (r .0)) (m .1) (r .1))
+
+-- every step agrees with the machine of the source, for every accepted job
+pub agreement : (job : List ℕ) (j : Job) → Bytes job → readJob job ≡ done j → Agreement j
+agreement job j b accepted =
+    let c = is-code job j b accepted in
+    record {
+      fresh-fits = (fresh-fits (compiled j), fresh-typed (compiled j));
+      step-fits = λ s f y i. step-fits c (sumOf j) s f y i;
+      run-fits = λ s f y is. run-fits c (sumOf j) s f y is;
+      fresh-soup = fresh-soup c;
+      has-soup = λ s f y. has-soup c s f y;
+      pick-is-step = λ s f y soup x i e. pick-is-step c (sumOf j) s f y soup x i e;
+      step-is-pick = λ s f y soup x h′ soup′ e. step-is-pick c (sumOf j) s f y soup x h′ soup′ e;
+      pick-is-step-same = λ s f y soup x i e. pick-is-step-same c (sumOf j) s f y soup x i e;
+      step-is-pick-same = λ s f y soup x h′ soup′ e. step-is-pick-same c (sumOf j) s f y soup x h′ soup′ e;
+      history-reached = λ h. reached job j b accepted h;
+      history-fits = λ h. fits-behind job j b accepted h;
+    }
