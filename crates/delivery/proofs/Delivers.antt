@@ -1,12 +1,13 @@
--- A refusal leaves the output as it was, and a result leaves what is behind it as it was. Assumes nothing.
-use Prim.Native.Nat.{ℕ}
+-- A refusal leaves the output as it was, and a result leaves what is behind it as it was; 10 is for an output shorter than the result. Assumes nothing.
+use Prim.Native.Nat.{ℕ, _<_, _≤_}
 use mathlib.Core.Path.{_≡_, refl}
 use mathlib.Core.List.{List}
 use native.Mathlib.Omega.{arith}
+use borrow.Author.Tests.{le-ltb, lt-ltb}
 use lib.ListN.{length, drop}
 use lib.Seq.{drop-append-seam}
 use Rattle.delivery.specs.declared.Answer.the-variants.{Done, Refused}
-use Rattle.delivery.specs.Delivered.{fitting, settled, delivered}
+use Rattle.delivery.specs.Delivered.{onto, fitting, settled, delivered}
 use Rattle.script.specs.Outcome.{Outcome, refused, done, onward}
 
 settled-keeps : (o : Outcome (List ℕ)) (before : List ℕ) (n p : ℕ) → settled o before .answer ≡ Refused n p → settled o before .output ≡ before
@@ -28,3 +29,13 @@ settled-behind (done result) before n e =
 pub behind-keeps : (o : Outcome (List ℕ)) (before : List ℕ) (n : ℕ) → delivered o before .answer ≡ Done n → drop n (delivered o before .output) ≡ drop n before
 unfolding delivered
 behind-keeps o before n e = settled-behind (onward o (fitting before)) before n e
+
+-- a result that the output is long enough for is delivered: 10 is "output shorter than the result", nothing else
+pub delivers : (r before : List ℕ) → length r ≤ length before → delivered (done r) before ≡ record { answer = Done (length r); output = onto r before }
+unfolding delivered
+delivers r before h = rw (le-ltb (length before) (length r) h)
+
+-- and 10 at 0 is the answer to a shorter one
+pub too-short : (r before : List ℕ) → length before < length r → delivered (done r) before ≡ record { answer = Refused 10 0; output = before }
+unfolding delivered
+too-short r before h = rw (lt-ltb (length before) (length r) h)

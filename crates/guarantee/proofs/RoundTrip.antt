@@ -16,6 +16,7 @@ use Rattle.code.proofs.ReadBack.{read-is-code}
 use Rattle.compiler.specs.CompileTo.{compileTo}
 use Rattle.decompiler.specs.ReadBackTo.{bytesOf, readBackTo}
 use Rattle.delivery.specs.declared.Answer.the-variants.{Done, Refused}
+use Rattle.delivery.proofs.Delivers.{delivers}
 use Rattle.delivery.specs.Delivered.{onto, delivered}
 use Rattle.script.specs.Bytes.{Bytes}
 use Rattle.script.specs.Outcome.{Outcome, refused, done, mapped}
@@ -40,10 +41,6 @@ result-of (done r) before n e = go (ltb (length before) (length r)) refl
         let f : Done (length r) ≡ Done n = rw t at e in
         let l : length r ≡ n = cc in
         record { result = r; was = refl; taken = rw (t, ← l) (take-append-seam r (drop (length r) before)) }
-
-delivers : (r before : List ℕ) → length r ≤ length before → delivered (done r) before ≡ record { answer = Done (length r); output = onto r before }
-unfolding delivered
-delivers r before h = rw (le-ltb (length before) (length r) h)
 
 mapped-done : {A B : Type 0} (f : A → B) (o : Outcome A) (b : B) → mapped f o ≡ done b → (a : A) × (o ≡ done a) × (f a ≡ b)
 mapped-done f (refused n p) b e = absurd (let z : _≡_ {A = ℕ} 0 1 = cc in omega arith)

@@ -68,16 +68,25 @@ abbrev pub sevenCode : List ℕ
 sevenCode = compiled (record { version = 1; tree = ValP (pos 7) })
 
 -- −2147483648 + −1
+abbrev pub lowTree : Proc
+lowTree = AddP (ValP (negsuc 2147483647)) (ValP (negsuc 0))
+
 abbrev pub lowCode : List ℕ
-lowCode = compiled (record { version = 1; tree = AddP (ValP (negsuc 2147483647)) (ValP (negsuc 0)) })
+lowCode = compiled (record { version = 1; tree = lowTree })
 
 -- ATOMIC of ADDT (WRITE 0 (VALT 5)) (READ 0)
+abbrev pub ownTree : Proc
+ownTree = Atomic (AddT (Write 0 (ValT (pos 5))) (Read 0))
+
 abbrev pub ownCode : List ℕ
-ownCode = compiled (record { version = 1; tree = Atomic (AddT (Write 0 (ValT (pos 5))) (Read 0)) })
+ownCode = compiled (record { version = 1; tree = ownTree })
 
 -- ADDP 5 (ADDP (FORK (ATOMIC (WRITE 0 1))) (ATOMIC (READ 0))), whose root is sent back with two numbers below its transaction
+abbrev pub highTree : Proc
+highTree = AddP (ValP (pos 5)) (AddP (Fork (Atomic (Write 0 (ValT (pos 1))))) (Atomic (Read 0)))
+
 abbrev pub highCode : List ℕ
-highCode = compiled (record { version = 1; tree = AddP (ValP (pos 5)) (AddP (Fork (Atomic (Write 0 (ValT (pos 1))))) (Atomic (Read 0))) })
+highCode = compiled (record { version = 1; tree = highTree })
 
 abbrev pub highPicks : List ℕ
 highPicks = times 4 0 ++ (times 4 1 ++ times 1 0)
@@ -115,6 +124,9 @@ pub record Cases : Type 0 where
   pub seven-read : readJob seven ≡ accepted (ValP (pos 7))
   pub whole-read : readJob wholeJob ≡ accepted wholeTree
   pub whole-written : jobBytes 1 wholeTree ≡ wholeJob
+  pub low-read : readJob (header 3 (0x02 ∷ 0x01 ∷ 0x80 ∷ 0x00 ∷ 0x00 ∷ 0x00 ∷ 0x01 ∷ 0xFF ∷ 0xFF ∷ 0xFF ∷ 0xFF ∷ [])) ≡ accepted lowTree
+  pub own-job : readJob (header 5 (0x03 ∷ 0x06 ∷ 0x08 ∷ 0x00 ∷ 0x05 ∷ 0x00 ∷ 0x00 ∷ 0x00 ∷ 0x05 ∷ 0x07 ∷ 0x00 ∷ [])) ≡ accepted ownTree
+  pub high-job : readJob (header 9 (0x02 ∷ 0x01 ∷ 0x00 ∷ 0x00 ∷ 0x00 ∷ 0x05 ∷ 0x02 ∷ 0x04 ∷ 0x03 ∷ 0x08 ∷ 0x00 ∷ 0x05 ∷ 0x00 ∷ 0x00 ∷ 0x00 ∷ 0x01 ∷ 0x03 ∷ 0x07 ∷ 0x00 ∷ [])) ≡ accepted highTree
   -- their code
   pub seven-code : compiled (record { version = 1; tree = ValP (pos 7) }) ≡ 0x57 ∷ 0x53 ∷ 0x43 ∷ 0x00 ∷ 0x01 ∷ 0x01 ∷ 0x00 ∷ 0x00 ∷ 0x00 ∷ 0x07 ∷ []
   pub whole-code : compiled (record { version = 1; tree = wholeTree }) ≡ wholeCode

@@ -129,7 +129,7 @@ pub record Fits (bytes : List ℕ) (s : State) : Type 0 where
   -- "records of threads that do not exist hold 0"
   pub no-thread : (i : ℕ) → exists (threadAt s i) ≡ false → threadAt s i ≡ blank
 
--- ---- what every state that can be lent has by its type alone: 64 cells, 64 values in each log; this is the only side condition of a theorem
+-- ---- what every state that can be lent has by its type alone: 64 cells, 64 values in each log
 pub record TypedThread (t : Thread) : Type 0 where
   pub cells : length (t .cells) ≡ 64
   pub seen : length (t .seen) ≡ 64
