@@ -269,6 +269,13 @@ module _ (job : List ℕ) (j : Job) (b : Bytes job) (accepted : readJob job ≡ 
             script's = record { exists = subst (λ (n : ℕ). i < n) number (exists-below s (k .fit .no-gap) i e); ended = process i ∙ r .1 };
           }
 
+  -- no turn of the order is idle in the script
+  pub order-taken : {s : State} {events : List Happened} → History (compiled j) s events → CanTake (sumOf j) (initial (j .tree)) (order events)
+  order-taken h =
+      let k = behind h in
+      subst (λ (es : List Happened). CanTake (sumOf j) (initial (j .tree)) (order es)) (sym (k .its-events))
+      (run-linked byValue (sumOf j) (k .picks) (start byValue (compileP (j .tree) ε)) (initial (j .tree)) (start-linked byValue (sumOf j) (j .tree) (is-job .within .valued)) .0)
+
   -- the steps of the list, idle picks uncounted, are no more than the bound: "L + (K−1)×(T−1)×M steps, or L if K is 0"
   pub bounded : {s : State} {events : List Happened} → History (compiled j) s events → counted (λ e. not (isIdle e)) events ≤ bound (j .tree)
   bounded h =

@@ -1,4 +1,4 @@
--- Laws of the machine's picks.
+-- Theorems of the machine: which picks do what, the fit and its test, what steps keep, and the agreement with the source.
 pub mod Picks
 pub mod Walking
 pub mod FitTests
