@@ -9,6 +9,7 @@ use lib.Dec.{ltb}
 use lib.IntN.{ℤ, pos}
 use lib.ListN.{length, getD}
 use Rattle.guarantee.specs.Histories.{Call, step, run, codeOf, stateOf, picksOf, Lent, alone, comesTo, History, none, turned-down, followed, scriptAfter, Ended, SameResult, Whole, Taken, SentBack, Demand3}
+use Rattle.guarantee.proofs.RoundTrip.{mapped-done}
 use Rattle.code.specs.Compile.{Code, ε, _⨾_, compileP}
 use Rattle.code.specs.Bytes.{compiled, IsCode}
 use Rattle.code.specs.Reader.{readCode}
@@ -19,13 +20,13 @@ use Rattle.machine.specs.Steps.{State, Stepped, exists, numberOf, threadAt, pic
 use Rattle.stm.specs.Events.{Happened, counted, isIdle, isCommit, backs, order}
 use Rattle.machine.specs.Fits.{Exists, Fits, Typed, Ranged}
 use Rattle.machine.specs.FitTest.{fits}
-use Rattle.machine.specs.Answers.{sumOf, fitting, stepOf, runOf}
+use Rattle.machine.specs.Answers.{sumOf, fitting, stepOf, runOf, countsOf}
 use Rattle.machine.proofs.Picks.{run-append}
 use Rattle.machine.proofs.FitTests.{fits-exactly}
 use Rattle.script.specs.Tree.{Proc, ValP}
 use Rattle.script.specs.Count.{forks, threads, bound}
 use Rattle.script.specs.Bytes.{Bytes}
-use Rattle.script.specs.Outcome.{Outcome, refused, done, refuse, mapped}
+use Rattle.script.specs.Outcome.{Outcome, done, refuse}
 use Rattle.script.specs.Reader.{Job, readJob}
 use Rattle.script.specs.Refusal.{IsJob}
 use Rattle.script.specs.Turns.{initial, turns, CanTake, Result}
@@ -53,10 +54,6 @@ picked code s o e = passed (not (fits code s)) 12 0 o e .1
 
 same-done : {A : Type 0} {x y : A} → _≡_ {A = Outcome A} (done x) (done y) → x ≡ y
 same-done e = cc
-
-mapped-done : {A B : Type 0} (f : A → B) (o : Outcome A) (b : B) → mapped f o ≡ done b → (a : A) × (o ≡ done a) × (f a ≡ b)
-mapped-done f (refused n p) b e = absurd (let z : _≡_ {A = ℕ} 0 1 = cc in omega arith)
-mapped-done f (done a) b e = (a, refl, cc)
 
 step-done : (j : Job) (code : List ℕ) (s : State) (i : ℕ) (x : Stepped) → readCode code ≡ done j → stepOf code s i ≡ done x → pick (sumOf j) code s i ≡ x
 unfolding stepOf
@@ -277,7 +274,8 @@ module _ (job : List ℕ) (j : Job) (b : Bytes job) (accepted : readJob job ≡ 
       (run-linked byValue (sumOf j) (k .picks) (start byValue (compileP (j .tree) ε)) (initial (j .tree)) (start-linked byValue (sumOf j) (j .tree) (is-job .within .valued)) .0)
 
   -- the steps of the list, idle picks uncounted, are no more than the bound: "L + (K−1)×(T−1)×M steps, or L if K is 0"
-  pub bounded : {s : State} {events : List Happened} → History (compiled j) s events → counted (λ e. not (isIdle e)) events ≤ bound (j .tree)
+  pub bounded : {s : State} {events : List Happened} → History (compiled j) s events → countsOf events .steps ≤ bound (j .tree)
+  unfolding countsOf
   bounded h =
       let k = behind h in
       subst (λ (es : List Happened). counted (λ e. not (isIdle e)) es ≤ bound (j .tree)) (sym (k .its-events)) (steps-bound byValue (sumOf j) (j .tree) (is-job .within .valued) (k .picks))

@@ -6,7 +6,6 @@ use mathlib.Core.List.{List}
 use native.Mathlib.Omega.{arith}
 use lib.ListN.{length, take, drop}
 use lib.Seq.{take-append-seam}
-use borrow.Author.Tests.{le-ltb}
 use lib.Dec.{ltb}
 use mathlib.Core.Bool.{Bool, true, false}
 use Rattle.code.specs.Bytes.{compiled, IsCode}
@@ -42,7 +41,8 @@ result-of (done r) before n e = go (ltb (length before) (length r)) refl
         let l : length r ≡ n = cc in
         record { result = r; was = refl; taken = rw (t, ← l) (take-append-seam r (drop (length r) before)) }
 
-mapped-done : {A B : Type 0} (f : A → B) (o : Outcome A) (b : B) → mapped f o ≡ done b → (a : A) × (o ≡ done a) × (f a ≡ b)
+-- a result comes from one
+pub mapped-done : {A B : Type 0} (f : A → B) (o : Outcome A) (b : B) → mapped f o ≡ done b → (a : A) × (o ≡ done a) × (f a ≡ b)
 mapped-done f (refused n p) b e = absurd (let z : _≡_ {A = ℕ} 0 1 = cc in omega arith)
 mapped-done f (done a) b e = (a, refl, cc)
 

@@ -1,6 +1,6 @@
 -- The joint table of worked cases: each row is an equation between what a definition computes and what document 01 says.
 use Prim.Native.Nat.{ℕ}
-use mathlib.Core.Bool.{true, false, not}
+use mathlib.Core.Bool.{true, false}
 use mathlib.Core.Path.{_≡_}
 use mathlib.Core.List.{List, [], _∷_, _++_}
 use lib.Dec.{eqb}
@@ -17,7 +17,7 @@ use Rattle.guarantee.specs.Histories.{Ended}
 use Rattle.machine.specs.Threads.{blank, noted}
 use Rattle.machine.specs.Steps.{State, Ran, exists, threadAt, fresh, run}
 use Rattle.machine.specs.FitTest.{fits}
-use Rattle.machine.specs.Answers.{freshSays, stepSays, runSays}
+use Rattle.machine.specs.Answers.{countsOf, freshSays, stepSays, runSays}
 use Rattle.stm.specs.Events.{fromTable, idle, counted, isIdle, isCommit, isBack, order}
 use Rattle.word.specs.Sum.{wrapping}
 
@@ -62,7 +62,7 @@ ran code picks = run wrapping code (fresh code) picks
 
 -- picks not idle
 abbrev pub steps : Ran → ℕ
-steps r = counted (λ e. not (isIdle e)) (r .events)
+steps r = countsOf (r .events) .steps
 
 abbrev pub sevenCode : List ℕ
 sevenCode = compiled (record { version = 1; tree = ValP (pos 7) })

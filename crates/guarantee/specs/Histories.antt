@@ -1,6 +1,5 @@
 -- Document 01, "Runs and turns": lists of calls that run a job's code by picks, and what demand 3 says of them.
 use Prim.Native.Nat.{ℕ, _<_, _≤_}
-use mathlib.Core.Bool.{not}
 use mathlib.Core.Logic.{_↔_}
 use mathlib.Core.Path.{_≡_}
 use mathlib.Core.List.{List, [], _∷_, _++_}
@@ -8,9 +7,9 @@ use lib.IntN.{ℤ, pos}
 use lib.ListN.{length, getD}
 use Rattle.code.specs.Bytes.{compiled}
 use Rattle.machine.specs.Steps.{State, Stepped, threadAt, fresh, Ran}
-use Rattle.stm.specs.Events.{Happened, counted, isIdle, isCommit, backs, order}
+use Rattle.stm.specs.Events.{Happened, counted, isCommit, backs, order}
 use Rattle.machine.specs.Fits.{Exists, Typed, Ranged}
-use Rattle.machine.specs.Answers.{sumOf, stepOf, runOf}
+use Rattle.machine.specs.Answers.{sumOf, stepOf, runOf, countsOf}
 use Rattle.script.specs.Count.{bound}
 use Rattle.script.specs.Bytes.{Bytes}
 use Rattle.script.specs.Outcome.{Outcome, refused, done, mapped}
@@ -101,4 +100,4 @@ pub record Demand3 (j : Job) : Type 0 where
   pub orders : (is : List ℕ) → CanTake (sumOf j) (initial (j .tree)) is → Taken j is
   pub sent-back : {s : State} {events : List Happened} → History (compiled j) s events → SentBack events
   -- "the job ends within L + (K−1)×(T−1)×M steps, or L if K is 0, idle picks uncounted"
-  pub ends : {s : State} {events : List Happened} → History (compiled j) s events → counted (λ e. not (isIdle e)) events ≤ bound (j .tree)
+  pub ends : {s : State} {events : List Happened} → History (compiled j) s events → countsOf events .steps ≤ bound (j .tree)

@@ -7,19 +7,18 @@ use mathlib.Core.Option.{some}
 use native.Mathlib.Omega.{arith}
 use borrow.Author.Tests.{lt-ltb}
 use lib.Dec.{ltb}
-use lib.ListN.{length, drop, getD, set}
+use lib.ListN.{length, getD, set}
 use Rattle.code.specs.Compile.{Instruction, Code, ε, _⨾_, compileP}
 use Rattle.code.specs.Bytes.{IsCode}
-use Rattle.code.specs.Reader.{Op, opAt}
+use Rattle.code.specs.Reader.{Op}
 use Rattle.code.specs.Reader as code
-use Rattle.script.specs.Outcome.{done}
 use Rattle.script.specs.Reader.{Job}
 use Rattle.script.specs.Turns.{Registers}
 use Rattle.script.specs.Soup.{Same}
 use Rattle.script.proofs.Same.{cut, picks-at, same-refl, same-sym, same-trans, take-both, same-left}
 use Rattle.machine.specs.declared.Thread.{Thread}
 use Rattle.machine.specs.Threads.{spawned, closed, firstStale, overlaid}
-use Rattle.machine.specs.Steps.{State, Stepped, put, threadAt, commit, instruction, pick, fresh, run}
+use Rattle.machine.specs.Steps.{State, Stepped, put, threadAt, commit, instruction, pick, fresh, run, DoesOne}
 use Rattle.machine.specs.Fits.{Exists, Fits, Typed}
 use Rattle.machine.specs.Source.{SThread, StepM, StepsM, stop, then}
 use Rattle.machine.specs.Soup.{Carries, nobody, Soup, StandsFor, ruleOf, named, ByRule, load, StepOn}
@@ -173,23 +172,17 @@ module _ {code : List ℕ} {j : Job} (c : IsCode code j) where
           let r = rec (p .0) (p .1 .1) in
           (r .0, (then (p .1 .0 .step) (r .1 .0), r .1 .1))
 
-  -- "Each other pick does one instruction": the one at the thread's place, and is not idle
-  pub record DoesOne (sum : Rule) (s : State) (i : ℕ) : Type 0 where
-    pub op : Op
-    pub at-place : opAt (drop (threadAt s i .place) code) ≡ done op
-    pub does : pick sum code s i ≡ instruction sum s i (threadAt s i) op
-    pub not-idle : isIdle (pick sum code s i .event) ≡ false
-
-  pub does-one : (sum : Rule) (s : State) → Fits code s → Typed s → (i : ℕ) → Exists s i → (threadAt s i .place ≡ threadAt s i .end → ⊥) → DoesOne sum s i
+  -- "Each other pick does one instruction", and is not idle
+  pub does-one : (sum : Rule) (s : State) → Fits code s → Typed s → (i : ℕ) → Exists s i → (threadAt s i .place ≡ threadAt s i .end → ⊥) → DoesOne sum code s i
   does-one sum s f y i e ne = go (shows-of (held c outer s f y i e))
     where
-      one : {ins : Instruction} {k : Code} → Ready code (threadAt s i .place) (threadAt s i .end) (ins ⨾ k) (threadAt s i .height) → DoesOne sum s i
+      one : {ins : Instruction} {k : Code} → Ready code (threadAt s i .place) (threadAt s i .end) (ins ⨾ k) (threadAt s i .height) → DoesOne sum code s i
       one {ins} r =
           let small : ltb i (length (s .threads)) ≡ true = lt-ltb i (length (s .threads)) (in-table s i e) in
           let d = picks sum code s i (opOf ins) small e ne (ready-op r) in
           record { op = opOf ins; at-place = ready-op r; does = d; not-idle = ap (λ (x : Stepped). isIdle (x .event)) d ∙ never-idle sum s i (threadAt s i) (opOf ins) }
 
-      go : (task : Task byValue) × Shows code (threadAt s i) task → DoesOne sum s i
+      go : (task : Task byValue) × Shows code (threadAt s i) task → DoesOne sum code s i
       go (t, shut ε r o z) = absurd (ne (stands-end (r .stands)))
       go (t, shut (ins ⨾ k) r o z) = one r
       go (t, open′ body ε k r o h w g x q) = absurd (no-inside k (threadAt s i .base) o)

@@ -19,6 +19,7 @@ use Rattle.machine.specs.declared.Tally.{Tally}
 use Rattle.machine.specs.declared.Tally.the-variants as tally
 use Rattle.machine.specs.Answers.{sumOf, rightLengths, fitting, freshOf, stepOf, runOf, leaves, freshLeaves, stepLeaves, runLeaves, Counts, laidSays, movedSays, tallySays, laidOf, movedOf, tallyOf, FreshAnswer, StepAnswer, RunAnswer}
 use Rattle.stm.specs.Events.{fromWrites, fromReads, fromTable, Event, idle, pushed, summed, forked, begun, looked, wrote, committed, sentBack}
+use Rattle.machine.proofs.Numbers.{never}
 use Rattle.machine.proofs.FitTests.{fits-exactly}
 use Rattle.machine.proofs.Fresh.{fresh-fits, fresh-typed}
 use Rattle.machine.proofs.Agrees.{step-fits, run-fits}
@@ -36,9 +37,6 @@ eleven : (code : List ℕ) (n p : ℕ) → readCode code ≡ refused n p → rea
 eleven code n p e =
     let o = only-foreign code n p e in
     e ∙ (ap (λ (m : ℕ). refused m p) (o .0) ∙ ap (λ (m : ℕ). refused 11 m) (o .1))
-
-never : {A : Type 0} {b : Bool} → b ≡ true → b ≡ false → A
-never e f = absurd (let z : _≡_ {A = ℕ} 0 1 = cc in omega arith)
 
 -- `fresh`: 11, then the two lengths
 pub fresh-answers : (code : List ℕ) (s : State) → Bytes code → FreshAnswer code s (freshOf code s)

@@ -8,7 +8,7 @@ use native.Mathlib.Decide.{decLt}
 use borrow.Author.Tests.{eqb-true, eqb-false, ne-eqb, lt-ltb}
 use lib.Dec.{eqb, ltb}
 use lib.IntN.{ℤ}
-use lib.ListN.{length, drop, getD, set, length-set, length-append}
+use lib.ListN.{length, drop, getD, set, length-set, length-append, List·getD-eq-default}
 use lib.Seq.{getD-set-same, getD-set-other, set-getD, getD-append-seam}
 use Rattle.code.specs.Compile.{Instruction, Code, ε, _⨾_}
 use Rattle.code.specs.Reader.{opAt}
@@ -19,7 +19,7 @@ use Rattle.machine.specs.Steps.{State, Stepped, exists, numberOf, thread
 use Rattle.stm.specs.Events.{idle}
 use Rattle.machine.specs.Fits.{Child, Exists}
 use Rattle.machine.specs.Stands.{stackFrom, opOf, Ready}
-use Rattle.machine.proofs.Numbers.{at-end, never, number-is, below-exists, exists-below, number-small}
+use Rattle.machine.proofs.Numbers.{next-absent, at-end, number-is, below-exists, exists-below, number-small}
 use Rattle.machine.proofs.Picks.{missing-idle, ended-idle, does}
 use Rattle.machine.proofs.Codes.{stands-end, stands-inside, ready-op}
 use Rattle.machine.proofs.Showings.{Shows, shut, open′}
@@ -201,11 +201,6 @@ module _ {bytes : List ℕ} where
               subst (λ (y : Task byValue). Shows bytes (getD (set (s .threads) n t) k blank) y) (sym (getD-front (sys .tasks) task k g)) (subst (λ (y : Thread). Shows bytes y (taskAt byValue sys k)) (sym (getD-set-other (s .threads) n k t blank z)) (m .shown k g))
 
 -- ---- a pick
-getD-out : (xs : List (Task byValue)) (i : ℕ) → length xs ≤ i → getD xs i (over byValue) ≡ over byValue
-getD-out [] i l = refl
-getD-out (x ∷ xs) zero l = absurd (omega arith)
-getD-out (x ∷ xs) (suc i) l = getD-out xs i (omega arith)
-
 over-idle : (sum : Rule) (table : List ℤ) (t : Task byValue) → t ≡ over byValue → stepTask byValue sum table t ≡ record { task = t; table = table; children = []; event = idle }
 unfolding stepTask stepOutside
 over-idle sum table t e = ap (λ (x : Task byValue). stepTask byValue sum table x) e ∙ ap (λ (x : Task byValue). record { task = x; table = table; children = []; event = idle }) (sym e)
@@ -243,17 +238,10 @@ module _ (bytes : List ℕ) (sum : Rule) where
       number : numberOf (set (s .threads) i (x .thread)) ≡ numberOf (s .threads)
       number = one .number ∙ (length-set (sys .tasks) i (d .task) ∙ sym (m .number))
 
-      behind′ : exists (getD (s .threads) (suc (numberOf (s .threads))) blank) ≡ false
-      behind′ = no (exists (getD (s .threads) (suc (numberOf (s .threads))) blank)) refl
-        where
-          no : (b : Bool) → exists (getD (s .threads) (suc (numberOf (s .threads))) blank) ≡ b → b ≡ false
-          no true e = never (gap (numberOf (s .threads)) e) (at-end (s .threads))
-          no false e = refl
-
       behind : exists (getD (set (s .threads) i (x .thread)) (suc (numberOf (set (s .threads) i (x .thread)))) blank) ≡ false
       behind =
           ap (λ (y : ℕ). exists (getD (set (s .threads) i (x .thread)) (suc y) blank)) number
-          ∙ (ap (λ (y : Thread). exists y) (getD-set-other (s .threads) i (suc (numberOf (s .threads))) (x .thread) blank (λ q. absurd (let z = m .number in omega arith))) ∙ behind′)
+          ∙ (ap (λ (y : Thread). exists y) (getD-set-other (s .threads) i (suc (numberOf (s .threads))) (x .thread) blank (λ q. absurd (let z = m .number in omega arith))) ∙ next-absent s gap)
 
       go : (ks : List Code) (bs : List Child) (ts : List Thread) → Born bytes (set (s .threads) i (x .thread)) (numberOf (s .threads)) ks bs ts → ((k : Code) → ks ≡ k ∷ [] → numberOf (s .threads) < 16) → Mirrors bytes (record { registers = r .state .registers; threads = ts }) (record { table = r .state .registers; tasks = set (sys .tasks) i (d .task) ++ started byValue ks })
       go ks bs ts nobody f = subst (λ (y : List (Task byValue)). Mirrors bytes (record { registers = r .state .registers; threads = set (s .threads) i (x .thread) }) (record { table = r .state .registers; tasks = y })) (sym (append-nil (set (sys .tasks) i (d .task)))) one
@@ -267,7 +255,7 @@ module _ (bytes : List ℕ) (sum : Rule) where
     where
       go : (b : Bool) → exists (threadAt s i) ≡ b → (pick sum bytes s i ≡ record { state = s; event = idle }) × (did byValue sum sys i ≡ record { task = taskAt byValue sys i; table = sys .table; children = []; event = idle })
       go true e = absurd (let a = exists-below s gap i e in let z = m .number in omega arith)
-      go false e = (missing-idle sum bytes s i e, over-idle sum (sys .table) (taskAt byValue sys i) (getD-out (sys .tasks) i l))
+      go false e = (missing-idle sum bytes s i e, over-idle sum (sys .table) (taskAt byValue sys i) (List·getD-eq-default (sys .tasks) (over byValue) l))
 
   -- a pick does the same to a state and to the system that it shows
   pub pick-mirrors : (s : State) (sys : System byValue) → Mirrors bytes s sys → ((i : ℕ) → Exists s (suc i) → Exists s i) → (i : ℕ) → (Exists s i → Held bytes (threadAt s i)) → ((k : Code) → did byValue sum sys i .children ≡ k ∷ [] → numberOf (s .threads) < 16) → Mirrored bytes sum s sys i

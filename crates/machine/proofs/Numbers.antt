@@ -1,11 +1,11 @@
 -- The number of threads: the first record that is no thread's. Assumes nothing.
-use Prim.Native.Nat.{ℕ, zero, suc, _+_, _-_, _≤_, _<_}
+use Prim.Native.Nat.{ℕ, zero, suc, _+_, _-_, _<_}
 use mathlib.Core.Bool.{Bool, true, false, cond}
 use mathlib.Core.Path.{_≡_, refl, ap, subst, _∙_}
 use mathlib.Core.List.{List, [], _∷_}
 use native.Mathlib.Omega.{arith}
 use native.Mathlib.Decide.{decLt}
-use lib.ListN.{length, getD}
+use lib.ListN.{length, getD, List·getD-eq-default}
 use Rattle.machine.specs.declared.Thread.{Thread}
 use Rattle.machine.specs.Threads.{blank}
 use Rattle.machine.specs.Steps.{State, exists, numberOf}
@@ -72,15 +72,18 @@ pub blank-absent : exists blank ≡ false
 unfolding blank
 blank-absent = refl
 
-getD-past : (ts : List Thread) (k : ℕ) → length ts ≤ k → getD ts k blank ≡ blank
-getD-past [] k l = refl
-getD-past (t ∷ ts) zero l = absurd (omega arith)
-getD-past (t ∷ ts) (suc k) l = getD-past ts k (omega arith)
-
 -- a thread's number is one of the table
 pub in-table : (s : State) (k : ℕ) → Exists s k → k < length (s .threads)
 in-table s k e = go (decLt k (length (s .threads)))
   where
     go : Dec (k < length (s .threads)) → k < length (s .threads)
     go (yes l) = l
-    go (no m) = never e (ap (λ (t : Thread). exists t) (getD-past (s .threads) k (omega arith)) ∙ blank-absent)
+    go (no m) = never e (ap (λ (t : Thread). exists t) (List·getD-eq-default (s .threads) blank (omega arith)) ∙ blank-absent)
+
+-- without gaps, the record behind the next thread's is no thread's either
+pub next-absent : (s : State) → ((i : ℕ) → Exists s (suc i) → Exists s i) → exists (getD (s .threads) (suc (numberOf (s .threads))) blank) ≡ false
+next-absent s gap = go (exists (getD (s .threads) (suc (numberOf (s .threads))) blank)) refl
+  where
+    go : (b : Bool) → exists (getD (s .threads) (suc (numberOf (s .threads))) blank) ≡ b → b ≡ false
+    go true e = never (gap (numberOf (s .threads)) e) (at-end (s .threads))
+    go false e = refl

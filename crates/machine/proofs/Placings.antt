@@ -27,11 +27,6 @@ getD-zeros zero i = refl
 getD-zeros (suc n) zero = refl
 getD-zeros (suc n) (suc i) = getD-zeros n i
 
-getD-short : (ns : List ℤ) (i : ℕ) → length ns ≤ i → getD ns i (pos 0) ≡ pos 0
-getD-short [] i l = refl
-getD-short (n ∷ ns) zero l = absurd (omega arith)
-getD-short (n ∷ ns) (suc i) l = getD-short ns i (omega arith)
-
 -- the cells of `closed`: those below the height stay, whatever comes above; the others are 0
 pub closed-below : (h : ℕ) (cells : List ℤ) (i : ℕ) (above : List ℤ) → i < h → h ≤ length cells → getD (take h cells ++ above) i (pos 0) ≡ getD cells i (pos 0)
 closed-below zero cells i above l m = absurd (omega arith)

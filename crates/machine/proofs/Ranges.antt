@@ -17,7 +17,7 @@ use Rattle.script.specs.Reader.{Job}
 use Rattle.machine.specs.declared.Thread.{Thread}
 use Rattle.machine.specs.Threads.{blank, spawned, push, add, begin, below, sourceOf, readFrom, noted, read, write, closed, firstStale, overlaid}
 use Rattle.machine.specs.Steps.{State, Stepped, exists, numberOf, threadAt, put, commit, instruction, pick, fresh, run}
-use Rattle.machine.specs.Fits.{Walked, Exists, Fits, Typed, RangedThread, Ranged}
+use Rattle.machine.specs.Fits.{Walked, Exists, Fits, Typed, RangedThread, Ranged, InRangeRule}
 use Rattle.machine.specs.Stands.{Stands, opOf, ValuedI, ValuedC, Ready}
 use Rattle.machine.proofs.Numbers.{in-table}
 use Rattle.machine.proofs.Codes.{stands-end, stands-inside, ready-op}
@@ -34,10 +34,6 @@ use Rattle.word.specs.Sum.{InRange, Rule, wrapping}
 use Rattle.word.proofs.Sets.{with-small}
 use Rattle.word.proofs.Sums.{fits→range}
 use Rattle.word.proofs.Sums as sums
-
--- a rule for sums that keeps numbers in range
-abbrev pub InRangeRule : Rule → Type 0
-InRangeRule sum = (a b : ℤ) → InRange a → InRange b → InRange (sum a b)
 
 -- sums that wrap are in range
 pub wrapping-in-range : InRangeRule wrapping

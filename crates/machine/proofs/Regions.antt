@@ -12,14 +12,14 @@ use Rattle.code.specs.Counts.{heightAfter}
 use Rattle.code.specs.Reader.{Op, opAt}
 use Rattle.code.specs.Reader as code
 use Rattle.script.specs.Bytes.{bytes16}
-use Rattle.script.specs.Outcome.{Outcome, done}
+use Rattle.script.specs.Outcome.{done}
 use Rattle.script.specs.Reader.{Job}
 use Rattle.machine.specs.Steps.{State, threadAt}
 use Rattle.machine.specs.Fits.{Child, Walked, walkOp, nextPlace, Walks, starts, passes, In, here, there, ownCode, Exists, Forked, Fits, Typed}
 use Rattle.machine.proofs.Walking.{not-before}
 use Rattle.machine.specs.Stands.{opOf, Ready}
 use Rattle.machine.proofs.Codes.{next-place, stands-end, ready-op, ready-next, ready-child, code-ready}
-use Rattle.machine.proofs.Shapes.{taking-less, taking-one}
+use Rattle.machine.proofs.Shapes.{same-op, taking-less, taking-one}
 use Rattle.machine.proofs.Simulates.{Held}
 use Rattle.stm.specs.Meaning.{TakesOutside, TakesInside, Outside, Inside, forksIn, forksOf}
 
@@ -163,9 +163,6 @@ pub record Part (bytes : List ℕ) (whole : Code) (at : ℕ) (root x : Child) : 
   pub ready : Ready bytes (x .start) (x .end) code 0
   pub outer : Outside code 0
   pub links : (a y : Child) → Link code (x .start) x a y → Link whole at root a y
-
-same-op : {a b : Op} → _≡_ {A = Outcome Op} (done a) (done b) → a ≡ b
-same-op e = cc
 
 module _ (bytes : List ℕ) (whole : Code) (at : ℕ) (root own : Child) where
   -- own code of the whole whose FORK is in the code `own`

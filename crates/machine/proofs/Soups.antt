@@ -30,7 +30,7 @@ use Rattle.machine.proofs.Shapes.{same-op, taking-two}
 use Rattle.machine.proofs.Showings.{Shows, shut, open′}
 use Rattle.machine.proofs.Simulates.{Held}
 use Rattle.machine.proofs.Mirrors.{Mirrors, same-start, spawned-exists, less-than, no-inside}
-use Rattle.machine.proofs.Numbers.{at-end, number-small, number-is, below-exists, exists-below, never}
+use Rattle.machine.proofs.Numbers.{next-absent, at-end, number-small, number-is, below-exists, exists-below, never}
 use Rattle.machine.proofs.Rules.{preempted, preempted-rule, named-same, Peeled, peel, only}
 use Rattle.machine.proofs.Carryings.{newborn, Forks, nobody as no-child, child, Follows, Fine, follows}
 use Rattle.stm.specs.Cells.{byValue}
@@ -310,17 +310,10 @@ module _ (bytes : List ℕ) (sum : Rule) where
       number : numberOf ts ≡ numberOf (s .threads)
       number = sym (one .number) ∙ (same-length front m (x .m′) behind ∙ before .number)
 
-      free : exists (getD (s .threads) (suc (numberOf (s .threads))) blank) ≡ false
-      free = no (exists (getD (s .threads) (suc (numberOf (s .threads))) blank)) refl
-        where
-          no : (b : Bool) → exists (getD (s .threads) (suc (numberOf (s .threads))) blank) ≡ b → b ≡ false
-          no true e = never (gap (numberOf (s .threads)) e) (at-end (s .threads))
-          no false e = refl
-
       still-free : exists (getD ts (suc (numberOf ts)) blank) ≡ false
       still-free =
           ap (λ (y : ℕ). exists (getD ts (suc y) blank)) number
-          ∙ (ap (λ (y : Thread). exists y) (getD-set-other (s .threads) i (suc (numberOf (s .threads))) (x .thread) blank (λ q. absurd (let z = small in omega arith))) ∙ free)
+          ∙ (ap (λ (y : Thread). exists y) (getD-set-other (s .threads) i (suc (numberOf (s .threads))) (x .thread) blank (λ q. absurd (let z = small in omega arith))) ∙ next-absent s gap)
 
       go : (new : List SThread) (us : List Thread) → Forks bytes ts (numberOf (s .threads)) new us → Soup bytes (record { registers = r .state .registers; threads = us }) (front ++ (x .m′ ∷ (behind ++ new)))
       go new us no-child = subst (λ (y : List SThread). Soup bytes (record { registers = r .state .registers; threads = ts }) (front ++ (x .m′ ∷ y))) (sym (append-nil behind)) one

@@ -3,7 +3,7 @@ use Prim.Native.Nat.{ℕ, suc, _+_, _-_, _≤_, _<_, _^_}
 use mathlib.Core.Path.{_≡_}
 use mathlib.Core.Bool.{true, false}
 use mathlib.Core.List.{List, [], _∷_}
-use lib.IntN.{pos}
+use lib.IntN.{ℤ, pos}
 use lib.ListN.{length, drop, getD}
 use Rattle.machine.specs.declared.Thread.{Thread}
 use Rattle.machine.specs.Threads.{blank}
@@ -12,7 +12,7 @@ use Rattle.code.specs.Reader.{Op, opAt}
 use Rattle.code.specs.Reader as code
 use Rattle.script.specs.Outcome.{done}
 use Rattle.word.specs.Registers.{none, member}
-use Rattle.word.specs.Sum.{InRange}
+use Rattle.word.specs.Sum.{InRange, Rule}
 
 -- a FORK's child code, from its start up to its end
 pub record Child : Type 0 where
@@ -155,3 +155,7 @@ pub record RangedThread (t : Thread) : Type 0 where
 pub record Ranged (s : State) : Type 0 where
   pub registers : (v : ℕ) → InRange (getD (s .registers) v (pos 0))
   pub threads : (i : ℕ) → RangedThread (threadAt s i)
+
+-- a rule for sums that stays in range
+abbrev pub InRangeRule : Rule → Type 0
+InRangeRule sum = (a b : ℤ) → InRange a → InRange b → InRange (sum a b)

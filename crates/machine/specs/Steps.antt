@@ -1,13 +1,14 @@
 -- One pick, and a run of picks: document 01, "One pick, one step" and "Runs and turns".
 use Prim.Native.Nat.{ℕ, suc, _+_}
 use mathlib.Core.Bool.{Bool, true, false, cond, not, _||_}
+use mathlib.Core.Path.{_≡_}
 use mathlib.Core.List.{List, [], _∷_}
 use lib.Dec.{eqb, ltb}
 use lib.IntN.{ℤ, pos}
 use lib.ListN.{length, drop, getD, set, replicate}
 use Rattle.machine.specs.declared.Thread.{Thread}
 use Rattle.machine.specs.Threads.{blank, spawned, push, add, begin, sourceOf, read, write, closed, firstStale, overlaid}
-use Rattle.stm.specs.Events.{Event, idle, pushed, summed, forked, begun, looked, wrote, committed, sentBack, Happened}
+use Rattle.stm.specs.Events.{Event, idle, pushed, summed, forked, begun, looked, wrote, committed, sentBack, Happened, isIdle}
 use Rattle.code.specs.Reader.{Op, opAt}
 use Rattle.code.specs.Reader as code
 use Rattle.script.specs.Outcome.{Outcome, refused, done}
@@ -76,6 +77,13 @@ pick sum bytes s i =
       | true ↦ record { state = s; event = idle }
       | false ↦ doing sum s i (threadAt s i) (opAt (drop (threadAt s i .place) bytes))
     ]
+
+-- "Each other pick does one instruction": the one at the thread's place
+pub record DoesOne (sum : Rule) (code : List ℕ) (s : State) (i : ℕ) : Type 0 where
+  pub op : Op
+  pub at-place : opAt (drop (threadAt s i .place) code) ≡ done op
+  pub does : pick sum code s i ≡ instruction sum s i (threadAt s i) op
+  pub not-idle : isIdle (pick sum code s i .event) ≡ false
 
 -- a fresh state: "thread 0 alone, at the start of the whole code, and every register 0"
 unfoldable pub fresh : (code : List ℕ) → State

@@ -2,7 +2,7 @@
 use Prim.Native.Nat.{ℕ, zero, suc, _<_, _≤_}
 use mathlib.Core.Bool.{Bool, true, false}
 use mathlib.Core.Path.{_≡_, refl, sym, ap, subst, _∙_}
-use mathlib.Core.List.{List, [], _∷_, _++_}
+use mathlib.Core.List.{List, [], _∷_, _++_, append-nil}
 use mathlib.Core.Option.{Option, none, some}
 use native.Mathlib.Omega.{arith}
 use borrow.Author.Tests.{eqb-true, eqb-false, ltb-true, ltb-false}
@@ -14,7 +14,7 @@ use Rattle.stm.specs.Cells.{Cells}
 use Rattle.stm.specs.Tasks.{Log, nothing, logged, Task, outside, inside, over, Did, cellAt, foundIn, found, staleIn, firstStale, overwritten, goes, stepOutside, stepInside, stepTask, System, taskAt, started, did, next, endOf, eventsOf, start}
 use Rattle.stm.specs.Meaning.{processOf, Outside, Inside, Good, Linked}
 use Rattle.stm.proofs.Logs.{logged-same, logged-other, none-found}
-use Rattle.stm.proofs.Sound.{append-nil, meant-length, meant-at, turns-one, run-linked}
+use Rattle.stm.proofs.Sound.{meant-length, meant-at, turns-one, run-linked}
 use Rattle.code.specs.Compile.{Code, PUSH, ADD, READ, WRITE, BEGIN, COMMIT, FORK, ε, _⨾_, compileP}
 use Rattle.stm.specs.Events.{Event, pushed, summed, forked, begun, looked, wrote, committed, isTurn, order}
 use Rattle.stm.proofs.Counts.{order-append}

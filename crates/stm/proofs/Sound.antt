@@ -2,7 +2,7 @@
 use Prim.Native.Nat.{ℕ, zero, suc}
 use mathlib.Core.Bool.{Bool, true, false, cond}
 use mathlib.Core.Path.{_≡_, refl, sym, ap, subst, _∙_}
-use mathlib.Core.List.{List, [], _∷_, _++_}
+use mathlib.Core.List.{List, [], _∷_, _++_, append-nil}
 use native.Mathlib.Omega.{arith}
 use lib.Dec.{ltb}
 use lib.IntN.{ℤ, pos}
@@ -35,10 +35,6 @@ pub each-append : {A : Type 0} (P : A → Type 0) (d : A) (l m : List A) → ((i
 each-append P d [] m h k i = k i
 each-append P d (y ∷ ys) m h k zero = h zero
 each-append P d (y ∷ ys) m h k (suc i) = each-append P d ys m (λ j. h (suc j)) k i
-
-pub append-nil : {A : Type 0} (l : List A) → l ++ [] ≡ l
-append-nil [] = refl
-append-nil (x ∷ l) = rw (append-nil l)
 
 -- ---- what tasks stand for
 module _ (K : Cells) where
