@@ -4,11 +4,11 @@ use mathlib.Core.Path.{_≡_, subst}
 use mathlib.Core.List.{List}
 use lib.IntN.{pos}
 use lib.ListN.{replicate}
-use Rattle.guarantee.specs.Histories.{History}
+use Rattle.guarantee.specs.Histories.{Session, History}
 use Rattle.guarantee.specs.Agreement.{Agreement}
 use Rattle.guarantee.proofs.Demand.{is-code, history-run, fits-behind}
 use Rattle.code.specs.Bytes.{compiled}
-use Rattle.machine.specs.Steps.{State, Ran, fresh}
+use Rattle.machine.specs.Steps.{Ran, fresh}
 use Rattle.machine.specs.Answers.{sumOf}
 use Rattle.machine.specs.Source.{SThread, StepsM}
 use Rattle.machine.specs.Soup.{StandsFor, load}
@@ -21,9 +21,9 @@ use Rattle.script.proofs.Same.{same-refl}
 use Rattle.stm.specs.Events.{Happened}
 
 module _ (job : List ℕ) (j : Job) (b : Bytes job) (accepted : readJob job ≡ done j) where
-  reached : {s : State} {events : List Happened} → History (compiled j) s events → (soup : List SThread) × (StepsM (sumOf j) (replicate 64 (pos 0)) (load (j .tree)) (s .registers) soup × StandsFor (compiled j) s soup)
+  reached : {now : Session} {events : List Happened} → History (compiled j) now events → (soup : List SThread) × (StepsM (sumOf j) (replicate 64 (pos 0)) (load (j .tree)) (now .state .registers) soup × StandsFor (compiled j) (now .state) soup)
   unfolding fresh
-  reached {s} {events} h =
+  reached {now} {events} h =
       let c = is-code job j b accepted in
       let m = history-run job j b accepted h in
       let r = run-is-steps c (sumOf j) (m .0) (fresh (compiled j)) (fresh-fits (compiled j)) (fresh-typed (compiled j)) (load (j .tree)) (record { threads = load (j .tree); ordered = fresh-soup c; same = same-refl (load (j .tree)) }) in

@@ -4,12 +4,12 @@ use Rattle.guarantee.specs.Cases.{Cases}
 use Rattle.code.specs.Compile.{compileT, compileP}
 use Rattle.code.specs.Bytes.{instructionBytes, instructionsBytes, codeMark, codeBytes, compiled}
 use Rattle.code.specs.Reader.{operand as codeOperand, opOf, opAt, doOp, closed, readOps, within, marked as codeMarked, readCode}
-use Rattle.machine.specs.Threads.{blank, spawned, push, add, begin, sourceOf, read, write, closed as closedAt, stale, firstStale, overlaid}
+use Rattle.thread.specs.Threads.{blank, spawned, push, add, begin, sourceOf, read, write, closed as closedAt, stale, firstStale, overlaid}
 use Rattle.machine.specs.Fits.{walkOp, nextPlace}
 use Rattle.machine.specs.FitTest.{walk, walkTo, freeFrom, placed, allZero, noneBehind, inFront, passedBy, among, allAmong, threadsOf, oneEach, fits}
-use Rattle.machine.specs.Answers.{freshOf, stepOf, runOf, countsOf, freshSays, stepSays, runSays}
-use Rattle.machine.specs.Steps.{numberOf, commit, instruction, pick, fresh, run}
-use Rattle.stm.specs.Events.{counted, order}
+use Rattle.machine.specs.Answers.{freshOf, stepOf, runOf, freshCall, stepCall, runCall}
+use Rattle.machine.specs.Steps.{numberOf, commit, act, settle, pickAmong, fresh, run}
+use Rattle.stm.specs.Events.{counted, order, tally, countsOf, eventNumber, eventRegister, turnNumber, eventOf}
 use Rattle.word.specs.Registers.{none, member, with}
 use Rattle.script.specs.Bytes.{nodeBytes, bytes16, bytes32, bytesT, bytesP, jobMark, jobBytes}
 use Rattle.script.specs.Count.{nodesT, nodesP, depthT, depthP, forks, atomics, threads, instructions, longest, bound, codeT, codeP, codeLength}
@@ -17,7 +17,7 @@ use Rattle.script.specs.Reader.{permitted, operand, nodeOf, nodeAt, grown, fork
 use Rattle.word.specs.Sum.{residue, signed, wrap, wrapping}
 
 pub cases : Cases
-unfolding wrapping wrap signed residue readJob readNodes nodeAt nodeOf permitted operand grown forkOf marked taken jobBytes jobMark bytesP bytesT nodeBytes bytes16 bytes32 nodesP nodesT forks atomics threads instructions longest bound codeT codeP codeLength compiled codeBytes codeMark compileP compileT instructionBytes instructionsBytes readCode readOps closed doOp opAt opOf codeOperand codeMarked within depthT depthP blank spawned push add begin sourceOf read write closedAt stale firstStale overlaid numberOf commit instruction pick fresh run counted order none member with walkOp nextPlace walk walkTo freeFrom placed allZero noneBehind inFront passedBy among allAmong threadsOf oneEach fits freshOf stepOf runOf countsOf freshSays stepSays runSays
+unfolding wrapping wrap signed residue readJob readNodes nodeAt nodeOf permitted operand grown forkOf marked taken jobBytes jobMark bytesP bytesT nodeBytes bytes16 bytes32 nodesP nodesT forks atomics threads instructions longest bound codeT codeP codeLength compiled codeBytes codeMark compileP compileT instructionBytes instructionsBytes readCode readOps closed doOp opAt opOf codeOperand codeMarked within depthT depthP blank spawned push add begin sourceOf read write closedAt stale firstStale overlaid numberOf commit act settle pickAmong fresh run counted order none member with walkOp nextPlace walk walkTo freeFrom placed allZero noneBehind inFront passedBy among allAmong threadsOf oneEach fits freshOf stepOf runOf tally countsOf eventNumber eventRegister turnNumber eventOf freshCall stepCall runCall
 cases =
     record {
       below-range = refl;
@@ -46,9 +46,9 @@ cases =
       seven-done = record { there = refl; place = refl; height = refl; result = refl };
       low-done = record { there = refl; place = refl; height = refl; result = refl };
       own-read = refl;
-      own-seen = refl;
+      own-reads = refl;
       own-added = refl;
-      own-kept = refl;
+      own-still = refl;
       own-done = record { there = refl; place = refl; height = refl; result = refl };
       own-register = refl;
       whole-steps = refl;
@@ -67,7 +67,7 @@ cases =
       high-begin = refl;
       high-base = refl;
       high-reads = refl;
-      high-seen = refl;
+      high-readlog = refl;
       high-done = record { there = refl; place = refl; height = refl; result = refl };
       none-there = refl;
       none-open = refl;

@@ -8,19 +8,20 @@ use native.Mathlib.Omega.{arith}
 use lib.Dec.{ltb}
 use lib.IntN.{ℤ, pos}
 use lib.ListN.{length, getD}
-use Rattle.guarantee.specs.Histories.{Call, step, run, codeOf, stateOf, picksOf, Lent, alone, comesTo, History, none, turned-down, followed, scriptAfter, Ended, SameResult, Whole, Taken, SentBack, Demand3}
+use Rattle.thread.specs.Threads.{exists}
+use Rattle.guarantee.specs.Histories.{Call, step, run, codeOf, stateOf, picksOf, Lent, alone, comesTo, Session, History, none, turned-down, followed, scriptAfter, Ended, SameResult, Whole, IsOrder, SentBack, Demand3}
 use Rattle.guarantee.proofs.RoundTrip.{mapped-done}
 use Rattle.code.specs.Compile.{Code, ε, _⨾_, compileP}
 use Rattle.code.specs.Bytes.{compiled, IsCode}
 use Rattle.code.specs.Reader.{readCode}
 use Rattle.code.proofs.Foreign.{there-and-back, code-bytes}
-use Rattle.machine.specs.declared.Thread.{Thread}
+use Rattle.thread.specs.declared.Thread.{Thread}
 use Rattle.machine.specs.Steps as steps
-use Rattle.machine.specs.Steps.{State, Stepped, exists, numberOf, threadAt, pick, fresh, Ran}
-use Rattle.stm.specs.Events.{Happened, counted, isIdle, isCommit, backs, order}
+use Rattle.machine.specs.Steps.{State, Stepped, numberOf, threadAt, pick, fresh, Ran}
+use Rattle.stm.specs.Events.{Happened, counted, isIdle, isCommit, backs, order, countsOf}
 use Rattle.machine.specs.Fits.{Exists, Fits, Typed, Ranged}
 use Rattle.machine.specs.FitTest.{fits}
-use Rattle.machine.specs.Answers.{sumOf, fitting, stepOf, runOf, countsOf}
+use Rattle.machine.specs.Answers.{sumOf, fitting, stepOf, runOf}
 use Rattle.machine.proofs.Picks.{run-append}
 use Rattle.machine.proofs.FitTests.{fits-exactly}
 use Rattle.script.specs.Tree.{Proc, ValP}
@@ -31,7 +32,7 @@ use Rattle.script.specs.Reader.{Job, readJob}
 use Rattle.script.specs.Refusal.{IsJob}
 use Rattle.script.specs.Turns.{initial, turns, CanTake, Result}
 use Rattle.script.proofs.Accepts.{accepted-is-job, passed}
-use Rattle.machine.specs.Stands.{Stands, stackFrom}
+use Rattle.machine.specs.Stands.{Stands, stackFrom, registerCells}
 use Rattle.machine.proofs.Codes.{stands-end, stands-inside}
 use Rattle.machine.proofs.Showings.{Shows, shut, open′}
 use Rattle.machine.proofs.Numbers.{below-exists, exists-below}
@@ -39,12 +40,12 @@ use Rattle.machine.proofs.Mirrors.{Mirrors}
 use Rattle.machine.proofs.Fresh.{fresh-typed, fresh-fits, fresh-mirrors}
 use Rattle.machine.proofs.Ranges.{wrapping-in-range, fresh-ranged, run-ranged}
 use Rattle.machine.proofs.Runs.{Run, run-keeps}
-use Rattle.stm.specs.Cells.{byValue}
 use Rattle.stm.specs.Tasks.{Log, Task, outside, inside, System, taskAt, next, start, endOf, eventsOf}
 use Rattle.stm.specs.Meaning.{Outside, Inside, processOf, values, meant, valuesOf, Linked}
 use Rattle.stm.proofs.Sound.{start-linked, run-linked, meant-length, meant-at}
 use Rattle.stm.proofs.Complete.{Below, Realised, start-outside, complete}
 use Rattle.stm.proofs.Bound.{outside-proc, thread-count, steps-bound}
+use Rattle.stm.proofs.Counts.{steps-counted}
 use Rattle.stm.proofs.SentBack as sent
 use Rattle.word.specs.Sum.{Rule}
 
@@ -76,35 +77,35 @@ taken-run j code e (run code′ s is) r q t =
     sym x ∙ ap (λ (y : List ℕ). steps.run (sumOf j) y s is) q
 
 -- ---- the events of a run, cut in two
-record Cut (sum : Rule) (s : System byValue) (a b : List Happened) : Type 0 where
+record Cut (sum : Rule) (s : System registerCells) (a b : List Happened) : Type 0 where
   first : List ℕ
   second : List ℕ
-  before : eventsOf byValue sum s first ≡ a
-  behind : eventsOf byValue sum (endOf byValue sum s first) second ≡ b
+  before : eventsOf registerCells sum s first ≡ a
+  behind : eventsOf registerCells sum (endOf registerCells sum s first) second ≡ b
 
 tail-of : {x y : Happened} {a b : List Happened} → x ∷ a ≡ y ∷ b → (x ≡ y) × (a ≡ b)
 tail-of e = (cc, cc)
 
-cut : (sum : Rule) (a : List Happened) (is : List ℕ) (s : System byValue) (b : List Happened) → eventsOf byValue sum s is ≡ a ++ b → Cut sum s a b
+cut : (sum : Rule) (a : List Happened) (is : List ℕ) (s : System registerCells) (b : List Happened) → eventsOf registerCells sum s is ≡ a ++ b → Cut sum s a b
 unfolding eventsOf endOf
 cut sum [] is s b e = record { first = []; second = is; before = refl; behind = e }
 cut sum (x ∷ a) [] s b e = absurd (let z : _≡_ {A = ℕ} 0 1 = cc in omega arith)
 cut sum (x ∷ a) (i ∷ is) s b e =
     let t = tail-of e in
-    let c = cut sum a is (next byValue sum s i) b (t .1) in
+    let c = cut sum a is (next registerCells sum s i) b (t .1) in
     record {
       first = i ∷ c .first;
       second = c .second;
-      before = ap (λ (h : Happened). h ∷ eventsOf byValue sum (next byValue sum s i) (c .first)) (t .0) ∙ ap (λ (l : List Happened). x ∷ l) (c .before);
+      before = ap (λ (h : Happened). h ∷ eventsOf registerCells sum (next registerCells sum s i) (c .first)) (t .0) ∙ ap (λ (l : List Happened). x ∷ l) (c .before);
       behind = c .behind;
     }
 
-values-same : (h : List ℤ) → valuesOf byValue h ≡ h
+values-same : (h : List ℤ) → valuesOf registerCells h ≡ h
 values-same [] = refl
 values-same (n ∷ h) = ap (λ (l : List ℤ). n ∷ l) (values-same h)
 
 -- a record at its end shows a VALP
-ended-shows : {bytes : List ℕ} (t : Thread) (task : Task byValue) → t .place ≡ t .end → Shows bytes t task → (t .height ≡ 1) × (meant byValue task ≡ ValP (getD (t .cells) 0 (pos 0)))
+ended-shows : {bytes : List ℕ} (t : Thread) (task : Task registerCells) → t .place ≡ t .end → Shows bytes t task → (t .height ≡ 1) × (meant registerCells task ≡ ValP (getD (t .cells) 0 (pos 0)))
 unfolding Outside Inside processOf stackFrom
 ended-shows t task p (shut ε r o z) = (o, ap (λ (n : ℕ). processOf ε (values (stackFrom (t .cells) 0 n))) o ∙ one-cell (t .cells))
   where
@@ -125,10 +126,10 @@ one-on cells = refl
 same-head : {a b : ℤ} {σ τ : List ℤ} → a ∷ σ ≡ b ∷ τ → a ≡ b
 same-head e = cc
 
-same-outside : {c d : Code} {σ τ : List ℤ} → _≡_ {A = Task byValue} (outside c σ) (outside d τ) → (c ≡ d) × (σ ≡ τ)
+same-outside : {c d : Code} {σ τ : List ℤ} → _≡_ {A = Task registerCells} (outside c σ) (outside d τ) → (c ≡ d) × (σ ≡ τ)
 same-outside e = (cc, cc)
 
-not-outside : {body c d : Code} {base σ τ : List ℤ} {r w : Log ℤ} → _≡_ {A = Task byValue} (inside body base c σ r w) (outside d τ) → ⊥
+not-outside : {body c d : Code} {base σ τ : List ℤ} {r w : Log ℤ} → _≡_ {A = Task registerCells} (inside body base c σ r w) (outside d τ) → ⊥
 not-outside e = absurd (let z : _≡_ {A = ℕ} 0 1 = cc in omega arith)
 
 -- and a record that shows an ended task is at its end
@@ -144,7 +145,7 @@ shows-ended {bytes} t n x = go (outside ε (n ∷ [])) refl x
     top : stackFrom (t .cells) 0 (t .height) ≡ n ∷ [] → t .height ≡ 1 → getD (t .cells) 0 (pos 0) ≡ n
     top e h = same-head (sym (one-on (t .cells)) ∙ (ap (λ (m : ℕ). stackFrom (t .cells) 0 m) (sym h) ∙ e))
 
-    go : (task : Task byValue) → task ≡ outside ε (n ∷ []) → Shows bytes t task → Goal
+    go : (task : Task registerCells) → task ≡ outside ε (n ∷ []) → Shows bytes t task → Goal
     go task q (shut c r o z) =
         let parts = same-outside q in
         let h : t .height ≡ 1 = end-code c (parts .0) o in
@@ -152,9 +153,9 @@ shows-ended {bytes} t n x = go (outside ε (n ∷ [])) refl x
     go task q (open′ body c k r o h w g x y) = absurd (not-outside q)
 
 -- a fitting state's step is taken
-step-taken : (j : Job) (code : List ℕ) (s : State) (i : ℕ) → readCode code ≡ done j → fits code s ≡ true → comesTo (step code s i) ≡ done (alone i (pick (sumOf j) code s i))
+step-accepted : (j : Job) (code : List ℕ) (s : State) (i : ℕ) → readCode code ≡ done j → fits code s ≡ true → comesTo (step code s i) ≡ done (alone i (pick (sumOf j) code s i))
 unfolding stepOf
-step-taken j code s i c f = rw (c, f)
+step-accepted j code s i c f = rw (c, f)
 
 one-byte : (i : ℕ) → i < 256 → (k : ℕ) → k < 1 → getD (i ∷ []) k 0 < 256
 one-byte i l zero m = l
@@ -171,8 +172,8 @@ module _ (job : List ℕ) (j : Job) (b : Bytes job) (accepted : readJob job ≡ 
   abbrev sum : Rule
   sum = sumOf j
 
-  abbrev first : System byValue
-  first = start byValue (compileP (j .tree) ε)
+  abbrev first : System registerCells
+  first = start registerCells (compileP (j .tree) ε)
 
   is-job : IsJob job j
   is-job = accepted-is-job job j b accepted
@@ -187,14 +188,20 @@ module _ (job : List ℕ) (j : Job) (b : Bytes job) (accepted : readJob job ≡ 
   read : readCode (compiled j) ≡ done j
   read = there-and-back is-job
 
+  -- the code stays the job's
+  pub code-kept : {now : Session} {events : List Happened} → History (compiled j) now events → now .code ≡ compiled j
+  code-kept none = refl
+  code-kept (turned-down h c l e) = code-kept h
+  code-kept (followed h c l e f g) = code-kept h
+
   -- a list of calls is one run of picks from the fresh state
-  pub history-run : {s : State} {events : List Happened} → History (compiled j) s events → (is : List ℕ) × (steps.run (sumOf j) (compiled j) (fresh (compiled j)) is ≡ record { state = s; events = events })
+  pub history-run : {now : Session} {events : List Happened} → History (compiled j) now events → (is : List ℕ) × (steps.run (sumOf j) (compiled j) (fresh (compiled j)) is ≡ record { state = now .state; events = events })
   unfolding steps.run
   history-run none = ([], refl)
   history-run (turned-down h c l e) = history-run h
-  history-run (followed {s} {events} {r} h c l e f g) =
+  history-run (followed {now} {events} {r} h c l e f g) =
       let m = history-run h in
-      let x : r ≡ steps.run (sumOf j) (compiled j) s (picksOf c) = taken-run j (compiled j) read c r e g ∙ ap (λ (y : State). steps.run (sumOf j) (compiled j) y (picksOf c)) f in (
+      let x : r ≡ steps.run (sumOf j) (compiled j) (now .state) (picksOf c) = taken-run j (compiled j) read c r (e ∙ code-kept h) g ∙ ap (λ (y : State). steps.run (sumOf j) (compiled j) y (picksOf c)) f in (
         m .0 ++ picksOf c,
         run-append (sumOf j) (compiled j) (fresh (compiled j)) (m .0) (picksOf c)
             ∙ (ap (λ (y : Ran). record { state = steps.run (sumOf j) (compiled j) (y .state) (picksOf c) .state; events = y .events ++ steps.run (sumOf j) (compiled j) (y .state) (picksOf c) .events }) (m .1)
@@ -204,20 +211,20 @@ module _ (job : List ℕ) (j : Job) (b : Bytes job) (accepted : readJob job ≡ 
   -- what holds behind a list of calls
   record Behind (s : State) (events : List Happened) : Type 0 where
     picks : List ℕ
-    its-events : events ≡ eventsOf byValue (sumOf j) (start byValue (compileP (j .tree) ε)) picks
-    mirrors : Mirrors (compiled j) s (endOf byValue (sumOf j) (start byValue (compileP (j .tree) ε)) picks)
+    its-events : events ≡ eventsOf registerCells (sumOf j) (start registerCells (compileP (j .tree) ε)) picks
+    mirrors : Mirrors (compiled j) s (endOf registerCells (sumOf j) (start registerCells (compileP (j .tree) ε)) picks)
     fit : Fits (compiled j) s
     typed : Typed s
     ranges : Ranged s
 
-  behind : {s : State} {events : List Happened} → History (compiled j) s events → Behind s events
-  behind {s} {events} h =
+  behind : {now : Session} {events : List Happened} → History (compiled j) now events → Behind (now .state) events
+  behind {now} {events} h =
       let m = history-run h in
-      let k = run-keeps is-code outer (sumOf j) (m .0) (fresh (compiled j)) (start byValue (compileP (j .tree) ε)) (fresh-fits (compiled j)) (fresh-typed (compiled j)) (fresh-mirrors (compiled j) is-code outer) in
+      let k = run-keeps is-code outer (sumOf j) (m .0) (fresh (compiled j)) (start registerCells (compileP (j .tree) ε)) (fresh-fits (compiled j)) (fresh-typed (compiled j)) (fresh-mirrors (compiled j) is-code outer) in
       record {
         picks = m .0;
         its-events = sym (ap (λ (r : Ran). r .events) (m .1)) ∙ k .events;
-        mirrors = subst (λ (r : Ran). Mirrors (compiled j) (r .state) (endOf byValue (sumOf j) (start byValue (compileP (j .tree) ε)) (m .0))) (m .1) (k .mirrors);
+        mirrors = subst (λ (r : Ran). Mirrors (compiled j) (r .state) (endOf registerCells (sumOf j) (start registerCells (compileP (j .tree) ε)) (m .0))) (m .1) (k .mirrors);
         fit = subst (λ (r : Ran). Fits (compiled j) (r .state)) (m .1) (k .fits);
         typed = subst (λ (r : Ran). Typed (r .state)) (m .1) (k .typed);
         ranges = subst (λ (r : Ran). Ranged (r .state)) (m .1) (run-ranged is-code (sumOf j) wrapping-in-range (fresh (compiled j)) (fresh-fits (compiled j)) (fresh-typed (compiled j)) (fresh-ranged is-code) (m .0));
@@ -226,139 +233,144 @@ module _ (job : List ℕ) (j : Job) (b : Bytes job) (accepted : readJob job ≡ 
   -- ---- sound
   -- After every list of calls the registers, the threads that exist and the results of those that have ended are the script's, fed the order
   -- of the turns.
-  pub sound : {s : State} {events : List Happened} → History (compiled j) s events → Whole j s events
+  pub sound : {now : Session} {events : List Happened} → History (compiled j) now events → Whole j (now .state) events
   unfolding scriptAfter
-  sound {s} {events} h = record { registers = registers′; threads = threads′; results = results′ }
+  sound {now} {events} h = record { registers = registers′; threads = threads′; results = results′ }
     where
-      k : Behind s events
+      k : Behind (now .state) events
       k = behind h
 
-      sys : System byValue
-      sys = endOf byValue (sumOf j) (start byValue (compileP (j .tree) ε)) (behind h .picks)
+      sys : System registerCells
+      sys = endOf registerCells (sumOf j) (start registerCells (compileP (j .tree) ε)) (behind h .picks)
 
-      linked : Linked byValue (sumOf j) sys (turns (sumOf j) (initial (j .tree)) (order events))
+      linked : Linked registerCells (sumOf j) sys (turns (sumOf j) (initial (j .tree)) (order events))
       linked =
-          subst (λ (es : List Happened). Linked byValue (sumOf j) sys (turns (sumOf j) (initial (j .tree)) (order es))) (sym (k .its-events))
-          (run-linked byValue (sumOf j) (k .picks) (start byValue (compileP (j .tree) ε)) (initial (j .tree)) (start-linked byValue (sumOf j) (j .tree) (is-job .within .valued)) .1)
+          subst (λ (es : List Happened). Linked registerCells (sumOf j) sys (turns (sumOf j) (initial (j .tree)) (order es))) (sym (k .its-events))
+          (run-linked registerCells (sumOf j) (k .picks) (start registerCells (compileP (j .tree) ε)) (initial (j .tree)) (start-linked registerCells (sumOf j) (j .tree) (is-job .within .valued)) .1)
 
-      registers′ : s .registers ≡ turns (sumOf j) (initial (j .tree)) (order events) .registers
+      registers′ : now .state .registers ≡ turns (sumOf j) (initial (j .tree)) (order events) .registers
       registers′ = k .mirrors .table ∙ (sym (values-same (sys .table)) ∙ sym (linked .registers))
 
-      number : numberOf (s .threads) ≡ length (turns (sumOf j) (initial (j .tree)) (order events) .threads)
-      number = k .mirrors .number ∙ (sym (meant-length byValue (sys .tasks)) ∙ sym (ap length (linked .threads)))
+      number : numberOf (now .state .threads) ≡ length (turns (sumOf j) (initial (j .tree)) (order events) .threads)
+      number = k .mirrors .number ∙ (sym (meant-length registerCells (sys .tasks)) ∙ sym (ap length (linked .threads)))
 
-      threads′ : (i : ℕ) → Exists s i ↔ (i < length (turns (sumOf j) (initial (j .tree)) (order events) .threads))
+      threads′ : (i : ℕ) → Exists (now .state) i ↔ (i < length (turns (sumOf j) (initial (j .tree)) (order events) .threads))
       threads′ i = (
-        λ e. subst (λ (n : ℕ). i < n) number (exists-below s (k .fit .no-gap) i e),
-        λ l. below-exists s i (subst (λ (n : ℕ). i < n) (sym number) l),
+        λ e. subst (λ (n : ℕ). i < n) number (exists-below (now .state) (k .fit .no-gap) i e),
+        λ l. below-exists (now .state) i (subst (λ (n : ℕ). i < n) (sym number) l),
       )
 
-      process : (i : ℕ) → getD (turns (sumOf j) (initial (j .tree)) (order events) .threads) i (ValP (pos 0)) ≡ meant byValue (taskAt byValue sys i)
-      process i = ap (λ (ps : List Proc). getD ps i (ValP (pos 0))) (linked .threads) ∙ meant-at byValue (sys .tasks) i
+      process : (i : ℕ) → getD (turns (sumOf j) (initial (j .tree)) (order events) .threads) i (ValP (pos 0)) ≡ meant registerCells (taskAt registerCells sys i)
+      process i = ap (λ (ps : List Proc). getD ps i (ValP (pos 0))) (linked .threads) ∙ meant-at registerCells (sys .tasks) i
 
-      results′ : (i : ℕ) → Exists s i → threadAt s i .place ≡ threadAt s i .end → SameResult s (turns (sumOf j) (initial (j .tree)) (order events)) i
+      results′ : (i : ℕ) → Exists (now .state) i → threadAt (now .state) i .place ≡ threadAt (now .state) i .end → SameResult (now .state) (turns (sumOf j) (initial (j .tree)) (order events)) i
       results′ i e p =
-          let l : i < length (sys .tasks) = subst (λ (n : ℕ). i < n) (k .mirrors .number) (exists-below s (k .fit .no-gap) i e) in
-          let r = ended-shows (threadAt s i) (taskAt byValue sys i) p (k .mirrors .shown i l) in
+          let l : i < length (sys .tasks) = subst (λ (n : ℕ). i < n) (k .mirrors .number) (exists-below (now .state) (k .fit .no-gap) i e) in
+          let r = ended-shows (threadAt (now .state) i) (taskAt registerCells sys i) p (k .mirrors .shown i l) in
           record {
-            number = getD (threadAt s i .cells) 0 (pos 0);
+            number = getD (threadAt (now .state) i .cells) 0 (pos 0);
             ended = record { there = e; place = p; height = r .0; result = refl };
-            script's = record { exists = subst (λ (n : ℕ). i < n) number (exists-below s (k .fit .no-gap) i e); ended = process i ∙ r .1 };
+            script's = record { exists = subst (λ (n : ℕ). i < n) number (exists-below (now .state) (k .fit .no-gap) i e); ended = process i ∙ r .1 };
           }
 
   -- no turn of the order is idle in the script
-  pub order-taken : {s : State} {events : List Happened} → History (compiled j) s events → CanTake (sumOf j) (initial (j .tree)) (order events)
+  pub order-taken : {now : Session} {events : List Happened} → History (compiled j) now events → CanTake (sumOf j) (initial (j .tree)) (order events)
   order-taken h =
       let k = behind h in
       subst (λ (es : List Happened). CanTake (sumOf j) (initial (j .tree)) (order es)) (sym (k .its-events))
-      (run-linked byValue (sumOf j) (k .picks) (start byValue (compileP (j .tree) ε)) (initial (j .tree)) (start-linked byValue (sumOf j) (j .tree) (is-job .within .valued)) .0)
+      (run-linked registerCells (sumOf j) (k .picks) (start registerCells (compileP (j .tree) ε)) (initial (j .tree)) (start-linked registerCells (sumOf j) (j .tree) (is-job .within .valued)) .0)
 
   -- the steps of the list, idle picks uncounted, are no more than the bound: "L + (K−1)×(T−1)×M steps, or L if K is 0"
-  pub bounded : {s : State} {events : List Happened} → History (compiled j) s events → countsOf events .steps ≤ bound (j .tree)
-  unfolding countsOf
-  bounded h =
+  pub bounded : {now : Session} {events : List Happened} → History (compiled j) now events → countsOf events .steps ≤ bound (j .tree)
+  bounded {now} {events} h =
       let k = behind h in
-      subst (λ (es : List Happened). counted (λ e. not (isIdle e)) es ≤ bound (j .tree)) (sym (k .its-events)) (steps-bound byValue (sumOf j) (j .tree) (is-job .within .valued) (k .picks))
+      subst (λ (n : ℕ). n ≤ bound (j .tree)) (sym (steps-counted events))
+      (subst (λ (es : List Happened). counted (λ e. not (isIdle e)) es ≤ bound (j .tree)) (sym (k .its-events)) (steps-bound registerCells (sumOf j) (j .tree) (is-job .within .valued) (k .picks)))
 
   -- "no thread is sent back twice between neighbouring commits or after the last, nor at all before the first"
-  pub sent-back : {s : State} {events : List Happened} → History (compiled j) s events → SentBack events
-  sent-back {s} {events} h = record { not-twice = twice; none-first = first′ }
+  pub sent-back : {now : Session} {events : List Happened} → History (compiled j) now events → SentBack events
+  sent-back {now} {events} h = record { not-twice = twice; none-first = first′ }
     where
-      k : Behind s events
+      k : Behind (now .state) events
       k = behind h
 
       twice : (before between after : List Happened) → events ≡ before ++ (between ++ after) → counted isCommit between ≡ 0 → (i : ℕ) → backs i between ≤ 1
       twice before between after e z i =
-          let c = cut (sumOf j) before (k .picks) (start byValue (compileP (j .tree) ε)) (between ++ after) (sym (k .its-events) ∙ e) in
-          let d = cut (sumOf j) between (c .second) (endOf byValue (sumOf j) (start byValue (compileP (j .tree) ε)) (c .first)) after (c .behind) in
-          subst (λ (es : List Happened). backs i es ≤ 1) (d .before) (sent.not-twice byValue (sumOf j) (d .first) (endOf byValue (sumOf j) (start byValue (compileP (j .tree) ε)) (c .first)) i (ap (counted isCommit) (d .before) ∙ z))
+          let c = cut (sumOf j) before (k .picks) (start registerCells (compileP (j .tree) ε)) (between ++ after) (sym (k .its-events) ∙ e) in
+          let d = cut (sumOf j) between (c .second) (endOf registerCells (sumOf j) (start registerCells (compileP (j .tree) ε)) (c .first)) after (c .behind) in
+          subst (λ (es : List Happened). backs i es ≤ 1) (d .before) (sent.not-twice registerCells (sumOf j) (d .first) (endOf registerCells (sumOf j) (start registerCells (compileP (j .tree) ε)) (c .first)) i (ap (counted isCommit) (d .before) ∙ z))
 
       first′ : (before after : List Happened) → events ≡ before ++ after → counted isCommit before ≡ 0 → (i : ℕ) → backs i before ≡ 0
       first′ before after e z i =
-          let c = cut (sumOf j) before (k .picks) (start byValue (compileP (j .tree) ε)) after (sym (k .its-events) ∙ e) in
-          subst (λ (es : List Happened). backs i es ≡ 0) (c .before) (sent.none-before-first byValue (sumOf j) (compileP (j .tree) ε) (c .first) i (ap (counted isCommit) (c .before) ∙ z))
+          let c = cut (sumOf j) before (k .picks) (start registerCells (compileP (j .tree) ε)) after (sym (k .its-events) ∙ e) in
+          subst (λ (es : List Happened). backs i es ≡ 0) (c .before) (sent.none-before-first registerCells (sumOf j) (compileP (j .tree) ε) (c .first) i (ap (counted isCommit) (c .before) ∙ z))
 
   -- the state behind a list of calls fits the code
-  pub fits-behind : {s : State} {events : List Happened} → History (compiled j) s events → Fits (compiled j) s × Typed s
+  pub fits-behind : {now : Session} {events : List Happened} → History (compiled j) now events → Fits (compiled j) (now .state) × Typed (now .state)
   fits-behind h = (behind h .fit, behind h .typed)
 
   -- ---- complete
+  -- the job's code with a state
+  abbrev on : State → Session
+  on s = record { code = compiled j; state = s }
+
   -- picks as calls, one step each
   module _ (small : ℕ) (fewer : small ≤ 256) where
-    steps-history : (is : List ℕ) → Below small is → (s : State) (events : List Happened) → History (compiled j) s events → Behind s events → History (compiled j) (steps.run (sumOf j) (compiled j) s is .state) (events ++ steps.run (sumOf j) (compiled j) s is .events)
+    steps-history : (is : List ℕ) → Below small is → (s : State) (events : List Happened) → History (compiled j) (on s) events → History (compiled j) (on (steps.run (sumOf j) (compiled j) s is .state)) (events ++ steps.run (sumOf j) (compiled j) s is .events)
     unfolding steps.run
-    steps-history [] bel s events h k = subst (λ (es : List Happened). History (compiled j) s es) (sym (append-nil events)) h
-    steps-history (i ∷ is) bel s events h k =
-        let one : History (compiled j) (pick (sumOf j) (compiled j) s i .state) (events ++ (record { thread = i; event = pick (sumOf j) (compiled j) s i .event } ∷ [])) = followed h (step (compiled j) s i) (lent i (bel .0) s (k .typed) (k .ranges)) refl refl (comes i s (k .fit) (k .typed)) in
-        let rest = steps-history is (bel .1) (pick (sumOf j) (compiled j) s i .state) (events ++ (record { thread = i; event = pick (sumOf j) (compiled j) s i .event } ∷ [])) one (behind one) in
-        subst (λ (es : List Happened). History (compiled j) (steps.run (sumOf j) (compiled j) (pick (sumOf j) (compiled j) s i .state) is .state) es) (append-assoc events (record { thread = i; event = pick (sumOf j) (compiled j) s i .event } ∷ []) (steps.run (sumOf j) (compiled j) (pick (sumOf j) (compiled j) s i .state) is .events)) rest
+    steps-history [] bel s events h = subst (λ (es : List Happened). History (compiled j) (on s) es) (sym (append-nil events)) h
+    steps-history (i ∷ is) bel s events h =
+        let k = behind h in
+        let one : History (compiled j) (on (pick (sumOf j) (compiled j) s i .state)) (events ++ (record { thread = i; event = pick (sumOf j) (compiled j) s i .event } ∷ [])) = followed h (step (compiled j) s i) (lent i (bel .0) s (k .typed) (k .ranges)) refl refl (comes i s (k .fit) (k .typed)) in
+        let rest = steps-history is (bel .1) (pick (sumOf j) (compiled j) s i .state) (events ++ (record { thread = i; event = pick (sumOf j) (compiled j) s i .event } ∷ [])) one in
+        subst (λ (es : List Happened). History (compiled j) (on (steps.run (sumOf j) (compiled j) (pick (sumOf j) (compiled j) s i .state) is .state)) es) (append-assoc events (record { thread = i; event = pick (sumOf j) (compiled j) s i .event } ∷ []) (steps.run (sumOf j) (compiled j) (pick (sumOf j) (compiled j) s i .state) is .events)) rest
       where
         lent : (i : ℕ) → i < small → (s : State) → Typed s → Ranged s → Lent (step (compiled j) s i)
         lent i l s y z = record { code = code-bytes j (is-job .within .valued); state = y; ranges = z; picks = record { small = one-byte i (omega arith) } }
 
         comes : (i : ℕ) (s : State) → Fits (compiled j) s → Typed s → comesTo (step (compiled j) s i) ≡ done (alone i (pick (sumOf j) (compiled j) s i))
-        comes i s f y = step-taken j (compiled j) s i read (fits-exactly (compiled j) s y .1 f)
+        comes i s f y = step-accepted j (compiled j) s i read (fits-exactly (compiled j) s y .1 f)
 
   -- Every list of turns that the script can take is the order of one list of calls, which ends every thread that is then a VALP.
-  pub every-order : (is : List ℕ) → CanTake (sumOf j) (initial (j .tree)) is → Taken j is
+  pub every-order : (is : List ℕ) → CanTake (sumOf j) (initial (j .tree)) is → IsOrder j is
   unfolding scriptAfter
-  every-order is can = record { state = ran .state; events = ran .events; history = history′; its-order = order′; ends = ends′ }
+  every-order is can = record { now = on (ran .state); events = ran .events; history = history′; its-order = order′; ends = ends′ }
     where
-      real : Realised byValue (sumOf j) (start byValue (compileP (j .tree) ε)) (initial (j .tree)) is
-      real = complete byValue (sumOf j) is (start byValue (compileP (j .tree) ε)) (initial (j .tree)) (start-linked byValue (sumOf j) (j .tree) (is-job .within .valued)) (start-outside byValue (j .tree)) can
+      real : Realised registerCells (sumOf j) (start registerCells (compileP (j .tree) ε)) (initial (j .tree)) is
+      real = complete registerCells (sumOf j) is (start registerCells (compileP (j .tree) ε)) (initial (j .tree)) (start-linked registerCells (sumOf j) (j .tree) (is-job .within .valued)) (start-outside registerCells (j .tree)) can
 
       ran : Ran
       ran = steps.run (sumOf j) (compiled j) (fresh (compiled j)) (real .picks)
 
-      k : Run is-code outer (sumOf j) (fresh (compiled j)) (start byValue (compileP (j .tree) ε)) (real .picks)
-      k = run-keeps is-code outer (sumOf j) (real .picks) (fresh (compiled j)) (start byValue (compileP (j .tree) ε)) (fresh-fits (compiled j)) (fresh-typed (compiled j)) (fresh-mirrors (compiled j) is-code outer)
+      k : Run is-code outer (sumOf j) (fresh (compiled j)) (start registerCells (compileP (j .tree) ε)) (real .picks)
+      k = run-keeps is-code outer (sumOf j) (real .picks) (fresh (compiled j)) (start registerCells (compileP (j .tree) ε)) (fresh-fits (compiled j)) (fresh-typed (compiled j)) (fresh-mirrors (compiled j) is-code outer)
 
-      count : length (endOf byValue (sumOf j) (start byValue (compileP (j .tree) ε)) (real .picks) .tasks) ≤ 256
-      count = few (j .tree) (thread-count byValue (sumOf j) (j .tree) (is-job .within .valued) (real .picks)) (is-job .within .narrow)
+      count : length (endOf registerCells (sumOf j) (start registerCells (compileP (j .tree) ε)) (real .picks) .tasks) ≤ 256
+      count = few (j .tree) (thread-count registerCells (sumOf j) (j .tree) (is-job .within .valued) (real .picks)) (is-job .within .narrow)
 
-      history′ : History (compiled j) (ran .state) (ran .events)
-      history′ = steps-history (length (endOf byValue (sumOf j) (start byValue (compileP (j .tree) ε)) (real .picks) .tasks)) count (real .picks) (real .exist) (fresh (compiled j)) [] none (behind none)
+      history′ : History (compiled j) (on (ran .state)) (ran .events)
+      history′ = steps-history (length (endOf registerCells (sumOf j) (start registerCells (compileP (j .tree) ε)) (real .picks) .tasks)) count (real .picks) (real .exist) (fresh (compiled j)) [] none
 
       order′ : order (ran .events) ≡ is
       order′ = ap order (k .events) ∙ real .taken
 
-      sys : System byValue
-      sys = endOf byValue (sumOf j) (start byValue (compileP (j .tree) ε)) (real .picks)
+      sys : System registerCells
+      sys = endOf registerCells (sumOf j) (start registerCells (compileP (j .tree) ε)) (real .picks)
 
-      linked : Linked byValue (sumOf j) sys (turns (sumOf j) (initial (j .tree)) is)
+      linked : Linked registerCells (sumOf j) sys (turns (sumOf j) (initial (j .tree)) is)
       linked =
-          subst (λ (os : List ℕ). Linked byValue (sumOf j) sys (turns (sumOf j) (initial (j .tree)) os)) (real .taken)
-          (run-linked byValue (sumOf j) (real .picks) (start byValue (compileP (j .tree) ε)) (initial (j .tree)) (start-linked byValue (sumOf j) (j .tree) (is-job .within .valued)) .1)
+          subst (λ (os : List ℕ). Linked registerCells (sumOf j) sys (turns (sumOf j) (initial (j .tree)) os)) (real .taken)
+          (run-linked registerCells (sumOf j) (real .picks) (start registerCells (compileP (j .tree) ε)) (initial (j .tree)) (start-linked registerCells (sumOf j) (j .tree) (is-job .within .valued)) .1)
 
       number : length (sys .tasks) ≡ length (turns (sumOf j) (initial (j .tree)) is .threads)
-      number = sym (meant-length byValue (sys .tasks)) ∙ sym (ap length (linked .threads))
+      number = sym (meant-length registerCells (sys .tasks)) ∙ sym (ap length (linked .threads))
 
       ends′ : (i : ℕ) (n : ℤ) → Result (turns (sumOf j) (initial (j .tree)) is) i n → Ended (ran .state) i n
       ends′ i n r =
-          let t : taskAt byValue sys i ≡ outside ε (n ∷ []) = real .results i n (r .ended) in
+          let t : taskAt registerCells sys i ≡ outside ε (n ∷ []) = real .results i n (r .ended) in
           let l : i < length (sys .tasks) = subst (λ (m : ℕ). i < m) (sym number) (r .exists) in
           let e : Exists (ran .state) i = below-exists (ran .state) i (subst (λ (m : ℕ). i < m) (sym (k .mirrors .number)) l) in
-          let x = shows-ended (threadAt (ran .state) i) n (subst (λ (y : Task byValue). Shows (compiled j) (threadAt (ran .state) i) y) t (k .mirrors .shown i l)) in
+          let x = shows-ended (threadAt (ran .state) i) n (subst (λ (y : Task registerCells). Shows (compiled j) (threadAt (ran .state) i) y) t (k .mirrors .shown i l)) in
           record { there = e; place = x .0; height = x .1 .0; result = x .1 .1 }
 
 -- Demand 3: for every accepted job

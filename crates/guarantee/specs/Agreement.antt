@@ -6,13 +6,13 @@ use mathlib.Core.List.{List}
 use mathlib.Core.Option.{some}
 use lib.IntN.{pos}
 use lib.ListN.{replicate}
-use Rattle.guarantee.specs.Histories.{History}
+use Rattle.guarantee.specs.Histories.{Session, History}
 use Rattle.code.specs.Bytes.{compiled}
 use Rattle.machine.specs.Steps.{State, pick, fresh, run}
 use Rattle.machine.specs.Fits.{Fits, Typed}
 use Rattle.machine.specs.Answers.{sumOf}
 use Rattle.machine.specs.Source.{SThread, StepM, StepsM}
-use Rattle.machine.specs.Soup.{Soup, StandsFor, ruleOf, named, ByRule, load, StepOn}
+use Rattle.machine.specs.Soup.{Soup, StandsFor, ruleOf, named, ByRule, load, PickOn}
 use Rattle.script.specs.Reader.{Job}
 use Rattle.script.specs.Turns.{Registers}
 use Rattle.stm.specs.Events.{Happened, isIdle}
@@ -26,12 +26,12 @@ pub record Agreement (j : Job) : Type 0 where
   pub fresh-soup : Soup (compiled j) (fresh (compiled j)) (load (j .tree))
   pub has-soup : (s : State) → Fits (compiled j) s → Typed s → (soup : List SThread) × Soup (compiled j) s soup
   -- a pick that is not idle is a step of the soup on that thread, by the rule that its event names
-  pub pick-is-step : (s : State) → Fits (compiled j) s → Typed s → (soup : List SThread) → Soup (compiled j) s soup → (i : ℕ) → isIdle (pick (sumOf j) (compiled j) s i .event) ≡ false → (h′ : Registers) × ((soup′ : List SThread) × StepOn (compiled j) (sumOf j) s i soup h′ soup′)
+  pub pick-is-step : (s : State) → Fits (compiled j) s → Typed s → (soup : List SThread) → Soup (compiled j) s soup → (i : ℕ) → isIdle (pick (sumOf j) (compiled j) s i .event) ≡ false → (h′ : Registers) × ((soup′ : List SThread) × PickOn (compiled j) (sumOf j) s i soup h′ soup′)
   -- and each step of the soup is such a pick, whose event names its rule
-  pub step-is-pick : (s : State) → Fits (compiled j) s → Typed s → (soup : List SThread) → Soup (compiled j) s soup → (h′ : Registers) (soup′ : List SThread) → (step : StepM (sumOf j) (s .registers) soup h′ soup′) → (i : ℕ) × ((isIdle (pick (sumOf j) (compiled j) s i .event) ≡ false) × ((named (pick (sumOf j) (compiled j) s i .event) ≡ some (ruleOf step)) × StepOn (compiled j) (sumOf j) s i soup h′ soup′))
+  pub step-is-pick : (s : State) → Fits (compiled j) s → Typed s → (soup : List SThread) → Soup (compiled j) s soup → (h′ : Registers) (soup′ : List SThread) → (step : StepM (sumOf j) (s .registers) soup h′ soup′) → (i : ℕ) × ((isIdle (pick (sumOf j) (compiled j) s i .event) ≡ false) × ((named (pick (sumOf j) (compiled j) s i .event) ≡ some (ruleOf step)) × PickOn (compiled j) (sumOf j) s i soup h′ soup′))
   -- both also for soups in any order
   pub pick-is-step-same : (s : State) → Fits (compiled j) s → Typed s → (soup : List SThread) → StandsFor (compiled j) s soup → (i : ℕ) → isIdle (pick (sumOf j) (compiled j) s i .event) ≡ false → (soup′ : List SThread) × (ByRule (sumOf j) (s .registers) soup (pick (sumOf j) (compiled j) s i .state .registers) soup′ (pick (sumOf j) (compiled j) s i .event) × StandsFor (compiled j) (pick (sumOf j) (compiled j) s i .state) soup′)
   pub step-is-pick-same : (s : State) → Fits (compiled j) s → Typed s → (soup : List SThread) → StandsFor (compiled j) s soup → (h′ : Registers) (soup′ : List SThread) → (step : StepM (sumOf j) (s .registers) soup h′ soup′) → (i : ℕ) × ((named (pick (sumOf j) (compiled j) s i .event) ≡ some (ruleOf step)) × ((pick (sumOf j) (compiled j) s i .state .registers ≡ h′) × StandsFor (compiled j) (pick (sumOf j) (compiled j) s i .state) soup′))
   -- behind every list of calls stands a soup that the source's machine reaches from the loaded process, every register being 0
-  pub history-reached : {s : State} {events : List Happened} → History (compiled j) s events → (soup : List SThread) × (StepsM (sumOf j) (replicate 64 (pos 0)) (load (j .tree)) (s .registers) soup × StandsFor (compiled j) s soup)
-  pub history-fits : {s : State} {events : List Happened} → History (compiled j) s events → Fits (compiled j) s × Typed s
+  pub history-reached : {now : Session} {events : List Happened} → History (compiled j) now events → (soup : List SThread) × (StepsM (sumOf j) (replicate 64 (pos 0)) (load (j .tree)) (now .state .registers) soup × StandsFor (compiled j) (now .state) soup)
+  pub history-fits : {now : Session} {events : List Happened} → History (compiled j) now events → Fits (compiled j) (now .state) × Typed (now .state)

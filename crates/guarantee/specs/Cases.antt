@@ -14,11 +14,11 @@ use Rattle.script.specs.Reader.{Job, readJob}
 use Rattle.code.specs.Bytes.{compiled}
 use Rattle.code.specs.Reader.{readCode}
 use Rattle.guarantee.specs.Histories.{Ended}
-use Rattle.machine.specs.Threads.{blank, noted}
-use Rattle.machine.specs.Steps.{State, Ran, exists, threadAt, fresh, run}
+use Rattle.thread.specs.Threads.{blank, noted, exists}
+use Rattle.machine.specs.Steps.{State, Ran, threadAt, fresh, run}
 use Rattle.machine.specs.FitTest.{fits}
-use Rattle.machine.specs.Answers.{countsOf, freshSays, stepSays, runSays}
-use Rattle.stm.specs.Events.{fromTable, idle, counted, isIdle, isCommit, isBack, order}
+use Rattle.machine.specs.Answers.{freshSays, stepSays, runSays, freshCall, stepCall, runCall}
+use Rattle.stm.specs.Events.{fromTable, idle, counted, isIdle, isCommit, isBack, order, countsOf}
 use Rattle.word.specs.Sum.{wrapping}
 
 -- job version 1, and so many nodes
@@ -75,11 +75,11 @@ abbrev pub lowCode : List ℕ
 lowCode = compiled (record { version = 1; tree = lowTree })
 
 -- ATOMIC of ADDT (WRITE 0 (VALT 5)) (READ 0)
-abbrev pub ownTree : Proc
-ownTree = Atomic (AddT (Write 0 (ValT (pos 5))) (Read 0))
+abbrev pub ownWriteTree : Proc
+ownWriteTree = Atomic (AddT (Write 0 (ValT (pos 5))) (Read 0))
 
-abbrev pub ownCode : List ℕ
-ownCode = compiled (record { version = 1; tree = ownTree })
+abbrev pub ownWriteCode : List ℕ
+ownWriteCode = compiled (record { version = 1; tree = ownWriteTree })
 
 -- ADDP 5 (ADDP (FORK (ATOMIC (WRITE 0 1))) (ATOMIC (READ 0))), whose root is sent back with two numbers below its transaction
 abbrev pub highTree : Proc
@@ -104,8 +104,8 @@ abbrev pub exchanged : State → State
 exchanged s = record { registers = s .registers; threads = set (set (s .threads) 1 (threadAt s 2)) 2 (threadAt s 1) }
 
 -- thread 1's read log marks register 63, with the value 9
-abbrev pub marked : State → State
-marked s = record { registers = s .registers; threads = set (s .threads) 1 (noted fromTable 63 (pos 9) (threadAt s 1)) }
+abbrev pub withMark : State → State
+withMark s = record { registers = s .registers; threads = set (s .threads) 1 (noted fromTable 63 (pos 9) (threadAt s 1)) }
 
 pub record Cases : Type 0 where
   -- sums
@@ -125,7 +125,7 @@ pub record Cases : Type 0 where
   pub whole-read : readJob wholeJob ≡ accepted wholeTree
   pub whole-written : jobBytes 1 wholeTree ≡ wholeJob
   pub low-read : readJob (header 3 (0x02 ∷ 0x01 ∷ 0x80 ∷ 0x00 ∷ 0x00 ∷ 0x00 ∷ 0x01 ∷ 0xFF ∷ 0xFF ∷ 0xFF ∷ 0xFF ∷ [])) ≡ accepted lowTree
-  pub own-job : readJob (header 5 (0x03 ∷ 0x06 ∷ 0x08 ∷ 0x00 ∷ 0x05 ∷ 0x00 ∷ 0x00 ∷ 0x00 ∷ 0x05 ∷ 0x07 ∷ 0x00 ∷ [])) ≡ accepted ownTree
+  pub own-job : readJob (header 5 (0x03 ∷ 0x06 ∷ 0x08 ∷ 0x00 ∷ 0x05 ∷ 0x00 ∷ 0x00 ∷ 0x00 ∷ 0x05 ∷ 0x07 ∷ 0x00 ∷ [])) ≡ accepted ownWriteTree
   pub high-job : readJob (header 9 (0x02 ∷ 0x01 ∷ 0x00 ∷ 0x00 ∷ 0x00 ∷ 0x05 ∷ 0x02 ∷ 0x04 ∷ 0x03 ∷ 0x08 ∷ 0x00 ∷ 0x05 ∷ 0x00 ∷ 0x00 ∷ 0x00 ∷ 0x01 ∷ 0x03 ∷ 0x07 ∷ 0x00 ∷ [])) ≡ accepted highTree
   -- their code
   pub seven-code : compiled (record { version = 1; tree = ValP (pos 7) }) ≡ 0x57 ∷ 0x53 ∷ 0x43 ∷ 0x00 ∷ 0x01 ∷ 0x01 ∷ 0x00 ∷ 0x00 ∷ 0x00 ∷ 0x07 ∷ []
@@ -139,12 +139,12 @@ pub record Cases : Type 0 where
   pub seven-steps : steps (ran sevenCode (times 1 0)) ≡ 1
   pub seven-done : Ended (ran sevenCode (times 1 0) .state) 0 (pos 7)
   pub low-done : Ended (ran lowCode (times 3 0) .state) 0 (pos 2147483647)
-  pub own-read : threadAt (ran ownCode (times 4 0) .state) 0 .reads ≡ 0
-  pub own-seen : threadAt (ran ownCode (times 4 0) .state) 0 .seen ≡ replicate 64 (pos 0)
-  pub own-added : threadAt (ran ownCode (times 5 0) .state) 0 .reads ≡ 0
-  pub own-kept : threadAt (ran ownCode (times 5 0) .state) 0 .seen ≡ replicate 64 (pos 0)
-  pub own-done : Ended (ran ownCode (times 6 0) .state) 0 (pos 10)
-  pub own-register : getD (ran ownCode (times 6 0) .state .registers) 0 (pos 0) ≡ pos 5
+  pub own-read : threadAt (ran ownWriteCode (times 4 0) .state) 0 .reads ≡ 0
+  pub own-reads : threadAt (ran ownWriteCode (times 4 0) .state) 0 .readlog ≡ replicate 64 (pos 0)
+  pub own-added : threadAt (ran ownWriteCode (times 5 0) .state) 0 .reads ≡ 0
+  pub own-still : threadAt (ran ownWriteCode (times 5 0) .state) 0 .readlog ≡ replicate 64 (pos 0)
+  pub own-done : Ended (ran ownWriteCode (times 6 0) .state) 0 (pos 10)
+  pub own-register : getD (ran ownWriteCode (times 6 0) .state .registers) 0 (pos 0) ≡ pos 5
   pub whole-steps : steps (ran wholeCode wholePicks) ≡ 21
   pub whole-idle : counted isIdle (ran wholeCode wholePicks .events) ≡ 0
   pub whole-commits : counted isCommit (ran wholeCode wholePicks .events) ≡ 2
@@ -162,24 +162,24 @@ pub record Cases : Type 0 where
   pub high-begin : threadAt (ran highCode highPicks .state) 0 .begin ≡ 0
   pub high-base : threadAt (ran highCode highPicks .state) 0 .base ≡ 0
   pub high-reads : threadAt (ran highCode highPicks .state) 0 .reads ≡ 0
-  pub high-seen : threadAt (ran highCode highPicks .state) 0 .seen ≡ replicate 64 (pos 0)
+  pub high-readlog : threadAt (ran highCode highPicks .state) 0 .readlog ≡ replicate 64 (pos 0)
   pub high-done : Ended (ran highCode (highPicks ++ times 5 0) .state) 0 (pos 6)
   -- an empty pick list leaves thread 0 open
   pub none-there : exists (threadAt (ran sevenCode [] .state) 0) ≡ true
   pub none-open : eqb (threadAt (ran sevenCode [] .state) 0 .place) (threadAt (ran sevenCode [] .state) 0 .end) ≡ false
   -- the calls: counts, and refusals 11 before 12 before 13
-  pub run-whole : runSays wholeCode (fresh wholeCode) wholePicks ≡ done (record { steps = 21; idle = 0; commits = 2; back = 1 })
-  pub run-none : runSays sevenCode (fresh sevenCode) [] ≡ done (record { steps = 0; idle = 0; commits = 0; back = 0 })
-  pub step-idle : stepSays sevenCode (ran sevenCode (times 1 0) .state) 0 ≡ done idle
-  pub foreign-code : stepSays [] noThreads 0 ≡ refused 11 0
-  pub foreign-fresh : freshSays sevenCode (record { registers = replicate 64 (pos 0); threads = replicate 15 blank }) ≡ refused 12 0
-  pub foreign-table : freshSays sevenCode (record { registers = replicate 63 (pos 0); threads = replicate 16 blank }) ≡ refused 12 0
-  pub laid-down : freshSays sevenCode noThreads ≡ done tt
-  pub foreign-state : stepSays sevenCode noThreads 0 ≡ refused 12 0
-  pub long-list : runSays sevenCode (fresh sevenCode) (times 32769 0) ≡ refused 13 0
-  pub long-foreign : runSays sevenCode noThreads (times 32769 0) ≡ refused 12 0
+  pub run-whole : runSays (runCall wholeCode (fresh wholeCode) wholePicks .reply) ≡ done (record { steps = 21; idle = 0; commits = 2; back = 1 })
+  pub run-none : runSays (runCall sevenCode (fresh sevenCode) [] .reply) ≡ done (record { steps = 0; idle = 0; commits = 0; back = 0 })
+  pub step-idle : stepSays (stepCall sevenCode (ran sevenCode (times 1 0) .state) 0 .reply) ≡ done idle
+  pub foreign-code : stepSays (stepCall [] noThreads 0 .reply) ≡ refused 11 0
+  pub foreign-fresh : freshSays (freshCall sevenCode (record { registers = replicate 64 (pos 0); threads = replicate 15 blank }) .reply) ≡ refused 12 0
+  pub foreign-table : freshSays (freshCall sevenCode (record { registers = replicate 63 (pos 0); threads = replicate 16 blank }) .reply) ≡ refused 12 0
+  pub laid-down : freshSays (freshCall sevenCode noThreads .reply) ≡ done tt
+  pub foreign-state : stepSays (stepCall sevenCode noThreads 0 .reply) ≡ refused 12 0
+  pub long-list : runSays (runCall sevenCode (fresh sevenCode) (times 32769 0) .reply) ≡ refused 13 0
+  pub long-foreign : runSays (runCall sevenCode noThreads (times 32769 0) .reply) ≡ refused 12 0
   -- states that fit: both children of the whole case in the other order; a log that marks a register which its transaction never names
   pub other-order : fits wholeCode (exchanged (ran wholeCode (times 2 0) .state)) ≡ true
-  pub unnamed : fits wholeCode (marked (ran wholeCode (times 2 0 ++ times 1 1) .state)) ≡ true
-  -- and one that does not: the same register marked outside a transaction
-  pub marked-outside : fits wholeCode (marked (ran wholeCode (times 2 0) .state)) ≡ false
+  pub unnamed : fits wholeCode (withMark (ran wholeCode (times 2 0 ++ times 1 1) .state)) ≡ true
+  -- and one that does not: the same register withMark outside a transaction
+  pub marked-outside : fits wholeCode (withMark (ran wholeCode (times 2 0) .state)) ≡ false

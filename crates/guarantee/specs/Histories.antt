@@ -7,9 +7,9 @@ use lib.IntN.{ℤ, pos}
 use lib.ListN.{length, getD}
 use Rattle.code.specs.Bytes.{compiled}
 use Rattle.machine.specs.Steps.{State, Stepped, threadAt, fresh, Ran}
-use Rattle.stm.specs.Events.{Happened, counted, isCommit, backs, order}
+use Rattle.stm.specs.Events.{Happened, counted, isCommit, backs, order, countsOf}
 use Rattle.machine.specs.Fits.{Exists, Typed, Ranged}
-use Rattle.machine.specs.Answers.{sumOf, stepOf, runOf, countsOf}
+use Rattle.machine.specs.Answers.{sumOf, stepOf, runOf}
 use Rattle.script.specs.Count.{bound}
 use Rattle.script.specs.Bytes.{Bytes}
 use Rattle.script.specs.Outcome.{Outcome, refused, done, mapped}
@@ -48,13 +48,18 @@ abbrev pub comesTo : Call → Outcome Ran
 comesTo (step code s i) = mapped (alone i) (stepOf code s i)
 comesTo (run code s is) = runOf code s is
 
--- A list of calls over a job's code, the state behind it, and its events. "The first call that is not refused has the job's code and a fresh
--- state; each later one that is not refused has the same code and the state that the one before it left." "A refused call, whatever it was
--- lent, leaves that state as it was, and its picks do not count."
-pub data History (code : List ℕ) : State → List Happened → Type 0 where
-  none : History code (fresh code) []
-  turned-down : {s : State} {events : List Happened} {number place : ℕ} → History code s events → (c : Call) → Lent c → comesTo c ≡ refused number place → History code s events
-  followed : {s : State} {events : List Happened} {r : Ran} → History code s events → (c : Call) → Lent c → codeOf c ≡ code → stateOf c ≡ s → comesTo c ≡ done r → History code (r .state) (events ++ r .events)
+-- the code and the state that the next call of a list must have
+pub record Session : Type 0 where
+  pub code : List ℕ
+  pub state : State
+
+-- A list of calls that run a job's code by picks, from a fresh state: the code and the state behind it, and what its picks did. "The first
+-- call that is not refused has the job's code and a fresh state; each later one that is not refused has the same code and the state that the
+-- one before it left." "A refused call, whatever it was lent, leaves that state as it was, and its picks do not count."
+pub data History (code : List ℕ) : Session → List Happened → Type 0 where
+  none : History code (record { code = code; state = fresh code }) []
+  turned-down : {now : Session} {events : List Happened} {number place : ℕ} → History code now events → (c : Call) → Lent c → comesTo c ≡ refused number place → History code now events
+  followed : {now : Session} {events : List Happened} {r : Ran} → History code now events → (c : Call) → Lent c → codeOf c ≡ now .code → stateOf c ≡ now .state → comesTo c ≡ done r → History code (record { code = now .code; state = r .state }) (events ++ r .events)
 
 -- the script itself, fed a list of thread numbers
 unfoldable pub scriptAfter : Job → List ℕ → Script
@@ -82,12 +87,12 @@ pub record Whole (j : Job) (s : State) (events : List Happened) : Type 0 where
 
 -- "Every list of turns that the script can take is the order of some such list of calls", which "also ends every thread that is then a VALP in
 -- the script"
-pub record Taken (j : Job) (is : List ℕ) : Type 0 where
-  pub state : State
+pub record IsOrder (j : Job) (is : List ℕ) : Type 0 where
+  pub now : Session
   pub events : List Happened
-  pub history : History (compiled j) state events
+  pub history : History (compiled j) now events
   pub its-order : order events ≡ is
-  pub ends : (i : ℕ) (n : ℤ) → Result (scriptAfter j is) i n → Ended state i n
+  pub ends : (i : ℕ) (n : ℤ) → Result (scriptAfter j is) i n → Ended (now .state) i n
 
 -- "no thread is sent back twice between neighbouring commits or after the last, nor at all before the first"
 pub record SentBack (events : List Happened) : Type 0 where
@@ -96,8 +101,8 @@ pub record SentBack (events : List Happened) : Type 0 where
 
 -- Demand 3, whole, of an accepted job
 pub record Demand3 (j : Job) : Type 0 where
-  pub whole : {s : State} {events : List Happened} → History (compiled j) s events → Whole j s events
-  pub orders : (is : List ℕ) → CanTake (sumOf j) (initial (j .tree)) is → Taken j is
-  pub sent-back : {s : State} {events : List Happened} → History (compiled j) s events → SentBack events
+  pub whole : {now : Session} {events : List Happened} → History (compiled j) now events → Whole j (now .state) events
+  pub orders : (is : List ℕ) → CanTake (sumOf j) (initial (j .tree)) is → IsOrder j is
+  pub sent-back : {now : Session} {events : List Happened} → History (compiled j) now events → SentBack events
   -- "the job ends within L + (K−1)×(T−1)×M steps, or L if K is 0, idle picks uncounted"
-  pub ends : {s : State} {events : List Happened} → History (compiled j) s events → countsOf events .steps ≤ bound (j .tree)
+  pub ends : {now : Session} {events : List Happened} → History (compiled j) now events → countsOf events .steps ≤ bound (j .tree)

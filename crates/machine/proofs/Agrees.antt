@@ -16,17 +16,17 @@ use Rattle.script.specs.Reader.{Job}
 use Rattle.script.specs.Turns.{Registers}
 use Rattle.script.specs.Soup.{Same}
 use Rattle.script.proofs.Same.{cut, picks-at, same-refl, same-sym, same-trans, take-both, same-left}
-use Rattle.machine.specs.declared.Thread.{Thread}
-use Rattle.machine.specs.Threads.{spawned, closed, firstStale, overlaid}
-use Rattle.machine.specs.Steps.{State, Stepped, put, threadAt, commit, instruction, pick, fresh, run, DoesOne}
+use Rattle.thread.specs.declared.Thread.{Thread}
+use Rattle.thread.specs.Threads.{spawned}
+use Rattle.machine.specs.Steps.{State, Stepped, numberOf, threadAt, settle, pick, fresh, run, DoesOne}
 use Rattle.machine.specs.Fits.{Exists, Fits, Typed}
 use Rattle.machine.specs.Source.{SThread, StepM, StepsM, stop, then}
-use Rattle.machine.specs.Soup.{Carries, nobody, Soup, StandsFor, ruleOf, named, ByRule, load, StepOn}
-use Rattle.machine.specs.Stands.{stackFrom, opOf, Ready}
+use Rattle.machine.specs.Soup.{Carries, nobody, Soup, StandsFor, ruleOf, named, ByRule, load, PickOn}
+use Rattle.machine.specs.Stands.{stackFrom, opOf, Ready, registerCells}
 use Rattle.machine.proofs.Numbers.{in-table}
 use Rattle.machine.proofs.Codes.{stands-end, ready-op, code-ready}
 use Rattle.machine.proofs.Showings.{Shows, shut, open′}
-use Rattle.machine.proofs.Picks.{idle-keeps, does as picks}
+use Rattle.machine.proofs.Picks.{idle-keeps, never-idle, does as picks}
 use Rattle.machine.proofs.Mirrors.{no-inside}
 use Rattle.machine.proofs.Fresh.{fresh-mirrors}
 use Rattle.machine.proofs.Regions.{held}
@@ -34,35 +34,10 @@ use Rattle.machine.proofs.Runs.{shows-of, mirror, room-for, pick-keeps,
 use Rattle.machine.proofs.Rules.{preempted, preempted-rule, named-same, renamed, peel, own}
 use Rattle.machine.proofs.Soups.{soup-of, pick-steps, step-picks}
 use Rattle.stm.specs.Events.{committed, sentBack, isIdle}
-use Rattle.stm.specs.Cells.{byValue}
 use Rattle.stm.specs.Tasks.{Task, start}
 use Rattle.stm.specs.Meaning.{Outside}
 use Rattle.stm.proofs.Bound.{outside-proc}
 use Rattle.word.specs.Sum.{Rule}
-
-never-idle : (sum : Rule) (s : State) (i : ℕ) (t : Thread) (op : Op) → isIdle (instruction sum s i t op .event) ≡ false
-unfolding instruction commit
-never-idle sum s i t (code.push n) = refl
-never-idle sum s i t code.add = refl
-never-idle sum s i t (code.read v) = refl
-never-idle sum s i t (code.write v) = refl
-never-idle sum s i t code.begin = refl
-never-idle sum s i t code.commit = by (ltb (firstStale 64 0 t (s .registers)) 64)
-  where
-    result : Bool → Stepped
-    result b =
-        cond
-        b
-        (record { state = put s i (closed (t .begin) (t .base) t); event = sentBack (firstStale 64 0 t (s .registers)) })
-        (record {
-          state = record { registers = overlaid 64 0 t (s .registers); threads = set (s .threads) i (closed (t .place + 1) (t .height) t) };
-          event = committed;
-        })
-
-    by : (b : Bool) → isIdle (result b .event) ≡ false
-    by true = refl
-    by false = refl
-never-idle sum s i t (code.fork size) = refl
 
 module _ {code : List ℕ} {j : Job} (c : IsCode code j) where
   -- a job's code runs from an empty stack
@@ -105,13 +80,13 @@ module _ {code : List ℕ} {j : Job} (c : IsCode code j) where
       carried (suc i) l = absurd (omega arith)
 
   -- a pick that is not idle is a step of the source's machine, by the rule that its event names
-  pub pick-is-step : (sum : Rule) (s : State) → Fits code s → Typed s → (soup : List SThread) → Soup code s soup → (i : ℕ) → isIdle (pick sum code s i .event) ≡ false → (h′ : Registers) × ((soup′ : List SThread) × StepOn code sum s i soup h′ soup′)
+  pub pick-is-step : (sum : Rule) (s : State) → Fits code s → Typed s → (soup : List SThread) → Soup code s soup → (i : ℕ) → isIdle (pick sum code s i .event) ≡ false → (h′ : Registers) × ((soup′ : List SThread) × PickOn code sum s i soup h′ soup′)
   pick-is-step sum s f y soup x i e =
       let m = mirror c outer s f y in
       pick-steps code sum s (m .0) (m .1) (f .no-gap) (λ k there. held c outer s f y k there) i (room-for c outer sum s (m .0) f y (m .1) i) soup x e
 
   -- and each step of the source's machine is such a pick, whose event names its rule
-  pub step-is-pick : (sum : Rule) (s : State) → Fits code s → Typed s → (soup : List SThread) → Soup code s soup → (h′ : Registers) (soup′ : List SThread) → (step : StepM sum (s .registers) soup h′ soup′) → (i : ℕ) × ((isIdle (pick sum code s i .event) ≡ false) × ((named (pick sum code s i .event) ≡ some (ruleOf step)) × StepOn code sum s i soup h′ soup′))
+  pub step-is-pick : (sum : Rule) (s : State) → Fits code s → Typed s → (soup : List SThread) → Soup code s soup → (h′ : Registers) (soup′ : List SThread) → (step : StepM sum (s .registers) soup h′ soup′) → (i : ℕ) × ((isIdle (pick sum code s i .event) ≡ false) × ((named (pick sum code s i .event) ≡ some (ruleOf step)) × PickOn code sum s i soup h′ soup′))
   step-is-pick sum s f y soup x h′ soup′ e =
       let m = mirror c outer s f y in
       step-picks code sum s (m .0) (m .1) (f .no-gap) (λ k there. held c outer s f y k there) (λ i. room-for c outer sum s (m .0) f y (m .1) i) soup x h′ soup′ e
@@ -174,15 +149,16 @@ module _ {code : List ℕ} {j : Job} (c : IsCode code j) where
 
   -- "Each other pick does one instruction", and is not idle
   pub does-one : (sum : Rule) (s : State) → Fits code s → Typed s → (i : ℕ) → Exists s i → (threadAt s i .place ≡ threadAt s i .end → ⊥) → DoesOne sum code s i
+  unfolding settle
   does-one sum s f y i e ne = go (shows-of (held c outer s f y i e))
     where
       one : {ins : Instruction} {k : Code} → Ready code (threadAt s i .place) (threadAt s i .end) (ins ⨾ k) (threadAt s i .height) → DoesOne sum code s i
       one {ins} r =
           let small : ltb i (length (s .threads)) ≡ true = lt-ltb i (length (s .threads)) (in-table s i e) in
-          let d = picks sum code s i (opOf ins) small e ne (ready-op r) in
-          record { op = opOf ins; at-place = ready-op r; does = d; not-idle = ap (λ (x : Stepped). isIdle (x .event)) d ∙ never-idle sum s i (threadAt s i) (opOf ins) }
+          let d = picks sum code (numberOf (s .threads)) s i (opOf ins) small e ne (ready-op r) in
+          record { op = opOf ins; at-place = ready-op r; does = d; not-idle = ap (λ (x : Stepped). isIdle (x .event)) d ∙ never-idle sum (s .registers) (threadAt s i) (opOf ins) }
 
-      go : (task : Task byValue) × Shows code (threadAt s i) task → DoesOne sum code s i
+      go : (task : Task registerCells) × Shows code (threadAt s i) task → DoesOne sum code s i
       go (t, shut ε r o z) = absurd (ne (stands-end (r .stands)))
       go (t, shut (ins ⨾ k) r o z) = one r
       go (t, open′ body ε k r o h w g x q) = absurd (no-inside k (threadAt s i .base) o)

@@ -11,14 +11,9 @@ use Rattle.machine.specs.Steps.{State, Stepped, Ran, pick, fresh, run}
 use Rattle.machine.specs.Fits.{Fits, Typed}
 use Rattle.machine.specs.FitTest.{fits}
 use Rattle.machine.specs.Answers as answers
-use Rattle.machine.specs.declared.Laid.{Laid}
-use Rattle.machine.specs.declared.Laid.the-variants as laid
-use Rattle.machine.specs.declared.Moved.{Moved}
-use Rattle.machine.specs.declared.Moved.the-variants as moved
-use Rattle.machine.specs.declared.Tally.{Tally}
-use Rattle.machine.specs.declared.Tally.the-variants as tally
-use Rattle.machine.specs.Answers.{sumOf, rightLengths, fitting, freshOf, stepOf, runOf, leaves, freshLeaves, stepLeaves, runLeaves, Counts, laidSays, movedSays, tallySays, laidOf, movedOf, tallyOf, FreshAnswer, StepAnswer, RunAnswer}
-use Rattle.stm.specs.Events.{fromWrites, fromReads, fromTable, Event, idle, pushed, summed, forked, begun, looked, wrote, committed, sentBack}
+use Rattle.machine.specs.Answers.{sumOf, rightLengths, fitting, freshOf, stepOf, runOf, freshReply, stepReply, runReply, freshSays, stepSays, runSays, returned, freshCall, stepCall, runCall, FreshAnswer, StepAnswer, RunAnswer}
+use Rattle.stm.specs.Events.{countsOf}
+use Rattle.stm.proofs.Counts.{event-of}
 use Rattle.machine.proofs.Numbers.{never}
 use Rattle.machine.proofs.FitTests.{fits-exactly}
 use Rattle.machine.proofs.Fresh.{fresh-fits, fresh-typed}
@@ -28,7 +23,7 @@ use Rattle.code.specs.Reader.{readCode}
 use Rattle.code.proofs.Foreign.{only-foreign, foreign-exactly}
 use Rattle.code.proofs.ReadBack.{read-is-code}
 use Rattle.script.specs.Bytes.{Bytes}
-use Rattle.script.specs.Outcome.{Outcome, refused, done, refuse, onward}
+use Rattle.script.specs.Outcome.{Outcome, refused, done, refuse, onward, mapped}
 use Rattle.script.specs.Reader.{Job}
 use Rattle.script.proofs.Accepts.{both}
 
@@ -37,6 +32,12 @@ eleven : (code : List ℕ) (n p : ℕ) → readCode code ≡ refused n p → rea
 eleven code n p e =
     let o = only-foreign code n p e in
     e ∙ (ap (λ (m : ℕ). refused m p) (o .0) ∙ ap (λ (m : ℕ). refused 11 m) (o .1))
+
+-- what holds of 11 at 0 holds of every refusal of code
+eleventh : (P : ℕ → ℕ → Type 0) (code : List ℕ) (n p : ℕ) → readCode code ≡ refused n p → P 11 0 → P n p
+eleventh P code n p e x =
+    let o = only-foreign code n p e in
+    subst (λ (m : ℕ). P m p) (sym (o .0)) (subst (λ (m : ℕ). P 11 m) (sym (o .1)) x)
 
 -- `fresh`: 11, then the two lengths
 pub fresh-answers : (code : List ℕ) (s : State) → Bytes code → FreshAnswer code s (freshOf code s)
@@ -89,8 +90,8 @@ run-answers code s is b y = by (readCode code) refl
 
 -- ---- what the calls leave: a state that fits, or the one that was lent
 -- `fresh` that is not refused leaves a state that fits
-pub fresh-leaves : (code : List ℕ) (s r : State) → Bytes code → freshOf code s ≡ done r → Fits code r × Typed r
-fresh-leaves code s r b e = by (freshOf code s) e (fresh-answers code s b)
+pub fresh-call-fits : (code : List ℕ) (s r : State) → Bytes code → freshOf code s ≡ done r → Fits code r × Typed r
+fresh-call-fits code s r b e = by (freshOf code s) e (fresh-answers code s b)
   where
     by : (o : Outcome State) → o ≡ done r → FreshAnswer code s o → Fits code r × Typed r
     by o q (answers.foreign-code f) = absurd (let z : _≡_ {A = ℕ} 0 1 = cc in omega arith)
@@ -98,8 +99,8 @@ fresh-leaves code s r b e = by (freshOf code s) e (fresh-answers code s b)
     by o q (answers.laid-down c k l) = let x : fresh code ≡ r = cc in subst (λ (y : State). Fits code y × Typed y) x (fresh-fits code, fresh-typed code)
 
 -- and so does a step
-pub step-leaves : (code : List ℕ) (s : State) (i : ℕ) (r : Stepped) → Bytes code → Typed s → stepOf code s i ≡ done r → Fits code (r .state) × Typed (r .state)
-step-leaves code s i r b y e = by (stepOf code s i) e (step-answers code s i b y)
+pub step-call-fits : (code : List ℕ) (s : State) (i : ℕ) (r : Stepped) → Bytes code → Typed s → stepOf code s i ≡ done r → Fits code (r .state) × Typed (r .state)
+step-call-fits code s i r b y e = by (stepOf code s i) e (step-answers code s i b y)
   where
     by : (o : Outcome Stepped) → o ≡ done r → StepAnswer code s i o → Fits code (r .state) × Typed (r .state)
     by o q (answers.foreign-code f) = absurd (let z : _≡_ {A = ℕ} 0 1 = cc in omega arith)
@@ -107,8 +108,8 @@ step-leaves code s i r b y e = by (stepOf code s i) e (step-answers code s i b y
     by o q (answers.picked {j} c f) = let x : pick (sumOf j) code s i ≡ r = cc in subst (λ (z : Stepped). Fits code (z .state) × Typed (z .state)) x (step-fits c (sumOf j) s f y i)
 
 -- and a run
-pub run-leaves : (code : List ℕ) (s : State) (is : List ℕ) (r : Ran) → Bytes code → Typed s → runOf code s is ≡ done r → Fits code (r .state) × Typed (r .state)
-run-leaves code s is r b y e = by (runOf code s is) e (run-answers code s is b y)
+pub run-call-fits : (code : List ℕ) (s : State) (is : List ℕ) (r : Ran) → Bytes code → Typed s → runOf code s is ≡ done r → Fits code (r .state) × Typed (r .state)
+run-call-fits code s is r b y e = by (runOf code s is) e (run-answers code s is b y)
   where
     by : (o : Outcome Ran) → o ≡ done r → RunAnswer code s is o → Fits code (r .state) × Typed (r .state)
     by o q (answers.foreign-code f) = absurd (let z : _≡_ {A = ℕ} 0 1 = cc in omega arith)
@@ -116,73 +117,67 @@ run-leaves code s is r b y e = by (runOf code s is) e (run-answers code s is b y
     by o q (answers.long-list c f l) = absurd (let z : _≡_ {A = ℕ} 0 1 = cc in omega arith)
     by o q (answers.ran {j} c f l) = let x : run (sumOf j) code s is ≡ r = cc in subst (λ (z : Ran). Fits code (z .state) × Typed (z .state)) x (run-fits c (sumOf j) s f y is)
 
--- "A refusal .. alters no lent memory"
-pub fresh-keeps : (code : List ℕ) (s : State) (n p : ℕ) → freshOf code s ≡ refused n p → freshLeaves code s ≡ s
-unfolding freshLeaves
-fresh-keeps code s n p e = ap (λ (o : Outcome State). leaves (λ (x : State). x) o s) e
+-- ---- what the calls return
+-- a refused call returns what it was lent: "A refusal returns its number and a place, and alters no lent memory"
+pub fresh-refused : (code : List ℕ) (s : State) (n p : ℕ) → freshOf code s ≡ refused n p → freshCall code s ≡ record { state = s; reply = freshReply (refused n p) }
+unfolding freshCall
+fresh-refused code s n p e = ap (λ (o : Outcome State). returned (λ (r : State). r) freshReply s o) e
 
-pub step-keeps : (code : List ℕ) (s : State) (i n p : ℕ) → stepOf code s i ≡ refused n p → stepLeaves code s i ≡ s
-unfolding stepLeaves
-step-keeps code s i n p e = ap (λ (o : Outcome Stepped). leaves (λ (x : Stepped). x .state) o s) e
+pub step-refused : (code : List ℕ) (s : State) (i n p : ℕ) → stepOf code s i ≡ refused n p → stepCall code s i ≡ record { state = s; reply = stepReply (refused n p) }
+unfolding stepCall
+step-refused code s i n p e = ap (λ (o : Outcome Stepped). returned (λ (r : Stepped). r .state) stepReply s o) e
 
-pub run-keeps : (code : List ℕ) (s : State) (is : List ℕ) (n p : ℕ) → runOf code s is ≡ refused n p → runLeaves code s is ≡ s
-unfolding runLeaves
-run-keeps code s is n p e = ap (λ (o : Outcome Ran). leaves (λ (x : Ran). x .state) o s) e
+pub run-refused : (code : List ℕ) (s : State) (is : List ℕ) (n p : ℕ) → runOf code s is ≡ refused n p → runCall code s is ≡ record { state = s; reply = runReply (refused n p) }
+unfolding runCall
+run-refused code s is n p e = ap (λ (o : Outcome Ran). returned (λ (r : Ran). r .state) runReply s o) e
 
--- a call that is not refused leaves what it comes to
-pub fresh-lays : (code : List ℕ) (s r : State) → freshOf code s ≡ done r → freshLeaves code s ≡ r
-unfolding freshLeaves
-fresh-lays code s r e = ap (λ (o : Outcome State). leaves (λ (x : State). x) o s) e
+-- a call that is not refused returns what it comes to
+pub fresh-taken : (code : List ℕ) (s r : State) → freshOf code s ≡ done r → freshCall code s ≡ record { state = r; reply = freshReply (done r) }
+unfolding freshCall
+fresh-taken code s r e = ap (λ (o : Outcome State). returned (λ (r : State). r) freshReply s o) e
 
-pub step-moves : (code : List ℕ) (s : State) (i : ℕ) (r : Stepped) → stepOf code s i ≡ done r → stepLeaves code s i ≡ r .state
-unfolding stepLeaves
-step-moves code s i r e = ap (λ (o : Outcome Stepped). leaves (λ (x : Stepped). x .state) o s) e
+pub step-taken : (code : List ℕ) (s : State) (i : ℕ) (r : Stepped) → stepOf code s i ≡ done r → stepCall code s i ≡ record { state = r .state; reply = stepReply (done r) }
+unfolding stepCall
+step-taken code s i r e = ap (λ (o : Outcome Stepped). returned (λ (r : Stepped). r .state) stepReply s o) e
 
-pub run-moves : (code : List ℕ) (s : State) (is : List ℕ) (r : Ran) → runOf code s is ≡ done r → runLeaves code s is ≡ r .state
-unfolding runLeaves
-run-moves code s is r e = ap (λ (o : Outcome Ran). leaves (λ (x : Ran). x .state) o s) e
+pub run-taken : (code : List ℕ) (s : State) (is : List ℕ) (r : Ran) → runOf code s is ≡ done r → runCall code s is ≡ record { state = r .state; reply = runReply (done r) }
+unfolding runCall
+run-taken code s is r e = ap (λ (o : Outcome Ran). returned (λ (r : Ran). r .state) runReply s o) e
 
--- ---- each answer says its outcome, and each outcome has one answer
-pub laid-says : (o : Outcome (Unit {0})) → laidSays (laidOf o) ≡ o
-laid-says (refused n p) = refl
-laid-says (done tt) = refl
+-- ---- each answer says what the call comes to: no refusal has number 0
+pub fresh-says : (code : List ℕ) (s : State) → freshSays (freshCall code s .reply) ≡ mapped (λ (r : State). tt) (freshOf code s)
+unfolding freshCall freshOf
+fresh-says code s = by (readCode code) refl
+  where
+    by : (o : Outcome Job) → readCode code ≡ o → freshSays (returned (λ (r : State). r) freshReply s (onward o (λ j. rightLengths s (done (fresh code)))) .reply) ≡ mapped (λ (r : State). tt) (onward o (λ j. rightLengths s (done (fresh code))))
+    by (refused n p) e = eleventh (λ m q. freshSays (freshReply (refused m q)) ≡ refused m q) code n p e refl
+    by (done j) e = go (not (eqb (length (s .threads)) 16 && eqb (length (s .registers)) 64))
+      where
+        go : (b : Bool) → freshSays (returned (λ (r : State). r) freshReply s (refuse b 12 0 (done (fresh code))) .reply) ≡ mapped (λ (r : State). tt) (refuse b 12 0 (done (fresh code)))
+        go true = refl
+        go false = refl
 
-pub moved-says : (o : Outcome Event) → movedSays (movedOf o) ≡ o
-moved-says (refused n p) = refl
-moved-says (done idle) = refl
-moved-says (done pushed) = refl
-moved-says (done (summed inside)) = refl
-moved-says (done forked) = refl
-moved-says (done begun) = refl
-moved-says (done (looked fromWrites)) = refl
-moved-says (done (looked fromReads)) = refl
-moved-says (done (looked fromTable)) = refl
-moved-says (done wrote) = refl
-moved-says (done committed) = refl
-moved-says (done (sentBack v)) = refl
+pub step-says : (code : List ℕ) (s : State) (i : ℕ) → stepSays (stepCall code s i .reply) ≡ mapped (λ (r : Stepped). r .event) (stepOf code s i)
+unfolding stepCall stepOf
+step-says code s i = by (readCode code) refl
+  where
+    by : (o : Outcome Job) → readCode code ≡ o → stepSays (returned (λ (r : Stepped). r .state) stepReply s (onward o (λ j. fitting code s (done (pick (sumOf j) code s i)))) .reply) ≡ mapped (λ (r : Stepped). r .event) (onward o (λ j. fitting code s (done (pick (sumOf j) code s i))))
+    by (refused n p) e = eleventh (λ m q. stepSays (stepReply (refused m q)) ≡ refused m q) code n p e refl
+    by (done j) e = go (not (fits code s))
+      where
+        go : (b : Bool) → stepSays (returned (λ (r : Stepped). r .state) stepReply s (refuse b 12 0 (done (pick (sumOf j) code s i))) .reply) ≡ mapped (λ (r : Stepped). r .event) (refuse b 12 0 (done (pick (sumOf j) code s i)))
+        go true = refl
+        go false = ap done (event-of (pick (sumOf j) code s i .event))
 
-pub tally-says : (o : Outcome Counts) → tallySays (tallyOf o) ≡ o
-tally-says (refused n p) = refl
-tally-says (done c) = refl
-
-pub laid-of : (a : Laid) → laidOf (laidSays a) ≡ a
-laid-of laid.Done = refl
-laid-of (laid.Refused n p) = refl
-
-pub moved-of : (a : Moved) → movedOf (movedSays a) ≡ a
-moved-of moved.Idle = refl
-moved-of moved.Pushed = refl
-moved-of (moved.Summed inside) = refl
-moved-of moved.Forked = refl
-moved-of moved.Begun = refl
-moved-of moved.LookedInWrites = refl
-moved-of moved.LookedInReads = refl
-moved-of moved.LookedInTable = refl
-moved-of moved.Wrote = refl
-moved-of moved.Committed = refl
-moved-of (moved.SentBack v) = refl
-moved-of (moved.Refused n p) = refl
-
-pub tally-of : (a : Tally) → tallyOf (tallySays a) ≡ a
-tally-of (tally.Ran a b c d) = refl
-tally-of (tally.Refused n p) = refl
+pub run-says : (code : List ℕ) (s : State) (is : List ℕ) → runSays (runCall code s is .reply) ≡ mapped (λ (r : Ran). countsOf (r .events)) (runOf code s is)
+unfolding runCall runOf
+run-says code s is = by (readCode code) refl
+  where
+    by : (o : Outcome Job) → readCode code ≡ o → runSays (returned (λ (r : Ran). r .state) runReply s (onward o (λ j. fitting code s (refuse (ltb 32768 (length is)) 13 0 (done (run (sumOf j) code s is))))) .reply) ≡ mapped (λ (r : Ran). countsOf (r .events)) (onward o (λ j. fitting code s (refuse (ltb 32768 (length is)) 13 0 (done (run (sumOf j) code s is)))))
+    by (refused n p) e = eleventh (λ m q. runSays (runReply (refused m q)) ≡ refused m q) code n p e refl
+    by (done j) e = go (not (fits code s)) (ltb 32768 (length is))
+      where
+        go : (b c : Bool) → runSays (returned (λ (r : Ran). r .state) runReply s (refuse b 12 0 (refuse c 13 0 (done (run (sumOf j) code s is)))) .reply) ≡ mapped (λ (r : Ran). countsOf (r .events)) (refuse b 12 0 (refuse c 13 0 (done (run (sumOf j) code s is))))
+        go true c = refl
+        go false true = refl
+        go false false = refl

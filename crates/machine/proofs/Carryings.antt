@@ -14,15 +14,15 @@ use Rattle.code.specs.Compile.{Instruction, Code, PUSH, ADD, READ, WRITE, BEGIN
 use Rattle.code.specs.Bytes.{instructionsBytes}
 use Rattle.code.specs.Reader.{Op}
 use Rattle.code.specs.Reader as code
-use Rattle.machine.specs.declared.Thread.{Thread}
-use Rattle.machine.specs.Threads.{zeros, spawned, push, add, begin, below, sourceOf, readFrom, noted, read, write, closed, stale, firstStale, overlaid}
+use Rattle.thread.specs.declared.Thread.{Thread}
+use Rattle.thread.specs.Threads.{zeros, spawned, push, add, begin, below, sourceOf, readFrom, noted, read, write, closed, stale, firstStale, overlaid, logOf, readLog, writeLog}
 use Rattle.stm.specs.Events.{Source, fromWrites, fromReads, fromTable, committed, sentBack}
-use Rattle.machine.specs.Steps.{State, Stepped, numberOf, put, commit, instruction}
+use Rattle.machine.specs.Steps.{State, Stepped, numberOf, committing, commit, instruction, act, settle}
 use Rattle.machine.specs.Fits.{nextPlace, TypedThread}
 use Rattle.machine.specs.Source.{Log, empty, updated, SThread, Looked, lookedUp, lookUp, agrees, consistent, entered, overridden, StepM, ForkM, PushM, AddM, BeginM, ReadM, WriteM, Committed, Failed}
 use Rattle.script.specs.Turns.{Registers}
 use Rattle.machine.specs.Soup.{Carries, ruleOf, named}
-use Rattle.machine.specs.Stands.{ValuedI, ValuedC, stackFrom, logOf, opOf}
+use Rattle.machine.specs.Stands.{ValuedI, ValuedC, stackFrom, opOf}
 use Rattle.machine.proofs.Codes.{stands-next, stands-child}
 use Rattle.machine.proofs.Showings.{stack-suc, stack-push, stack-add, stack-closed, log-none, log-with}
 use Rattle.machine.specs.Soup.{First}
@@ -80,16 +80,16 @@ log-updated : (set′ : ℕ) (ns : List ℤ) (r : Log) (v : ℕ) (n : ℤ) → v
 log-updated set′ ns r v n l e f u =
     ap (λ (y : Option ℤ). cond (eqb u v) (some n) y) (f u) ∙ sym (ap (λ (g : ℕ → Option ℤ). g u) (log-with set′ ns v n l e))
 
-agrees-stale : (t : Thread) (table : List ℤ) (v : ℕ) → agrees (logOf (t .reads) (t .seen) v) (getD table v (pos 0)) ≡ not (stale t table v)
+agrees-stale : (t : Thread) (table : List ℤ) (v : ℕ) → agrees (readLog t v) (getD table v (pos 0)) ≡ not (stale t table v)
 unfolding stale logOf
 agrees-stale t table v = go (member (t .reads) v)
   where
-    go : (b : Bool) → agrees (cond b (some (getD (t .seen) v (pos 0))) none) (getD table v (pos 0)) ≡ not (b && (ltZ (getD (t .seen) v (pos 0)) (getD table v (pos 0)) || ltZ (getD table v (pos 0)) (getD (t .seen) v (pos 0))))
+    go : (b : Bool) → agrees (cond b (some (getD (t .readlog) v (pos 0))) none) (getD table v (pos 0)) ≡ not (b && (ltZ (getD (t .readlog) v (pos 0)) (getD table v (pos 0)) || ltZ (getD table v (pos 0)) (getD (t .readlog) v (pos 0))))
     go true = refl
     go false = refl
 
 -- the read log agrees with the table exactly if no register is stale
-consistent-fresh : (t : Thread) (r : Log) (table : List ℤ) → ((v : ℕ) → r v ≡ logOf (t .reads) (t .seen) v) → (left v : ℕ) → ltb (firstStale left v t table) (left + v) ≡ not (consistent left v r table)
+consistent-fresh : (t : Thread) (r : Log) (table : List ℤ) → ((v : ℕ) → r v ≡ readLog t v) → (left v : ℕ) → ltb (firstStale left v t table) (left + v) ≡ not (consistent left v r table)
 unfolding firstStale consistent
 consistent-fresh t r table f zero v = le-ltb v (0 + v) (omega arith)
 consistent-fresh t r table f (suc left) v = go (stale t table v) (agrees (r v) (getD table v (pos 0))) (ap (λ (y : Option ℤ). agrees y (getD table v (pos 0))) (f v) ∙ agrees-stale t table v) (consistent-fresh t r table f left (suc v))
@@ -100,12 +100,12 @@ consistent-fresh t r table f (suc left) v = go (stale t table v) (agrees (r v) (
     go false true e h = ap (λ (n : ℕ). ltb (firstStale left (suc v) t table) n) (let z : suc left + v ≡ left + suc v = omega arith in z) ∙ h
     go false false e h = absurd (let z : _≡_ {A = ℕ} 0 1 = cc in omega arith)
 
-overlaid-overridden : (t : Thread) (w : Log) → ((v : ℕ) → w v ≡ logOf (t .writes) (t .kept) v) → (left v : ℕ) (table : List ℤ) → overlaid left v t table ≡ overridden left v table w
+overlaid-overridden : (t : Thread) (w : Log) → ((v : ℕ) → w v ≡ writeLog t v) → (left v : ℕ) (table : List ℤ) → overlaid left v t table ≡ overridden left v table w
 unfolding overlaid overridden logOf
 overlaid-overridden t w f zero v table = refl
-overlaid-overridden t w f (suc left) v table = overlaid-overridden t w f left (suc v) (cond (member (t .writes) v) (set table v (getD (t .kept) v (pos 0))) table) ∙ ap (λ (y : List ℤ). overridden left (suc v) y w) (go (member (t .writes) v) (w v) (f v))
+overlaid-overridden t w f (suc left) v table = overlaid-overridden t w f left (suc v) (cond (member (t .writes) v) (set table v (getD (t .writelog) v (pos 0))) table) ∙ ap (λ (y : List ℤ). overridden left (suc v) y w) (go (member (t .writes) v) (w v) (f v))
   where
-    go : (b : Bool) (o : Option ℤ) → o ≡ cond b (some (getD (t .kept) v (pos 0))) none → cond b (set table v (getD (t .kept) v (pos 0))) table ≡ entered o v table
+    go : (b : Bool) (o : Option ℤ) → o ≡ cond b (some (getD (t .writelog) v (pos 0))) none → cond b (set table v (getD (t .writelog) v (pos 0))) table ≡ entered o v table
     go true o e = sym (ap (λ (y : Option ℤ). entered y v table) e)
     go false o e = sym (ap (λ (y : Option ℤ). entered y v table) e)
 
@@ -132,7 +132,7 @@ module _ (bytes : List ℕ) (sum : Rule) (s : State) (j : ℕ) (t : Thread) (y :
         }
 
     follows-push : (n : ℤ) → Carries bytes t (at (PUSH n)) → Fine s t (code.push n) → Thus (at (PUSH n)) (instruction sum s j t (code.push n))
-    unfolding instruction Fine nextPlace ruleOf First push
+    unfolding act settle Fine nextPlace ruleOf First push
     follows-push n x l =
         record {
           thread = push n (t .place + 5) t;
@@ -161,7 +161,7 @@ module _ (bytes : List ℕ) (sum : Rule) (s : State) (j : ℕ) (t : Thread) (y :
         }
 
     follows-fork : (k : Code) → Carries bytes t (at (FORK k)) → Fine s t (code.fork (length (instructionsBytes k))) → Thus (at (FORK k)) (instruction sum s j t (code.fork (length (instructionsBytes k))))
-    unfolding instruction Fine nextPlace ruleOf First push
+    unfolding act settle Fine nextPlace ruleOf First push
     follows-fork k x l =
         record {
           thread = push (pos 0) (t .place + 3 + length (instructionsBytes k)) t;
@@ -178,7 +178,7 @@ module _ (bytes : List ℕ) (sum : Rule) (s : State) (j : ℕ) (t : Thread) (y :
         }
 
     follows-begin : Carries bytes t (at BEGIN) → Thus (at BEGIN) (instruction sum s j t code.begin)
-    unfolding instruction nextPlace ruleOf First begin ValuedC
+    unfolding act settle nextPlace ruleOf First begin ValuedC
     follows-begin x =
         record {
           thread = begin t;
@@ -206,7 +206,7 @@ module _ (bytes : List ℕ) (sum : Rule) (s : State) (j : ℕ) (t : Thread) (y :
     unfolding read sourceOf lookUp push logOf nextPlace
     looks v x small l open′ =
         subst (λ (o : Option ℤ). Carries bytes (found (member (t .writes) v) (member (t .reads) v)) (after (lookedUp o (r v) table r v))) (sym (x .writes open′ v))
-        (subst (λ (o : Option ℤ). Carries bytes (found (member (t .writes) v) (member (t .reads) v)) (after (lookedUp (cond (member (t .writes) v) (some (getD (t .kept) v (pos 0))) none) o table r v))) (sym (x .reads open′ v))
+        (subst (λ (o : Option ℤ). Carries bytes (found (member (t .writes) v) (member (t .reads) v)) (after (lookedUp (cond (member (t .writes) v) (some (getD (t .writelog) v (pos 0))) none) o table r v))) (sym (x .reads open′ v))
         (go (member (t .writes) v) (member (t .reads) v)))
       where
         table : ℤ
@@ -221,9 +221,9 @@ module _ (bytes : List ℕ) (sum : Rule) (s : State) (j : ℕ) (t : Thread) (y :
         found : Bool → Bool → Thread
         found a b = push (readFrom (from a b) (s .registers) t v) (t .place + 2) (noted (from a b) v (readFrom (from a b) (s .registers) t v) t)
 
-        go : (a b : Bool) → Carries bytes (found a b) (after (lookedUp (cond a (some (getD (t .kept) v (pos 0))) none) (cond b (some (getD (t .seen) v (pos 0))) none) table r v))
-        go true b = pushes (READ v) (getD (t .kept) v (pos 0)) x l
-        go false true = pushes (READ v) (getD (t .seen) v (pos 0)) x l
+        go : (a b : Bool) → Carries bytes (found a b) (after (lookedUp (cond a (some (getD (t .writelog) v (pos 0))) none) (cond b (some (getD (t .readlog) v (pos 0))) none) table r v))
+        go true b = pushes (READ v) (getD (t .writelog) v (pos 0)) x l
+        go false true = pushes (READ v) (getD (t .readlog) v (pos 0)) x l
         go false false =
             let p = pushes (READ v) table x l in
             record {
@@ -231,12 +231,12 @@ module _ (bytes : List ℕ) (sum : Rule) (s : State) (j : ℕ) (t : Thread) (y :
               valued = p .valued;
               stack = p .stack;
               again = p .again;
-              reads = λ o. log-updated (t .reads) (t .seen) r v table small (y .seen) (x .reads o);
+              reads = λ o. log-updated (t .reads) (t .readlog) r v table small (y .readlog) (x .reads o);
               writes = p .writes;
             }
 
     follows-read : (v : ℕ) → Carries bytes t (at (READ v)) → Fine s t (code.read v) → Thus (at (READ v)) (instruction sum s j t (code.read v))
-    unfolding instruction Fine ruleOf First read push
+    unfolding act settle Fine ruleOf First read push
     follows-read v x l =
         record {
           thread = read (s .registers) v t;
@@ -265,7 +265,7 @@ module _ (bytes : List ℕ) (sum : Rule) (s : State) (j : ℕ) (t : Thread) (y :
     with-stack i σ = record { code = i ⨾ c; stack = σ; again = f; reads = r; writes = w }
 
     follows-add : Carries bytes t (with-stack ADD (below t 1 ∷ below t 2 ∷ stackFrom (t .cells) 0 (t .height - 2))) → Fine s t code.add → Thus (with-stack ADD (below t 1 ∷ below t 2 ∷ stackFrom (t .cells) 0 (t .height - 2))) (instruction sum s j t code.add)
-    unfolding instruction Fine nextPlace ruleOf First add ValuedC
+    unfolding act settle Fine nextPlace ruleOf First add ValuedC
     follows-add x l =
         record {
           thread = add sum t;
@@ -289,7 +289,7 @@ module _ (bytes : List ℕ) (sum : Rule) (s : State) (j : ℕ) (t : Thread) (y :
         }
 
     follows-write : (v : ℕ) → Carries bytes t (with-stack (WRITE v) (below t 1 ∷ stackFrom (t .cells) 0 (t .height - 1))) → Fine s t (code.write v) → Thus (with-stack (WRITE v) (below t 1 ∷ stackFrom (t .cells) 0 (t .height - 1))) (instruction sum s j t (code.write v))
-    unfolding instruction Fine nextPlace ruleOf First write ValuedC
+    unfolding act settle Fine nextPlace ruleOf First write ValuedC
     follows-write v x l =
         record {
           thread = write v t;
@@ -302,7 +302,7 @@ module _ (bytes : List ℕ) (sum : Rule) (s : State) (j : ℕ) (t : Thread) (y :
             stack = x .stack;
             again = x .again;
             reads = x .reads;
-            writes = λ o. log-updated (t .writes) (t .kept) w v (below t 1) (l .0) (y .kept) (x .writes o);
+            writes = λ o. log-updated (t .writes) (t .writelog) w v (below t 1) (l .0) (y .writelog) (x .writes o);
           };
           start = refl;
           threads = nobody;
@@ -313,16 +313,13 @@ module _ (bytes : List ℕ) (sum : Rule) (s : State) (j : ℕ) (t : Thread) (y :
         }
 
     follows-commit : Carries bytes t (with-stack COMMIT (below t 1 ∷ stackFrom (t .cells) 0 (t .height - 1))) → Fine s t code.commit → Thus (with-stack COMMIT (below t 1 ∷ stackFrom (t .cells) 0 (t .height - 1))) (instruction sum s j t code.commit)
-    unfolding instruction Fine nextPlace ruleOf First commit closed ValuedC
+    unfolding act settle commit Fine nextPlace ruleOf First closed ValuedC
     follows-commit x l = go (consistent 64 0 r (s .registers)) refl (ltb (firstStale 64 0 t (s .registers)) 64) (consistent-fresh t r (s .registers) (x .reads (l .1)) 64 0)
       where
         v : ℕ
         v = firstStale 64 0 t (s .registers)
 
-        go : (b : Bool) → consistent 64 0 r (s .registers) ≡ b → (a : Bool) → a ≡ not (consistent 64 0 r (s .registers)) → Thus (with-stack COMMIT (below t 1 ∷ stackFrom (t .cells) 0 (t .height - 1))) (cond a (record { state = put s j (closed (t .begin) (t .base) t); event = sentBack v }) (record {
-          state = record { registers = overlaid 64 0 t (s .registers); threads = set (s .threads) j (closed (t .place + 1) (t .height) t) };
-          event = committed;
-        }))
+        go : (b : Bool) → consistent 64 0 r (s .registers) ≡ b → (a : Bool) → a ≡ not (consistent 64 0 r (s .registers)) → Thus (with-stack COMMIT (below t 1 ∷ stackFrom (t .cells) 0 (t .height - 1))) (settle (numberOf (s .threads)) s j (committing a (s .registers) t v))
         go true e true q = absurd (let z : _≡_ {A = ℕ} 0 1 = cc in omega arith)
         go true e false q =
             record {

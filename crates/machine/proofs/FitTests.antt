@@ -12,10 +12,10 @@ use lib.Dec.{eqb, ltb}
 use lib.IntN.{ℤ, pos, negsuc}
 use lib.ListN.{length, drop, getD, getD-replicate, length-replicate, List·getD-eq-default}
 use lib.Seq.{ext-getD}
-use Rattle.machine.specs.declared.Thread.{Thread}
-use Rattle.machine.specs.Threads.{zeros, blank}
-use Rattle.machine.specs.Steps.{State, exists, threadAt}
-use Rattle.machine.specs.Fits.{Child, Walked, unmoved, Walks, starts, In, here, there, ownCode, Passed, Placed, Exists, Forked, OneThread, Fits, TypedThread, Typed}
+use Rattle.thread.specs.declared.Thread.{Thread}
+use Rattle.thread.specs.Threads.{zeros, blank, exists}
+use Rattle.machine.specs.Steps.{State, threadAt, Child}
+use Rattle.machine.specs.Fits.{Walked, unmoved, Walks, starts, In, here, there, ownCode, Passed, Placed, Exists, Forked, OneThread, Fits, TypedThread, Typed}
 use Rattle.machine.specs.FitTest.{walkTo, isZero, freeFrom, free, agreesWith, placed, allZero, noneBehind, inFront, same, childrenOf, passedBy, among, allAmong, threadsOf, oneEach, fits}
 use Rattle.machine.proofs.Walking.{walks-found, found-walks}
 use Rattle.word.specs.Registers.{member}
@@ -125,15 +125,15 @@ found-walked bytes t w e = found-walks bytes (t .start) (t .end) (suc (t .place)
 
 is-placed : (bytes : List ℕ) (t : Thread) → TypedThread t → placed bytes t ≡ true → Placed bytes t
 unfolding placed
-is-placed bytes t y e = go (walkTo bytes t) refl (first (agreesWith t (walkTo bytes t)) (free (member (t .reads)) (t .seen) && (free (member (t .writes)) (t .kept) && free (λ n. ltb n (t .height)) (t .cells))) e)
+is-placed bytes t y e = go (walkTo bytes t) refl (first (agreesWith t (walkTo bytes t)) (free (member (t .reads)) (t .readlog) && (free (member (t .writes)) (t .writelog) && free (λ n. ltb n (t .height)) (t .cells))) e)
   where
     go : (o : Option Walked) → walkTo bytes t ≡ o → agreesWith t o ≡ true → Placed bytes t
     go none f x = never (sym x)
     go (some w) f x =
         let a = agrees t w x in
         let b1 = agreesWith t (walkTo bytes t) in
-        let b2 = free (member (t .reads)) (t .seen) in
-        let b3 = free (member (t .writes)) (t .kept) in
+        let b2 = free (member (t .reads)) (t .readlog) in
+        let b3 = free (member (t .writes)) (t .writelog) in
         let b4 = free (λ n. ltb n (t .height)) (t .cells) in
         let r1 = second b1 (b2 && (b3 && b4)) e in
         let r2 = second b2 (b3 && b4) r1 in
@@ -145,8 +145,8 @@ is-placed bytes t y e = go (walkTo bytes t) refl (first (agreesWith t (walkTo by
           base = a .base;
           no-reads = a .no-reads;
           no-writes = a .no-writes;
-          seen-free = all-freed (member (t .reads)) (t .seen) (y .seen) (first b2 (b3 && b4) r1);
-          kept-free = all-freed (member (t .writes)) (t .kept) (y .kept) (first b3 b4 r2);
+          reads-free = all-freed (member (t .reads)) (t .readlog) (y .readlog) (first b2 (b3 && b4) r1);
+          writes-free = all-freed (member (t .writes)) (t .writelog) (y .writelog) (first b3 b4 r2);
           cells-free = λ n l. all-freed (λ n. ltb n (t .height)) (t .cells) (y .cells) (second b3 b4 r2) n (le-ltb n (t .height) (omega arith));
         }
 
@@ -154,12 +154,12 @@ place : (bytes : List ℕ) (t : Thread) → Placed bytes t → placed bytes t �
 unfolding placed
 place bytes t p =
     let b1 = agreesWith t (walkTo bytes t) in
-    let b2 = free (member (t .reads)) (t .seen) in
-    let b3 = free (member (t .writes)) (t .kept) in
+    let b2 = free (member (t .reads)) (t .readlog) in
+    let b3 = free (member (t .writes)) (t .writelog) in
     let b4 = free (λ n. ltb n (t .height)) (t .cells) in
     both b1 (b2 && (b3 && b4)) agreed
-    (both b2 (b3 && b4) (free-from _ 0 (member (t .reads)) (t .seen) (p .seen-free))
-    (both b3 b4 (free-from _ 0 (member (t .writes)) (t .kept) (p .kept-free))
+    (both b2 (b3 && b4) (free-from _ 0 (member (t .reads)) (t .readlog) (p .reads-free))
+    (both b3 b4 (free-from _ 0 (member (t .writes)) (t .writelog) (p .writes-free))
     (free-from _ 0 (λ n. ltb n (t .height)) (t .cells) (λ n h. p .cells-free n (ltb-false n (t .height) h)))))
   where
     agreed : agreesWith t (walkTo bytes t) ≡ true
@@ -192,8 +192,8 @@ is-blank t y e =
     let b7 = eqb (t .reads) 0 in
     let b8 = eqb (t .writes) 0 in
     let b9 = free (λ n. false) (t .cells) in
-    let b10 = free (λ n. false) (t .seen) in
-    let b11 = free (λ n. false) (t .kept) in
+    let b10 = free (λ n. false) (t .readlog) in
+    let b11 = free (λ n. false) (t .writelog) in
     let r9 = b10 && b11 in
     let r8 = b9 && r9 in
     let r7 = b8 && r8 in
@@ -221,9 +221,9 @@ is-blank t y e =
       begin = eqb-true (t .begin) 0 (first b5 r5 e4) i;
       base = eqb-true (t .base) 0 (first b6 r6 e5) i;
       reads = eqb-true (t .reads) 0 (first b7 r7 e6) i;
-      seen = zeroed (t .seen) (y .seen) (first b10 b11 e9) i;
+      readlog = zeroed (t .readlog) (y .readlog) (first b10 b11 e9) i;
       writes = eqb-true (t .writes) 0 (first b8 r8 e7) i;
-      kept = zeroed (t .kept) (y .kept) (second b10 b11 e9) i;
+      writelog = zeroed (t .writelog) (y .writelog) (second b10 b11 e9) i;
     }
 
 blank-zero : allZero blank ≡ true

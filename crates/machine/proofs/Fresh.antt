@@ -8,18 +8,17 @@ use lib.ListN.{length, getD, replicate}
 use Rattle.code.specs.Compile.{ε, compileP}
 use Rattle.code.specs.Bytes.{IsCode}
 use Rattle.script.specs.Reader.{Job}
-use Rattle.machine.specs.declared.Thread.{Thread}
-use Rattle.machine.specs.Threads.{blank, spawned}
-use Rattle.machine.specs.Steps.{exists, threadAt, fresh}
-use Rattle.machine.specs.Fits.{Child, Walked, unmoved, starts, In, here, there, Passed, Exists, Placed, Fits, TypedThread, Typed}
+use Rattle.thread.specs.declared.Thread.{Thread}
+use Rattle.thread.specs.Threads.{blank, spawned, exists}
+use Rattle.machine.specs.Steps.{threadAt, fresh, Child}
+use Rattle.machine.specs.Fits.{Walked, unmoved, starts, In, here, there, Passed, Exists, Placed, Fits, TypedThread, Typed}
 use Rattle.machine.proofs.Walking.{walks-once}
-use Rattle.machine.specs.Stands.{stackFrom}
+use Rattle.machine.specs.Stands.{stackFrom, registerCells}
 use Rattle.machine.proofs.Codes.{code-ready}
 use Rattle.machine.proofs.Placings.{typed-spawned, placed-spawned}
 use Rattle.machine.proofs.Showings.{Shows, shut}
 use Rattle.machine.proofs.Mirrors.{Mirrors}
 use Rattle.machine.proofs.Numbers.{number-is, blank-absent}
-use Rattle.stm.specs.Cells.{byValue}
 use Rattle.stm.specs.Tasks.{taskAt, start}
 use Rattle.stm.specs.Meaning.{Outside}
 
@@ -31,7 +30,7 @@ no-record (suc n) (suc i) = no-record n i
 
 typed-blank : TypedThread blank
 unfolding blank
-typed-blank = record { cells = refl; seen = refl; kept = refl }
+typed-blank = record { cells = refl; readlog = refl; writelog = refl }
 
 no-child : (c : Child) (cs : List Child) → cs ≡ [] → In c cs → ⊥
 no-child c cs e here = absurd (let z : _≡_ {A = ℕ} 0 1 = cc in omega arith)
@@ -83,7 +82,7 @@ module _ (bytes : List ℕ) where
       blanks (suc i) e = later i
 
   -- and shows the job's code alone
-  pub fresh-mirrors : {j : Job} → IsCode bytes j → Outside (compileP (j .tree) ε) 0 → Mirrors bytes (fresh bytes) (start byValue (compileP (j .tree) ε))
+  pub fresh-mirrors : {j : Job} → IsCode bytes j → Outside (compileP (j .tree) ε) 0 → Mirrors bytes (fresh bytes) (start registerCells (compileP (j .tree) ε))
   unfolding fresh start spawned stackFrom
   fresh-mirrors {j} c o =
       record {
@@ -97,6 +96,6 @@ module _ (bytes : List ℕ) where
       first zero l = refl
       first (suc i) l = absurd (omega arith)
 
-      shown : (i : ℕ) → i < 1 → Shows bytes (threadAt (fresh bytes) i) (taskAt byValue (start byValue (compileP (j .tree) ε)) i)
+      shown : (i : ℕ) → i < 1 → Shows bytes (threadAt (fresh bytes) i) (taskAt registerCells (start registerCells (compileP (j .tree) ε)) i)
       shown zero l = shut (compileP (j .tree) ε) (code-ready c) o refl
       shown (suc i) l = absurd (omega arith)

@@ -13,16 +13,16 @@ use lib.Seq.{getD-set-same, getD-set-other}
 use Rattle.code.specs.Compile.{Code, ε, compileP}
 use Rattle.code.specs.Bytes.{IsCode}
 use Rattle.script.specs.Reader.{Job}
-use Rattle.machine.specs.declared.Thread.{Thread}
-use Rattle.machine.specs.Threads.{blank, spawned}
-use Rattle.machine.specs.Steps.{State, Stepped, exists, numberOf, threadAt}
-use Rattle.machine.specs.Fits.{Child, Walked, Walks, starts, In, here, there, ownCode, Passed, Placed, Exists, ThreadOf, Forked, OneThread, Fits, TypedThread, Typed}
+use Rattle.thread.specs.declared.Thread.{Thread}
+use Rattle.thread.specs.Threads.{blank, spawned, exists}
+use Rattle.machine.specs.Stands.{registerCells}
+use Rattle.machine.specs.Steps.{State, Stepped, numberOf, threadAt, Child}
+use Rattle.machine.specs.Fits.{Walked, Walks, starts, In, here, there, ownCode, Passed, Placed, Exists, ThreadOf, Forked, OneThread, Fits, TypedThread, Typed}
 use Rattle.machine.proofs.Numbers.{before-end, never, exists-below, in-table}
 use Rattle.machine.proofs.Walking.{walks-once}
 use Rattle.machine.proofs.Placings.{typed-spawned, placed-spawned}
 use Rattle.machine.proofs.Regions.{link-low, link-once, none-in, FirstOr, first, other, first-or, LastOnce, last-once, LinkOf, passed-link, no-more}
 use Rattle.machine.proofs.Simulates.{Born, nobody, child, Simulated}
-use Rattle.stm.specs.Cells.{byValue}
 use Rattle.stm.specs.Tasks.{Did}
 use Rattle.stm.specs.Meaning.{Outside}
 use Rattle.stm.proofs.Bound.{forks-proc}
@@ -411,14 +411,14 @@ module _ {bytes : List ℕ} {j : Job} (c : IsCode bytes j) (o : Outside (compile
   born-keeps table sized ks born ts kids (child a b r q l) = (more-fits table sized a b l kids, more-typed table sized a b l kids)
 
 -- what an instruction of a thread leaves fits the code again
-pub keeps : {bytes : List ℕ} {j : Job} → IsCode bytes j → Outside (compileP (j .tree) ε) 0 → (s : State) → Fits bytes s → Typed s → (i : ℕ) → Exists s i → (q : Placed bytes (threadAt s i)) (r : Stepped) (d : Did byValue) → length (d .table) ≡ 64 → Simulated bytes s i (threadAt s i) (q .walked .children) r d → Fits bytes (r .state) × Typed (r .state)
+pub keeps : {bytes : List ℕ} {j : Job} → IsCode bytes j → Outside (compileP (j .tree) ε) 0 → (s : State) → Fits bytes s → Typed s → (i : ℕ) → Exists s i → (q : Placed bytes (threadAt s i)) (r : Stepped) (d : Did registerCells) → length (d .table) ≡ 64 → Simulated bytes s i (threadAt s i) (q .walked .children) r d → Fits bytes (r .state) × Typed (r .state)
 keeps {bytes} c o s f y i e q r d sized x =
     let w : q .walked ≡ f .placed i e .walked = walks-once bytes (threadAt s i .start) (threadAt s i .end) (q .walks) (f .placed i e .walks) in
     let k : x .placed .walked .children ≡ x .born ++ f .placed i e .walked .children = subst (λ (v : Walked). x .placed .walked .children ≡ x .born ++ v .children) w (x .kids) in
     born-keeps c o s f y i e (x .thread) (x .typed) (x .placed) (x .start) (x .end) (r .state .registers) (ap length (x .registers) ∙ sized) (d .children) (x .born) (r .state .threads) k (x .threads)
 
 -- and where it forks a child, there is a record for it
-pub has-room : {bytes : List ℕ} {j : Job} → IsCode bytes j → Outside (compileP (j .tree) ε) 0 → (s : State) → Fits bytes s → Typed s → (i : ℕ) → Exists s i → (q : Placed bytes (threadAt s i)) (r : Stepped) (d : Did byValue) → Simulated bytes s i (threadAt s i) (q .walked .children) r d → (k : Code) → d .children ≡ k ∷ [] → numberOf (s .threads) < 16
+pub has-room : {bytes : List ℕ} {j : Job} → IsCode bytes j → Outside (compileP (j .tree) ε) 0 → (s : State) → Fits bytes s → Typed s → (i : ℕ) → Exists s i → (q : Placed bytes (threadAt s i)) (r : Stepped) (d : Did registerCells) → Simulated bytes s i (threadAt s i) (q .walked .children) r d → (k : Code) → d .children ≡ k ∷ [] → numberOf (s .threads) < 16
 has-room {bytes} c o s f y i e q r d x k z = go (d .children) (x .born) (r .state .threads) (x .threads) (x .kids) z
   where
     w : q .walked ≡ f .placed i e .walked

@@ -19,3 +19,4 @@ pub mod Soups
 pub mod Calls
 pub mod Agrees
 pub mod Ranges
+pub mod Tallies

@@ -13,18 +13,17 @@ use lib.Seq.{getD-set-same, getD-set-other, set-getD, getD-append-seam}
 use Rattle.code.specs.Compile.{Instruction, Code, ε, _⨾_}
 use Rattle.code.specs.Reader.{opAt}
 use Rattle.script.specs.Outcome.{done}
-use Rattle.machine.specs.declared.Thread.{Thread}
-use Rattle.machine.specs.Threads.{blank, spawned}
-use Rattle.machine.specs.Steps.{State, Stepped, exists, numberOf, threadAt, instruction, pick}
+use Rattle.thread.specs.declared.Thread.{Thread}
+use Rattle.thread.specs.Threads.{blank, spawned, exists}
+use Rattle.machine.specs.Steps.{State, Stepped, numberOf, threadAt, instruction, pick, Child, act, settle}
 use Rattle.stm.specs.Events.{idle}
-use Rattle.machine.specs.Fits.{Child, Exists}
-use Rattle.machine.specs.Stands.{stackFrom, opOf, Ready}
+use Rattle.machine.specs.Fits.{Exists}
+use Rattle.machine.specs.Stands.{stackFrom, opOf, Ready, registerCells, tableOf}
 use Rattle.machine.proofs.Numbers.{next-absent, at-end, number-is, below-exists, exists-below, number-small}
 use Rattle.machine.proofs.Picks.{missing-idle, ended-idle, does}
 use Rattle.machine.proofs.Codes.{stands-end, stands-inside, ready-op}
 use Rattle.machine.proofs.Showings.{Shows, shut, open′}
 use Rattle.machine.proofs.Simulates.{Held, Born, nobody, child, Simulated, from-outside, from-inside}
-use Rattle.stm.specs.Cells.{byValue}
 use Rattle.stm.specs.Tasks.{Task, outside, over, Did, System, taskAt, started, put, did, next, stepOutside, stepTask}
 use Rattle.stm.specs.Meaning.{Outside, Inside}
 use Rattle.word.specs.Sum.{Rule}
@@ -34,27 +33,27 @@ unfolding Inside
 no-inside k b x = x
 
 -- ---- a state and a system
-pub record Mirrors (bytes : List ℕ) (s : State) (sys : System byValue) : Type 0 where
+pub record Mirrors (bytes : List ℕ) (s : State) (sys : System registerCells) : Type 0 where
   pub records : length (s .threads) ≡ 16
-  pub table : s .registers ≡ sys .table
+  pub table : tableOf s ≡ sys .table
   pub number : numberOf (s .threads) ≡ length (sys .tasks)
-  pub shown : (i : ℕ) → i < length (sys .tasks) → Shows bytes (threadAt s i) (taskAt byValue sys i)
+  pub shown : (i : ℕ) → i < length (sys .tasks) → Shows bytes (threadAt s i) (taskAt registerCells sys i)
 
 -- what a pick leaves of both
-pub record Mirrored (bytes : List ℕ) (sum : Rule) (s : State) (sys : System byValue) (i : ℕ) : Type 0 where
-  pub event : pick sum bytes s i .event ≡ did byValue sum sys i .event
-  pub mirrors : Mirrors bytes (pick sum bytes s i .state) (next byValue sum sys i)
+pub record Mirrored (bytes : List ℕ) (sum : Rule) (s : State) (sys : System registerCells) (i : ℕ) : Type 0 where
+  pub event : pick sum bytes s i .event ≡ did registerCells sum sys i .event
+  pub mirrors : Mirrors bytes (pick sum bytes s i .state) (next registerCells sum sys i)
 
 -- a pick that is not idle does the instruction at the thread's place
-pub data Picked (bytes : List ℕ) (sum : Rule) (s : State) (sys : System byValue) (i : ℕ) (old : List Child) : Type 0 where
-  stood : pick sum bytes s i ≡ record { state = s; event = idle } → did byValue sum sys i ≡ record { task = taskAt byValue sys i; table = sys .table; children = []; event = idle } → Picked bytes sum s sys i old
-  went : (r : Stepped) → pick sum bytes s i ≡ r → Exists s i → Simulated bytes s i (threadAt s i) old r (did byValue sum sys i) → Picked bytes sum s sys i old
+pub data Picked (bytes : List ℕ) (sum : Rule) (s : State) (sys : System registerCells) (i : ℕ) (old : List Child) : Type 0 where
+  stood : pick sum bytes s i ≡ record { state = s; event = idle } → did registerCells sum sys i ≡ record { task = taskAt registerCells sys i; table = sys .table; children = []; event = idle } → Picked bytes sum s sys i old
+  went : (r : Stepped) → pick sum bytes s i ≡ r → Exists s i → Simulated bytes s i (threadAt s i) old r (did registerCells sum sys i) → Picked bytes sum s sys i old
 
 module _ (bytes : List ℕ) (sum : Rule) where
   -- a thread that exists is picked
-  pub works : (s : State) (sys : System byValue) → Mirrors bytes s sys → (i : ℕ) → i < length (sys .tasks) → (h : Held bytes (threadAt s i)) → Picked bytes sum s sys i (h .placed .walked .children)
+  pub works : (s : State) (sys : System registerCells) → Mirrors bytes s sys → (i : ℕ) → i < length (sys .tasks) → (h : Held bytes (threadAt s i)) → Picked bytes sum s sys i (h .placed .walked .children)
   unfolding stepTask stepOutside
-  works s sys m i l h = go (taskAt byValue sys i) refl (m .shown i l)
+  works s sys m i l h = go (taskAt registerCells sys i) refl (m .shown i l)
     where
       n : i < numberOf (s .threads)
       n = subst (λ (k : ℕ). i < k) (sym (m .number)) l
@@ -65,22 +64,22 @@ module _ (bytes : List ℕ) (sum : Rule) where
       small : ltb i (length (s .threads)) ≡ true
       small = lt-ltb i (length (s .threads)) (number-small (s .threads) i n)
 
-      at-place : (ins : Instruction) (t : Task byValue) → taskAt byValue sys i ≡ t → threadAt s i .place < threadAt s i .end → opAt (drop (threadAt s i .place) bytes) ≡ done (opOf ins) → Simulated bytes s i (threadAt s i) (h .placed .walked .children) (instruction sum s i (threadAt s i) (opOf ins)) (stepTask byValue sum (s .registers) t) → Picked bytes sum s sys i (h .placed .walked .children)
+      at-place : (ins : Instruction) (t : Task registerCells) → taskAt registerCells sys i ≡ t → threadAt s i .place < threadAt s i .end → opAt (drop (threadAt s i .place) bytes) ≡ done (opOf ins) → Simulated bytes s i (threadAt s i) (h .placed .walked .children) (instruction sum s i (threadAt s i) (opOf ins)) (stepTask registerCells sum (tableOf s) t) → Picked bytes sum s sys i (h .placed .walked .children)
       at-place ins t q less o x =
           went
           (instruction sum s i (threadAt s i) (opOf ins))
-          (does sum bytes s i (opOf ins) small e (λ z. absurd (omega arith)) o)
+          (does sum bytes (numberOf (s .threads)) s i (opOf ins) small e (λ z. absurd (omega arith)) o)
           e
-          (subst (λ (y : Task byValue). Simulated bytes s i (threadAt s i) (h .placed .walked .children) (instruction sum s i (threadAt s i) (opOf ins)) (stepTask byValue sum (sys .table) y)) (sym q)
-          (subst (λ (y : List ℤ). Simulated bytes s i (threadAt s i) (h .placed .walked .children) (instruction sum s i (threadAt s i) (opOf ins)) (stepTask byValue sum y t)) (m .table) x))
+          (subst (λ (y : Task registerCells). Simulated bytes s i (threadAt s i) (h .placed .walked .children) (instruction sum s i (threadAt s i) (opOf ins)) (stepTask registerCells sum (sys .table) y)) (sym q)
+          (subst (λ (y : List ℤ). Simulated bytes s i (threadAt s i) (h .placed .walked .children) (instruction sum s i (threadAt s i) (opOf ins)) (stepTask registerCells sum y t)) (m .table) x))
 
-      ended : (σ : List ℤ) → taskAt byValue sys i ≡ outside ε σ → threadAt s i .place ≡ threadAt s i .end → Picked bytes sum s sys i (h .placed .walked .children)
+      ended : (σ : List ℤ) → taskAt registerCells sys i ≡ outside ε σ → threadAt s i .place ≡ threadAt s i .end → Picked bytes sum s sys i (h .placed .walked .children)
       ended σ q z =
           stood
-          (ended-idle sum bytes s i z)
-          (ap (λ (y : Task byValue). stepTask byValue sum (sys .table) y) q ∙ ap (λ (y : Task byValue). record { task = y; table = sys .table; children = []; event = idle }) (sym q))
+          (ended-idle sum bytes (numberOf (s .threads)) s i z)
+          (ap (λ (y : Task registerCells). stepTask registerCells sum (sys .table) y) q ∙ ap (λ (y : Task registerCells). record { task = y; table = sys .table; children = []; event = idle }) (sym q))
 
-      go : (t : Task byValue) → taskAt byValue sys i ≡ t → Shows bytes (threadAt s i) t → Picked bytes sum s sys i (h .placed .walked .children)
+      go : (t : Task registerCells) → taskAt registerCells sys i ≡ t → Shows bytes (threadAt s i) t → Picked bytes sum s sys i (h .placed .walked .children)
       go t q (shut ε r o z) = ended (stackFrom (threadAt s i .cells) 0 (threadAt s i .height)) q (stands-end (r .stands))
       go t q (shut (ins ⨾ c) r o z) = at-place ins t q (stands-inside (r .stands)) (ready-op r) (from-outside sum s i (threadAt s i) h ins c r o z)
       go t q (open′ body ε k r o f w g x y) = absurd (no-inside k (threadAt s i .base) o)
@@ -92,7 +91,7 @@ module _ (bytes : List ℕ) (sum : Rule) where
 pub same-start : (a b : Thread) → a .start ≡ b .start → exists b ≡ true → exists a ≡ true
 same-start a b e x = ap (λ (n : ℕ). not (eqb n 0)) e ∙ x
 
-getD-front : (xs : List (Task byValue)) (y : Task byValue) (k : ℕ) → k < length xs → getD (xs ++ (y ∷ [])) k (over byValue) ≡ getD xs k (over byValue)
+getD-front : (xs : List (Task registerCells)) (y : Task registerCells) (k : ℕ) → k < length xs → getD (xs ++ (y ∷ [])) k (over registerCells) ≡ getD xs k (over registerCells)
 getD-front [] y k l = absurd (omega arith)
 getD-front (x ∷ xs) y zero l = refl
 getD-front (x ∷ xs) y (suc k) l = getD-front xs y k (omega arith)
@@ -106,7 +105,7 @@ less-than k l n z f w = go (decLt k l)
 
 module _ {bytes : List ℕ} where
   -- a thread's record and its task change
-  changed : (s : State) (sys : System byValue) → Mirrors bytes s sys → (i : ℕ) → i < length (sys .tasks) → (rs : List ℤ) (t : Thread) (task : Task byValue) → t .start ≡ threadAt s i .start → Shows bytes t task → Mirrors bytes (record { registers = rs; threads = set (s .threads) i t }) (record { table = rs; tasks = set (sys .tasks) i task })
+  changed : (s : State) (sys : System registerCells) → Mirrors bytes s sys → (i : ℕ) → i < length (sys .tasks) → (rs : List ℤ) (t : Thread) (task : Task registerCells) → t .start ≡ threadAt s i .start → Shows bytes t task → Mirrors bytes (record { registers = rs; threads = set (s .threads) i t }) (record { table = rs; tasks = set (sys .tasks) i task })
   changed s sys m i l rs t task e x =
       record {
         records = length-set (s .threads) i t ∙ m .records;
@@ -139,23 +138,23 @@ module _ {bytes : List ℕ} where
           ap (λ (y : ℕ). exists (getD (set (s .threads) i t) y blank)) (long ∙ sym (m .number))
           ∙ (ap (λ (y : Thread). exists y) (getD-set-other (s .threads) i (numberOf (s .threads)) t blank (λ q. absurd (let z = m .number in omega arith))) ∙ at-end (s .threads))
 
-      each-shown : (k : ℕ) → k < length (set (sys .tasks) i task) → Shows bytes (getD (set (s .threads) i t) k blank) (getD (set (sys .tasks) i task) k (over byValue))
+      each-shown : (k : ℕ) → k < length (set (sys .tasks) i task) → Shows bytes (getD (set (s .threads) i t) k blank) (getD (set (sys .tasks) i task) k (over registerCells))
       each-shown k less = go (eqb k i) refl
         where
-          go : (b : Bool) → eqb k i ≡ b → Shows bytes (getD (set (s .threads) i t) k blank) (getD (set (sys .tasks) i task) k (over byValue))
+          go : (b : Bool) → eqb k i ≡ b → Shows bytes (getD (set (s .threads) i t) k blank) (getD (set (sys .tasks) i task) k (over registerCells))
           go true q =
               let z : k ≡ i = eqb-true k i q in
               let a : getD (set (s .threads) i t) k blank ≡ t = at-i k z in
-              let b : getD (set (sys .tasks) i task) k (over byValue) ≡ task = subst (λ (y : ℕ). getD (set (sys .tasks) i task) y (over byValue) ≡ task) (sym z) (getD-set-same (sys .tasks) i task (over byValue) l) in
-              subst (λ (y : Task byValue). Shows bytes (getD (set (s .threads) i t) k blank) y) (sym b) (subst (λ (y : Thread). Shows bytes y task) (sym a) x)
+              let b : getD (set (sys .tasks) i task) k (over registerCells) ≡ task = subst (λ (y : ℕ). getD (set (sys .tasks) i task) y (over registerCells) ≡ task) (sym z) (getD-set-same (sys .tasks) i task (over registerCells) l) in
+              subst (λ (y : Task registerCells). Shows bytes (getD (set (s .threads) i t) k blank) y) (sym b) (subst (λ (y : Thread). Shows bytes y task) (sym a) x)
           go false q =
               let z = eqb-false k i q in
               let a = getD-set-other (s .threads) i k t blank z in
-              let b = getD-set-other (sys .tasks) i k task (over byValue) z in
-              subst (λ (y : Task byValue). Shows bytes (getD (set (s .threads) i t) k blank) y) (sym b) (subst (λ (y : Thread). Shows bytes y (taskAt byValue sys k)) (sym a) (m .shown k (omega (arith, long))))
+              let b = getD-set-other (sys .tasks) i k task (over registerCells) z in
+              subst (λ (y : Task registerCells). Shows bytes (getD (set (s .threads) i t) k blank) y) (sym b) (subst (λ (y : Thread). Shows bytes y (taskAt registerCells sys k)) (sym a) (m .shown k (omega (arith, long))))
 
   -- a child's record and its task come behind
-  grown : (s : State) (sys : System byValue) → Mirrors bytes s sys → numberOf (s .threads) < 16 → exists (getD (s .threads) (suc (numberOf (s .threads))) blank) ≡ false → (t : Thread) (task : Task byValue) → exists t ≡ true → Shows bytes t task → Mirrors bytes (record { registers = s .registers; threads = set (s .threads) (numberOf (s .threads)) t }) (record { table = sys .table; tasks = sys .tasks ++ (task ∷ []) })
+  grown : (s : State) (sys : System registerCells) → Mirrors bytes s sys → numberOf (s .threads) < 16 → exists (getD (s .threads) (suc (numberOf (s .threads))) blank) ≡ false → (t : Thread) (task : Task registerCells) → exists t ≡ true → Shows bytes t task → Mirrors bytes (record { registers = s .registers; threads = set (s .threads) (numberOf (s .threads)) t }) (record { table = sys .table; tasks = sys .tasks ++ (task ∷ []) })
   grown s sys m room none t task e x =
       record {
         records = length-set (s .threads) (numberOf (s .threads)) t ∙ m .records;
@@ -186,24 +185,24 @@ module _ {bytes : List ℕ} where
       last : exists (getD (set (s .threads) n t) (length (sys .tasks ++ (task ∷ []))) blank) ≡ false
       last = ap (λ (y : ℕ). exists (getD (set (s .threads) n t) y blank)) long ∙ (ap (λ (y : Thread). exists y) (getD-set-other (s .threads) n (suc n) t blank (λ q. absurd (omega arith))) ∙ none)
 
-      each-shown : (k : ℕ) → k < length (sys .tasks ++ (task ∷ [])) → Shows bytes (getD (set (s .threads) n t) k blank) (getD (sys .tasks ++ (task ∷ [])) k (over byValue))
+      each-shown : (k : ℕ) → k < length (sys .tasks ++ (task ∷ [])) → Shows bytes (getD (set (s .threads) n t) k blank) (getD (sys .tasks ++ (task ∷ [])) k (over registerCells))
       each-shown k less = go (eqb k n) refl
         where
-          go : (b : Bool) → eqb k n ≡ b → Shows bytes (getD (set (s .threads) n t) k blank) (getD (sys .tasks ++ (task ∷ [])) k (over byValue))
+          go : (b : Bool) → eqb k n ≡ b → Shows bytes (getD (set (s .threads) n t) k blank) (getD (sys .tasks ++ (task ∷ [])) k (over registerCells))
           go true q =
               let z : k ≡ length (sys .tasks) = eqb-true k n q ∙ m .number in
-              let b : getD (sys .tasks ++ (task ∷ [])) k (over byValue) ≡ task = subst (λ (y : ℕ). getD (sys .tasks ++ (task ∷ [])) y (over byValue) ≡ task) (sym z) (getD-append-seam (sys .tasks) task [] (over byValue)) in
-              subst (λ (y : Task byValue). Shows bytes (getD (set (s .threads) n t) k blank) y) (sym b) (subst (λ (y : Thread). Shows bytes y task) (sym (at-n k (eqb-true k n q))) x)
+              let b : getD (sys .tasks ++ (task ∷ [])) k (over registerCells) ≡ task = subst (λ (y : ℕ). getD (sys .tasks ++ (task ∷ [])) y (over registerCells) ≡ task) (sym z) (getD-append-seam (sys .tasks) task [] (over registerCells)) in
+              subst (λ (y : Task registerCells). Shows bytes (getD (set (s .threads) n t) k blank) y) (sym b) (subst (λ (y : Thread). Shows bytes y task) (sym (at-n k (eqb-true k n q))) x)
           go false q =
               let z = eqb-false k n q in
               let f : k < suc n = subst (λ (y : ℕ). k < y) long less in
               let g : k < length (sys .tasks) = let w = m .number in less-than k (length (sys .tasks)) n z f w in
-              subst (λ (y : Task byValue). Shows bytes (getD (set (s .threads) n t) k blank) y) (sym (getD-front (sys .tasks) task k g)) (subst (λ (y : Thread). Shows bytes y (taskAt byValue sys k)) (sym (getD-set-other (s .threads) n k t blank z)) (m .shown k g))
+              subst (λ (y : Task registerCells). Shows bytes (getD (set (s .threads) n t) k blank) y) (sym (getD-front (sys .tasks) task k g)) (subst (λ (y : Thread). Shows bytes y (taskAt registerCells sys k)) (sym (getD-set-other (s .threads) n k t blank z)) (m .shown k g))
 
 -- ---- a pick
-over-idle : (sum : Rule) (table : List ℤ) (t : Task byValue) → t ≡ over byValue → stepTask byValue sum table t ≡ record { task = t; table = table; children = []; event = idle }
+over-idle : (sum : Rule) (table : List ℤ) (t : Task registerCells) → t ≡ over registerCells → stepTask registerCells sum table t ≡ record { task = t; table = table; children = []; event = idle }
 unfolding stepTask stepOutside
-over-idle sum table t e = ap (λ (x : Task byValue). stepTask byValue sum table x) e ∙ ap (λ (x : Task byValue). record { task = x; table = table; children = []; event = idle }) (sym e)
+over-idle sum table t e = ap (λ (x : Task registerCells). stepTask registerCells sum table x) e ∙ ap (λ (x : Task registerCells). record { task = x; table = table; children = []; event = idle }) (sym e)
 
 pub spawned-exists : (start end : ℕ) → 1 ≤ start → exists (spawned start end) ≡ true
 unfolding spawned
@@ -215,21 +214,21 @@ spawned-shows start end k r o = shut k r o refl
 
 module _ (bytes : List ℕ) (sum : Rule) where
   -- a pick that leaves both as they were
-  still : (s : State) (sys : System byValue) → Mirrors bytes s sys → (i : ℕ) → pick sum bytes s i ≡ record { state = s; event = idle } → did byValue sum sys i ≡ record { task = taskAt byValue sys i; table = sys .table; children = []; event = idle } → Mirrored bytes sum s sys i
+  still : (s : State) (sys : System registerCells) → Mirrors bytes s sys → (i : ℕ) → pick sum bytes s i ≡ record { state = s; event = idle } → did registerCells sum sys i ≡ record { task = taskAt registerCells sys i; table = sys .table; children = []; event = idle } → Mirrored bytes sum s sys i
   unfolding next
   still s sys m i p d =
-      let a : put byValue sys i (did byValue sum sys i) ≡ record { table = sys .table; tasks = set (sys .tasks) i (taskAt byValue sys i) ++ [] } = ap (λ (x : Did byValue). put byValue sys i x) d in
-      let b : set (sys .tasks) i (taskAt byValue sys i) ++ [] ≡ sys .tasks = append-nil (set (sys .tasks) i (taskAt byValue sys i)) ∙ set-getD (sys .tasks) i (over byValue) in
-      let c : put byValue sys i (did byValue sum sys i) ≡ sys = a ∙ ap (λ (x : List (Task byValue)). record { table = sys .table; tasks = x }) b in
+      let a : put registerCells sys i (did registerCells sum sys i) ≡ record { table = sys .table; tasks = set (sys .tasks) i (taskAt registerCells sys i) ++ [] } = ap (λ (x : Did registerCells). put registerCells sys i x) d in
+      let b : set (sys .tasks) i (taskAt registerCells sys i) ++ [] ≡ sys .tasks = append-nil (set (sys .tasks) i (taskAt registerCells sys i)) ∙ set-getD (sys .tasks) i (over registerCells) in
+      let c : put registerCells sys i (did registerCells sum sys i) ≡ sys = a ∙ ap (λ (x : List (Task registerCells)). record { table = sys .table; tasks = x }) b in
       record {
-        event = ap (λ (x : Stepped). x .event) p ∙ sym (ap (λ (x : Did byValue). x .event) d);
-        mirrors = subst (λ (x : System byValue). Mirrors bytes (pick sum bytes s i .state) x) (sym c) (subst (λ (x : Stepped). Mirrors bytes (x .state) sys) (sym p) m);
+        event = ap (λ (x : Stepped). x .event) p ∙ sym (ap (λ (x : Did registerCells). x .event) d);
+        mirrors = subst (λ (x : System registerCells). Mirrors bytes (pick sum bytes s i .state) x) (sym c) (subst (λ (x : Stepped). Mirrors bytes (x .state) sys) (sym p) m);
       }
 
   -- a step of thread i and of its task
-  stepped : (s : State) (sys : System byValue) → Mirrors bytes s sys → ((i : ℕ) → Exists s (suc i) → Exists s i) → (i : ℕ) → i < length (sys .tasks) → (old : List Child) (r : Stepped) (d : Did byValue) → ((k : Code) → d .children ≡ k ∷ [] → numberOf (s .threads) < 16) → Simulated bytes s i (threadAt s i) old r d → Mirrors bytes (r .state) (put byValue sys i d)
+  stepped : (s : State) (sys : System registerCells) → Mirrors bytes s sys → ((i : ℕ) → Exists s (suc i) → Exists s i) → (i : ℕ) → i < length (sys .tasks) → (old : List Child) (r : Stepped) (d : Did registerCells) → ((k : Code) → d .children ≡ k ∷ [] → numberOf (s .threads) < 16) → Simulated bytes s i (threadAt s i) old r d → Mirrors bytes (r .state) (put registerCells sys i d)
   stepped s sys m gap i l old r d room x =
-      subst (λ (rs : List ℤ). Mirrors bytes (r .state) (record { table = rs; tasks = set (sys .tasks) i (d .task) ++ started byValue (d .children) })) (x .registers)
+      subst (λ (rs : List ℤ). Mirrors bytes (r .state) (record { table = rs; tasks = set (sys .tasks) i (d .task) ++ started registerCells (d .children) })) (x .registers)
       (go (d .children) (x .born) (r .state .threads) (x .threads) room)
     where
       one : Mirrors bytes (record { registers = r .state .registers; threads = set (s .threads) i (x .thread) }) (record { table = r .state .registers; tasks = set (sys .tasks) i (d .task) })
@@ -243,22 +242,22 @@ module _ (bytes : List ℕ) (sum : Rule) where
           ap (λ (y : ℕ). exists (getD (set (s .threads) i (x .thread)) (suc y) blank)) number
           ∙ (ap (λ (y : Thread). exists y) (getD-set-other (s .threads) i (suc (numberOf (s .threads))) (x .thread) blank (λ q. absurd (let z = m .number in omega arith))) ∙ next-absent s gap)
 
-      go : (ks : List Code) (bs : List Child) (ts : List Thread) → Born bytes (set (s .threads) i (x .thread)) (numberOf (s .threads)) ks bs ts → ((k : Code) → ks ≡ k ∷ [] → numberOf (s .threads) < 16) → Mirrors bytes (record { registers = r .state .registers; threads = ts }) (record { table = r .state .registers; tasks = set (sys .tasks) i (d .task) ++ started byValue ks })
-      go ks bs ts nobody f = subst (λ (y : List (Task byValue)). Mirrors bytes (record { registers = r .state .registers; threads = set (s .threads) i (x .thread) }) (record { table = r .state .registers; tasks = y })) (sym (append-nil (set (sys .tasks) i (d .task)))) one
+      go : (ks : List Code) (bs : List Child) (ts : List Thread) → Born bytes (set (s .threads) i (x .thread)) (numberOf (s .threads)) ks bs ts → ((k : Code) → ks ≡ k ∷ [] → numberOf (s .threads) < 16) → Mirrors bytes (record { registers = r .state .registers; threads = ts }) (record { table = r .state .registers; tasks = set (sys .tasks) i (d .task) ++ started registerCells ks })
+      go ks bs ts nobody f = subst (λ (y : List (Task registerCells)). Mirrors bytes (record { registers = r .state .registers; threads = set (s .threads) i (x .thread) }) (record { table = r .state .registers; tasks = y })) (sym (append-nil (set (sys .tasks) i (d .task)))) one
       go ks bs ts (child {k} start end ready o there) f =
           subst (λ (y : ℕ). Mirrors bytes (record { registers = r .state .registers; threads = set (set (s .threads) i (x .thread)) y (spawned start end) }) (record { table = r .state .registers; tasks = set (sys .tasks) i (d .task) ++ (outside k [] ∷ []) })) number
           (grown (record { registers = r .state .registers; threads = set (s .threads) i (x .thread) }) (record { table = r .state .registers; tasks = set (sys .tasks) i (d .task) }) one (subst (λ (y : ℕ). y < 16) (sym number) (f k refl)) behind (spawned start end) (outside k []) (spawned-exists start end there) (spawned-shows start end k ready o))
 
   -- a number with no thread is idle in both
-  pub idle-missing : (s : State) (sys : System byValue) → Mirrors bytes s sys → ((i : ℕ) → Exists s (suc i) → Exists s i) → (i : ℕ) → length (sys .tasks) ≤ i → (pick sum bytes s i ≡ record { state = s; event = idle }) × (did byValue sum sys i ≡ record { task = taskAt byValue sys i; table = sys .table; children = []; event = idle })
+  pub idle-missing : (s : State) (sys : System registerCells) → Mirrors bytes s sys → ((i : ℕ) → Exists s (suc i) → Exists s i) → (i : ℕ) → length (sys .tasks) ≤ i → (pick sum bytes s i ≡ record { state = s; event = idle }) × (did registerCells sum sys i ≡ record { task = taskAt registerCells sys i; table = sys .table; children = []; event = idle })
   idle-missing s sys m gap i l = go (exists (threadAt s i)) refl
     where
-      go : (b : Bool) → exists (threadAt s i) ≡ b → (pick sum bytes s i ≡ record { state = s; event = idle }) × (did byValue sum sys i ≡ record { task = taskAt byValue sys i; table = sys .table; children = []; event = idle })
+      go : (b : Bool) → exists (threadAt s i) ≡ b → (pick sum bytes s i ≡ record { state = s; event = idle }) × (did registerCells sum sys i ≡ record { task = taskAt registerCells sys i; table = sys .table; children = []; event = idle })
       go true e = absurd (let a = exists-below s gap i e in let z = m .number in omega arith)
-      go false e = (missing-idle sum bytes s i e, over-idle sum (sys .table) (taskAt byValue sys i) (List·getD-eq-default (sys .tasks) (over byValue) l))
+      go false e = (missing-idle sum bytes (numberOf (s .threads)) s i e, over-idle sum (sys .table) (taskAt registerCells sys i) (List·getD-eq-default (sys .tasks) (over registerCells) l))
 
   -- a pick does the same to a state and to the system that it shows
-  pub pick-mirrors : (s : State) (sys : System byValue) → Mirrors bytes s sys → ((i : ℕ) → Exists s (suc i) → Exists s i) → (i : ℕ) → (Exists s i → Held bytes (threadAt s i)) → ((k : Code) → did byValue sum sys i .children ≡ k ∷ [] → numberOf (s .threads) < 16) → Mirrored bytes sum s sys i
+  pub pick-mirrors : (s : State) (sys : System registerCells) → Mirrors bytes s sys → ((i : ℕ) → Exists s (suc i) → Exists s i) → (i : ℕ) → (Exists s i → Held bytes (threadAt s i)) → ((k : Code) → did registerCells sum sys i .children ≡ k ∷ [] → numberOf (s .threads) < 16) → Mirrored bytes sum s sys i
   unfolding next
   pick-mirrors s sys m gap i holds room = go (decLt i (length (sys .tasks)))
     where
@@ -270,7 +269,7 @@ module _ (bytes : List ℕ) (sum : Rule) where
       by old l (went r p e x) =
           record {
             event = ap (λ (y : Stepped). y .event) p ∙ x .event;
-            mirrors = subst (λ (y : Stepped). Mirrors bytes (y .state) (put byValue sys i (did byValue sum sys i))) (sym p) (stepped s sys m gap i l old r (did byValue sum sys i) room x);
+            mirrors = subst (λ (y : Stepped). Mirrors bytes (y .state) (put registerCells sys i (did registerCells sum sys i))) (sym p) (stepped s sys m gap i l old r (did registerCells sum sys i) room x);
           }
 
       go : Dec (i < length (sys .tasks)) → Mirrored bytes sum s sys i

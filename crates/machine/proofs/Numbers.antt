@@ -6,9 +6,9 @@ use mathlib.Core.List.{List, [], _∷_}
 use native.Mathlib.Omega.{arith}
 use native.Mathlib.Decide.{decLt}
 use lib.ListN.{length, getD, List·getD-eq-default}
-use Rattle.machine.specs.declared.Thread.{Thread}
-use Rattle.machine.specs.Threads.{blank}
-use Rattle.machine.specs.Steps.{State, exists, numberOf}
+use Rattle.thread.specs.declared.Thread.{Thread}
+use Rattle.thread.specs.Threads.{blank, exists}
+use Rattle.machine.specs.Steps.{State, numberOf}
 use Rattle.machine.specs.Fits.{Exists}
 
 -- the record at the number of threads is no thread's, those before it are threads'

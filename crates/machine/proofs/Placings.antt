@@ -10,10 +10,10 @@ use lib.Dec.{eqb}
 use lib.IntN.{ℤ, pos}
 use lib.ListN.{length, drop, getD, set, take, replicate, length-set, length-append, length-replicate}
 use lib.Seq.{getD-set-same, getD-set-other, length-take-le}
-use Rattle.machine.specs.declared.Thread.{Thread}
-use Rattle.machine.specs.Threads.{zeros, spawned, push, add, begin, below, sourceOf, readFrom, noted, read, write, closed}
+use Rattle.thread.specs.declared.Thread.{Thread}
+use Rattle.thread.specs.Threads.{zeros, spawned, push, add, begin, below, sourceOf, readFrom, noted, read, write, closed}
 use Rattle.stm.specs.Events.{Source, fromWrites, fromReads, fromTable}
-use Rattle.machine.specs.Fits.{Child, unmoved, walkOp, nextPlace, Walks, starts, passes, Placed, TypedThread}
+use Rattle.machine.specs.Fits.{Walked, unmoved, undone, walkOp, nextPlace, Walks, starts, passes, Placed, TypedThread}
 use Rattle.code.specs.Reader.{Op, opAt}
 use Rattle.code.specs.Reader as code
 use Rattle.script.specs.Outcome.{done}
@@ -46,28 +46,28 @@ zeros-long = refl
 -- ---- types
 pub typed-push : (n : ℤ) (next : ℕ) (t : Thread) → TypedThread t → TypedThread (push n next t)
 unfolding push
-typed-push n next t y = record { cells = length-set (t .cells) (t .height) n ∙ y .cells; seen = y .seen; kept = y .kept }
+typed-push n next t y = record { cells = length-set (t .cells) (t .height) n ∙ y .cells; readlog = y .readlog; writelog = y .writelog }
 
 pub typed-add : (sum : Rule) (t : Thread) → TypedThread t → TypedThread (add sum t)
 unfolding add
 typed-add sum t y =
     record {
       cells = length-set (set (t .cells) (t .height - 2) _) (t .height - 1) _ ∙ (length-set (t .cells) (t .height - 2) _ ∙ y .cells);
-      seen = y .seen;
-      kept = y .kept;
+      readlog = y .readlog;
+      writelog = y .writelog;
     }
 
 pub typed-begin : (t : Thread) → TypedThread t → TypedThread (begin t)
 unfolding begin
-typed-begin t y = record { cells = y .cells; seen = zeros-long; kept = zeros-long }
+typed-begin t y = record { cells = y .cells; readlog = zeros-long; writelog = zeros-long }
 
 typed-noted : (from : Source) (v : ℕ) (n : ℤ) (t : Thread) → TypedThread t → TypedThread (noted from v n t)
 typed-noted fromWrites v n t y =
-    let a = y .seen in
-    let b = length-set (t .seen) v n in
-    record { cells = y .cells; seen = omega arith; kept = y .kept }
+    let a = y .readlog in
+    let b = length-set (t .readlog) v n in
+    record { cells = y .cells; readlog = omega arith; writelog = y .writelog }
 typed-noted fromReads v n t y = y
-typed-noted fromTable v n t y = record { cells = y .cells; seen = length-set (t .seen) v _ ∙ y .seen; kept = y .kept }
+typed-noted fromTable v n t y = record { cells = y .cells; readlog = length-set (t .readlog) v _ ∙ y .readlog; writelog = y .writelog }
 
 pub typed-read : (table : List ℤ) (v : ℕ) (t : Thread) → TypedThread t → TypedThread (read table v t)
 unfolding read
@@ -75,7 +75,7 @@ typed-read table v t y = typed-push _ _ _ (typed-noted (sourceOf t v) v (readFro
 
 pub typed-write : (v : ℕ) (t : Thread) → TypedThread t → TypedThread (write v t)
 unfolding write
-typed-write v t y = record { cells = y .cells; seen = y .seen; kept = length-set (t .kept) v (below t 1) ∙ y .kept }
+typed-write v t y = record { cells = y .cells; readlog = y .readlog; writelog = length-set (t .writelog) v (below t 1) ∙ y .writelog }
 
 pub typed-closed : (place height : ℕ) (t : Thread) → height ≤ 64 → TypedThread t → TypedThread (closed place height t)
 unfolding closed
@@ -84,8 +84,8 @@ typed-closed place height t l y =
     let a : length (take height (t .cells)) ≡ height = length-take-le height (t .cells) (omega arith) in
     record {
       cells = filled (take height (t .cells)) (64 - height) _ (omega arith);
-      seen = zeros-long;
-      kept = zeros-long;
+      readlog = zeros-long;
+      writelog = zeros-long;
     }
   where
     filled : (ns : List ℤ) (k : ℕ) (n : ℤ) → length ns + k ≡ 64 → length (ns ++ replicate k n) ≡ 64
@@ -93,7 +93,7 @@ typed-closed place height t l y =
 
 pub typed-spawned : (start end : ℕ) → TypedThread (spawned start end)
 unfolding spawned
-typed-spawned start end = record { cells = zeros-long; seen = zeros-long; kept = zeros-long }
+typed-spawned start end = record { cells = zeros-long; readlog = zeros-long; writelog = zeros-long }
 
 -- ---- places
 module _ {bytes : List ℕ} (t : Thread) (p : Placed bytes t) (inside : t .place < t .end) where
@@ -113,8 +113,8 @@ module _ {bytes : List ℕ} (t : Thread) (p : Placed bytes t) (inside : t .place
         base = p .base ∙ sym c;
         no-reads = λ z. p .no-reads (sym b ∙ z);
         no-writes = λ z. p .no-writes (sym b ∙ z);
-        seen-free = p .seen-free;
-        kept-free = p .kept-free;
+        reads-free = p .reads-free;
+        writes-free = p .writes-free;
         cells-free = λ i l. pushed-free n i (omega arith) (p .cells-free i (omega arith));
       }
 
@@ -129,8 +129,8 @@ module _ {bytes : List ℕ} (t : Thread) (p : Placed bytes t) (inside : t .place
         base = p .base;
         no-reads = p .no-reads;
         no-writes = p .no-writes;
-        seen-free = p .seen-free;
-        kept-free = p .kept-free;
+        reads-free = p .reads-free;
+        writes-free = p .writes-free;
         cells-free = above;
       }
     where
@@ -150,10 +150,10 @@ module _ {bytes : List ℕ} (t : Thread) (p : Placed bytes t) (inside : t .place
   not-closed : {A : Type 0} → 1 ≤ t .begin → p .walked .begin ≡ 0 → A
   not-closed open′ z = absurd (let b = p .begin in omega arith)
 
-  noted-free : (v : ℕ) → v < 64 → (n : ℤ) (u : ℕ) → member (with (t .reads) v) u ≡ false → getD (set (t .seen) v n) u (pos 0) ≡ pos 0
+  noted-free : (v : ℕ) → v < 64 → (n : ℤ) (u : ℕ) → member (with (t .reads) v) u ≡ false → getD (set (t .readlog) v n) u (pos 0) ≡ pos 0
   noted-free v small n u m =
       let ne : u ≡ v → ⊥ = λ x. let f : member (with (t .reads) v) v ≡ false = subst (λ (k : ℕ). member (with (t .reads) v) k ≡ false) x m in absurd (let g = member-same (t .reads) v small in let z : _≡_ {A = ℕ} 0 1 = cc in omega arith) in
-      getD-set-other (t .seen) v u n (pos 0) ne ∙ p .seen-free u (sym (member-other (t .reads) v u ne) ∙ m)
+      getD-set-other (t .readlog) v u n (pos 0) ne ∙ p .reads-free u (sym (member-other (t .reads) v u ne) ∙ m)
 
   -- READ, a transaction being open
   placed-noted : (v : ℕ) → v < 64 → opAt (drop (t .place) bytes) ≡ done (code.read v) → 1 ≤ t .begin → (from : Source) (n : ℤ) → Placed bytes (push n (t .place + 2) (noted from v n t))
@@ -167,28 +167,28 @@ module _ {bytes : List ℕ} (t : Thread) (p : Placed bytes t) (inside : t .place
         base = p .base;
         no-reads = not-closed open′;
         no-writes = not-closed open′;
-        seen-free = λ u m. free u m (eqb u v) refl (member (t .reads) u) refl;
-        kept-free = p .kept-free;
+        reads-free = λ u m. free u m (eqb u v) refl (member (t .reads) u) refl;
+        writes-free = p .writes-free;
         cells-free = λ i l. pushed-free n i (omega arith) (p .cells-free i (omega arith));
       }
     where
-      free : (u : ℕ) → member (noted fromWrites v n t .reads) u ≡ false → (same : Bool) → eqb u v ≡ same → (marked : Bool) → member (t .reads) u ≡ marked → getD (noted fromWrites v n t .seen) u (pos 0) ≡ pos 0
+      free : (u : ℕ) → member (noted fromWrites v n t .reads) u ≡ false → (same : Bool) → eqb u v ≡ same → (marked : Bool) → member (t .reads) u ≡ marked → getD (noted fromWrites v n t .readlog) u (pos 0) ≡ pos 0
       free u m true q marked r =
           let x : u ≡ v = eqb-true u v q in
           let g : member (with (t .reads) v) u ≡ true = subst (λ (k : ℕ). member (with (t .reads) v) k ≡ true) (sym x) (member-same (t .reads) v small) in
           known u m marked r g
         where
-          known : (u : ℕ) → member (noted fromWrites v n t .reads) u ≡ false → (marked : Bool) → member (t .reads) u ≡ marked → member (with (t .reads) v) u ≡ true → getD (noted fromWrites v n t .seen) u (pos 0) ≡ pos 0
+          known : (u : ℕ) → member (noted fromWrites v n t .reads) u ≡ false → (marked : Bool) → member (t .reads) u ≡ marked → member (with (t .reads) v) u ≡ true → getD (noted fromWrites v n t .readlog) u (pos 0) ≡ pos 0
           known u m true r g = cc
-          known u m false r g = let s = p .seen-free u r in cc
+          known u m false r g = let s = p .reads-free u r in cc
       free u m false q marked r =
           let g = member-other (t .reads) v u (eqb-false u v q) in
-          let h = getD-set-other (t .seen) v u n (pos 0) (eqb-false u v q) in
+          let h = getD-set-other (t .readlog) v u n (pos 0) (eqb-false u v q) in
           known u m marked r g h
         where
-          known : (u : ℕ) → member (noted fromWrites v n t .reads) u ≡ false → (marked : Bool) → member (t .reads) u ≡ marked → member (with (t .reads) v) u ≡ member (t .reads) u → getD (set (t .seen) v n) u (pos 0) ≡ getD (t .seen) u (pos 0) → getD (noted fromWrites v n t .seen) u (pos 0) ≡ pos 0
+          known : (u : ℕ) → member (noted fromWrites v n t .reads) u ≡ false → (marked : Bool) → member (t .reads) u ≡ marked → member (with (t .reads) v) u ≡ member (t .reads) u → getD (set (t .readlog) v n) u (pos 0) ≡ getD (t .readlog) u (pos 0) → getD (noted fromWrites v n t .readlog) u (pos 0) ≡ pos 0
           known u m true r g h = cc
-          known u m false r g h = let s = p .seen-free u r in cc
+          known u m false r g h = let s = p .reads-free u r in cc
   placed-noted v small e open′ fromReads n =
       record {
         walked = walkOp (code.read v) (t .place) (p .walked);
@@ -198,8 +198,8 @@ module _ {bytes : List ℕ} (t : Thread) (p : Placed bytes t) (inside : t .place
         base = p .base;
         no-reads = not-closed open′;
         no-writes = not-closed open′;
-        seen-free = p .seen-free;
-        kept-free = p .kept-free;
+        reads-free = p .reads-free;
+        writes-free = p .writes-free;
         cells-free = λ i l. pushed-free n i (omega arith) (p .cells-free i (omega arith));
       }
   placed-noted v small e open′ fromTable n =
@@ -211,8 +211,8 @@ module _ {bytes : List ℕ} (t : Thread) (p : Placed bytes t) (inside : t .place
         base = p .base;
         no-reads = not-closed open′;
         no-writes = not-closed open′;
-        seen-free = noted-free v small _;
-        kept-free = p .kept-free;
+        reads-free = noted-free v small _;
+        writes-free = p .writes-free;
         cells-free = λ i l. pushed-free n i (omega arith) (p .cells-free i (omega arith));
       }
 
@@ -241,18 +241,18 @@ module _ {bytes : List ℕ} (t : Thread) (p : Placed bytes t) (inside : t .place
         base = p .base;
         no-reads = not-closed;
         no-writes = not-closed;
-        seen-free = p .seen-free;
-        kept-free = written-free;
+        reads-free = p .reads-free;
+        writes-free = written-free;
         cells-free = p .cells-free;
       }
     where
       not-closed : {A : Type 0} → p .walked .begin ≡ 0 → A
       not-closed z = absurd (let b = p .begin in omega arith)
 
-      written-free : (u : ℕ) → member (with (t .writes) v) u ≡ false → getD (set (t .kept) v (below t 1)) u (pos 0) ≡ pos 0
+      written-free : (u : ℕ) → member (with (t .writes) v) u ≡ false → getD (set (t .writelog) v (below t 1)) u (pos 0) ≡ pos 0
       written-free u m =
           let ne : u ≡ v → ⊥ = λ x. let f : member (with (t .writes) v) v ≡ false = subst (λ (k : ℕ). member (with (t .writes) v) k ≡ false) x m in absurd (let g = member-same (t .writes) v small in let z : _≡_ {A = ℕ} 0 1 = cc in omega arith) in
-          getD-set-other (t .kept) v u (below t 1) (pos 0) ne ∙ p .kept-free u (sym (member-other (t .writes) v u ne) ∙ m)
+          getD-set-other (t .writelog) v u (below t 1) (pos 0) ne ∙ p .writes-free u (sym (member-other (t .writes) v u ne) ∙ m)
 
   unfoldable pub placed-begin : opAt (drop (t .place) bytes) ≡ done code.begin → 1 ≤ t .place → Placed bytes (begin t)
   unfolding begin walkOp nextPlace
@@ -265,8 +265,8 @@ module _ {bytes : List ℕ} (t : Thread) (p : Placed bytes t) (inside : t .place
         base = p .height;
         no-reads = λ z. refl;
         no-writes = λ z. refl;
-        seen-free = λ v m. getD-zeros 64 v;
-        kept-free = λ v m. getD-zeros 64 v;
+        reads-free = λ v m. getD-zeros 64 v;
+        writes-free = λ v m. getD-zeros 64 v;
         cells-free = p .cells-free;
       }
 
@@ -282,8 +282,8 @@ module _ {bytes : List ℕ} (t : Thread) (p : Placed bytes t) (inside : t .place
         base = refl;
         no-reads = λ z. refl;
         no-writes = λ z. refl;
-        seen-free = λ v m. getD-zeros 64 v;
-        kept-free = λ v m. getD-zeros 64 v;
+        reads-free = λ v m. getD-zeros 64 v;
+        writes-free = λ v m. getD-zeros 64 v;
         cells-free = λ n l. closed-above (t .height) (t .cells) (64 - t .height) n (omega arith);
       }
 
@@ -292,25 +292,25 @@ module _ {bytes : List ℕ} (t : Thread) (p : Placed bytes t) (inside : t .place
   commit-kids e = refl
 
 -- a send-back
-unfoldable pub placed-back : {bytes : List ℕ} (t : Thread) (cs : List Child) → Walks bytes (t .start) (t .end) (t .begin) (record { height = t .base; begin = 0; base = 0; children = cs }) → Placed bytes (closed (t .begin) (t .base) t)
+unfoldable pub placed-back : {bytes : List ℕ} (t : Thread) (w : Walked) → t .base ≡ w .base → Walks bytes (t .start) (t .end) (t .begin) (undone w) → Placed bytes (closed (t .begin) (t .base) t)
 unfolding closed
-placed-back t cs ws =
+placed-back t w e ws =
     record {
-      walked = record { height = t .base; begin = 0; base = 0; children = cs };
+      walked = undone w;
       walks = ws;
-      height = refl;
+      height = e;
       begin = refl;
       base = refl;
       no-reads = λ z. refl;
       no-writes = λ z. refl;
-      seen-free = λ v m. getD-zeros 64 v;
-      kept-free = λ v m. getD-zeros 64 v;
+      reads-free = λ v m. getD-zeros 64 v;
+      writes-free = λ v m. getD-zeros 64 v;
       cells-free = λ n l. closed-above (t .base) (t .cells) (64 - t .base) n (omega arith);
     }
 
-pub back-kids : {bytes : List ℕ} (t : Thread) (cs : List Child) (ws : Walks bytes (t .start) (t .end) (t .begin) (record { height = t .base; begin = 0; base = 0; children = cs })) → placed-back t cs ws .walked .children ≡ cs
+pub back-kids : {bytes : List ℕ} (t : Thread) (w : Walked) (e : t .base ≡ w .base) (ws : Walks bytes (t .start) (t .end) (t .begin) (undone w)) → placed-back t w e ws .walked .children ≡ w .children
 unfolding placed-back
-back-kids t cs ws = refl
+back-kids t w e ws = refl
 
 -- a new thread
 unfoldable pub placed-spawned : (bytes : List ℕ) (start end : ℕ) → Placed bytes (spawned start end)
@@ -324,7 +324,7 @@ placed-spawned bytes start end =
       base = refl;
       no-reads = λ z. refl;
       no-writes = λ z. refl;
-      seen-free = λ v m. getD-zeros 64 v;
-      kept-free = λ v m. getD-zeros 64 v;
+      reads-free = λ v m. getD-zeros 64 v;
+      writes-free = λ v m. getD-zeros 64 v;
       cells-free = λ n l. getD-zeros 64 n;
     }

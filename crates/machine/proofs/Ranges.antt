@@ -14,9 +14,9 @@ use Rattle.code.proofs.Flat.{code-length}
 use Rattle.code.proofs.ReadBack.{code-small}
 use Rattle.script.specs.Count.{codeLength}
 use Rattle.script.specs.Reader.{Job}
-use Rattle.machine.specs.declared.Thread.{Thread}
-use Rattle.machine.specs.Threads.{blank, spawned, push, add, begin, below, sourceOf, readFrom, noted, read, write, closed, firstStale, overlaid}
-use Rattle.machine.specs.Steps.{State, Stepped, exists, numberOf, threadAt, put, commit, instruction, pick, fresh, run}
+use Rattle.thread.specs.declared.Thread.{Thread}
+use Rattle.thread.specs.Threads.{blank, spawned, push, add, begin, below, sourceOf, readFrom, noted, read, write, closed, firstStale, overlaid, exists}
+use Rattle.machine.specs.Steps.{State, Stepped, numberOf, threadAt, instruction, pick, fresh, run, act, settle, committing, commit, seated, Acted, Child}
 use Rattle.machine.specs.Fits.{Walked, Exists, Fits, Typed, RangedThread, Ranged, InRangeRule}
 use Rattle.machine.specs.Stands.{Stands, opOf, ValuedI, ValuedC, Ready}
 use Rattle.machine.proofs.Numbers.{in-table}
@@ -67,21 +67,21 @@ closed-in-range (suc h) [] m f n = zeros-in-range m n
 closed-in-range (suc h) (c ∷ cs) m f zero = f zero
 closed-in-range (suc h) (c ∷ cs) m f (suc n) = closed-in-range h cs m (λ k. f (suc k)) n
 
-overlaid-in-range : (left v : ℕ) (t : Thread) (table : List ℤ) → AllInRange (t .kept) → AllInRange table → AllInRange (overlaid left v t table)
+overlaid-in-range : (left v : ℕ) (t : Thread) (table : List ℤ) → AllInRange (t .writelog) → AllInRange table → AllInRange (overlaid left v t table)
 unfolding overlaid
 overlaid-in-range zero v t table k f = f
 overlaid-in-range (suc left) v t table k f =
-    overlaid-in-range left (suc v) t (cond (member (t .writes) v) (set table v (getD (t .kept) v (pos 0))) table) k (go (member (t .writes) v))
+    overlaid-in-range left (suc v) t (cond (member (t .writes) v) (set table v (getD (t .writelog) v (pos 0))) table) k (go (member (t .writes) v))
   where
-    go : (b : Bool) → AllInRange (cond b (set table v (getD (t .kept) v (pos 0))) table)
-    go true = set-in-range table v (getD (t .kept) v (pos 0)) (k v) f
+    go : (b : Bool) → AllInRange (cond b (set table v (getD (t .writelog) v (pos 0))) table)
+    go true = set-in-range table v (getD (t .writelog) v (pos 0)) (k v) f
     go false = f
 
 -- ---- the numbers and the sets of a record
 record Values (t : Thread) : Type 0 where
   cells : AllInRange (t .cells)
-  seen : AllInRange (t .seen)
-  kept : AllInRange (t .kept)
+  readlog : AllInRange (t .readlog)
+  writelog : AllInRange (t .writelog)
   reads : t .reads < 2 ^ 64
   writes : t .writes < 2 ^ 64
 
@@ -95,11 +95,11 @@ none-small = omega arith
 
 values-spawned : (start end : ℕ) → Values (spawned start end)
 unfolding spawned
-values-spawned start end = record { cells = zeros-in-range 64; seen = zeros-in-range 64; kept = zeros-in-range 64; reads = none-small; writes = none-small }
+values-spawned start end = record { cells = zeros-in-range 64; readlog = zeros-in-range 64; writelog = zeros-in-range 64; reads = none-small; writes = none-small }
 
 values-push : (n : ℤ) (next : ℕ) (t : Thread) → InRange n → Values t → Values (push n next t)
 unfolding push
-values-push n next t r v = record { cells = set-in-range (t .cells) (t .height) n r (v .cells); seen = v .seen; kept = v .kept; reads = v .reads; writes = v .writes }
+values-push n next t r v = record { cells = set-in-range (t .cells) (t .height) n r (v .cells); readlog = v .readlog; writelog = v .writelog; reads = v .reads; writes = v .writes }
 
 values-add : (sum : Rule) → InRangeRule sum → (t : Thread) → Values t → Values (add sum t)
 unfolding add
@@ -108,25 +108,25 @@ values-add sum f t v =
     let r : InRange (sum (below t 2) (below t 1)) = f (below t 2) (below t 1) (v .cells (t .height - 2)) (v .cells (t .height - 1)) in
     record {
       cells = set-in-range (set (t .cells) (t .height - 2) a) (t .height - 1) (pos 0) zero-in-range (set-in-range (t .cells) (t .height - 2) a r (v .cells));
-      seen = v .seen;
-      kept = v .kept;
+      readlog = v .readlog;
+      writelog = v .writelog;
       reads = v .reads;
       writes = v .writes;
     }
 
 values-begin : (t : Thread) → Values t → Values (begin t)
 unfolding begin
-values-begin t v = record { cells = v .cells; seen = zeros-in-range 64; kept = zeros-in-range 64; reads = none-small; writes = none-small }
+values-begin t v = record { cells = v .cells; readlog = zeros-in-range 64; writelog = zeros-in-range 64; reads = none-small; writes = none-small }
 
 read-in-range : (from : Source) (table : List ℤ) (t : Thread) (r : ℕ) → AllInRange table → Values t → InRange (readFrom from table t r)
-read-in-range fromWrites table t r f v = v .kept r
-read-in-range fromReads table t r f v = v .seen r
+read-in-range fromWrites table t r f v = v .writelog r
+read-in-range fromReads table t r f v = v .readlog r
 read-in-range fromTable table t r f v = f r
 
 values-noted : (from : Source) (r : ℕ) (n : ℤ) (t : Thread) → InRange n → Values t → Values (noted from r n t)
 values-noted fromWrites r n t i v = v
 values-noted fromReads r n t i v = v
-values-noted fromTable r n t i v = record { cells = v .cells; seen = set-in-range (t .seen) r n i (v .seen); kept = v .kept; reads = with-small (t .reads) r (v .reads); writes = v .writes }
+values-noted fromTable r n t i v = record { cells = v .cells; readlog = set-in-range (t .readlog) r n i (v .readlog); writelog = v .writelog; reads = with-small (t .reads) r (v .reads); writes = v .writes }
 
 values-read : (table : List ℤ) (r : ℕ) (t : Thread) → AllInRange table → Values t → Values (read table r t)
 unfolding read
@@ -137,51 +137,49 @@ values-read table r t f v =
 
 values-write : (r : ℕ) (t : Thread) → Values t → Values (write r t)
 unfolding write
-values-write r t v = record { cells = v .cells; seen = v .seen; kept = set-in-range (t .kept) r (below t 1) (v .cells (t .height - 1)) (v .kept); reads = v .reads; writes = with-small (t .writes) r (v .writes) }
+values-write r t v = record { cells = v .cells; readlog = v .readlog; writelog = set-in-range (t .writelog) r (below t 1) (v .cells (t .height - 1)) (v .writelog); reads = v .reads; writes = with-small (t .writes) r (v .writes) }
 
 values-closed : (place height : ℕ) (t : Thread) → Values t → Values (closed place height t)
 unfolding closed
-values-closed place height t v = record { cells = closed-in-range height (t .cells) (64 - height) (v .cells); seen = zeros-in-range 64; kept = zeros-in-range 64; reads = none-small; writes = none-small }
+values-closed place height t v = record { cells = closed-in-range height (t .cells) (64 - height) (v .cells); readlog = zeros-in-range 64; writelog = zeros-in-range 64; reads = none-small; writes = none-small }
 
 -- ---- the numbers and the sets of a state
-values-put : (s : State) (i : ℕ) (t : Thread) → Values t → AllValues s → AllValues (put s i t)
-values-put s i t v a = record { registers = a .registers; threads = set-keeps Values (s .threads) i t blank v (a .threads) }
+record ActedValues (a : Acted) : Type 0 where
+  thread : Values (a .thread)
+  table : AllInRange (a .table)
 
-values-commit : (s : State) (i : ℕ) (t : Thread) (r : ℕ) → Values t → AllValues s → AllValues (commit s i t r .state)
+values-commit : (table : List ℤ) (t : Thread) (r : ℕ) → Values t → AllInRange table → ActedValues (commit table t r)
 unfolding commit
-values-commit s i t r v a = go (ltb r 64)
+values-commit table t r v a = go (ltb r 64)
   where
-    result : Bool → Stepped
-    result b =
-        cond
-        b
-        (record { state = put s i (closed (t .begin) (t .base) t); event = sentBack r })
-        (record {
-          state = record { registers = overlaid 64 0 t (s .registers); threads = set (s .threads) i (closed (t .place + 1) (t .height) t) };
-          event = committed;
-        })
+    go : (b : Bool) → ActedValues (committing b table t r)
+    go true = record { thread = values-closed (t .begin) (t .base) t v; table = a }
+    go false = record { thread = values-closed (t .place + 1) (t .height) t v; table = overlaid-in-range 64 0 t table (v .writelog) a }
 
-    go : (b : Bool) → AllValues (result b .state)
-    go true = values-put s i (closed (t .begin) (t .base) t) (values-closed (t .begin) (t .base) t v) a
-    go false =
-        record {
-          registers = overlaid-in-range 64 0 t (s .registers) (v .kept) (a .registers);
-          threads = set-keeps Values (s .threads) i (closed (t .place + 1) (t .height) t) blank (values-closed (t .place + 1) (t .height) t v) (a .threads);
-        }
+values-act : (sum : Rule) → InRangeRule sum → (table : List ℤ) (t : Thread) (ins : Instruction) → ValuedI ins → Values t → AllInRange table → ActedValues (act sum table t (opOf ins))
+unfolding act ValuedI
+values-act sum f table t (PUSH n) o v a = record { thread = values-push n (t .place + 5) t o v; table = a }
+values-act sum f table t ADD o v a = record { thread = values-add sum f t v; table = a }
+values-act sum f table t (READ r) o v a = record { thread = values-read table r t a v; table = a }
+values-act sum f table t (WRITE r) o v a = record { thread = values-write r t v; table = a }
+values-act sum f table t BEGIN o v a = record { thread = values-begin t v; table = a }
+values-act sum f table t COMMIT o v a = values-commit table t _ v a
+values-act sum f table t (FORK k) o v a = record { thread = values-push (pos 0) (t .place + 3 + length (instructionsBytes k)) t zero-in-range v; table = a }
+
+values-seated : (count : ℕ) (cs : List Child) (ts : List Thread) → ((i : ℕ) → Values (getD ts i blank)) → (i : ℕ) → Values (getD (seated count cs ts) i blank)
+values-seated count [] ts f = f
+values-seated count (c ∷ cs) ts f = values-seated (suc count) cs (set ts count (spawned (c .start) (c .end))) (set-keeps Values ts count (spawned (c .start) (c .end)) blank (values-spawned (c .start) (c .end)) f)
+
+values-settle : (count : ℕ) (s : State) (i : ℕ) (a : Acted) → ActedValues a → AllValues s → AllValues (settle count s i a .state)
+unfolding settle
+values-settle count s i a v w =
+    record {
+      registers = v .table;
+      threads = values-seated count (a .children) (set (s .threads) i (a .thread)) (set-keeps Values (s .threads) i (a .thread) blank (v .thread) (w .threads));
+    }
 
 values-instruction : (sum : Rule) → InRangeRule sum → (s : State) (i : ℕ) (t : Thread) (ins : Instruction) → ValuedI ins → Values t → AllValues s → AllValues (instruction sum s i t (opOf ins) .state)
-unfolding instruction ValuedI
-values-instruction sum f s i t (PUSH n) o v a = values-put s i (push n (t .place + 5) t) (values-push n (t .place + 5) t o v) a
-values-instruction sum f s i t ADD o v a = values-put s i (add sum t) (values-add sum f t v) a
-values-instruction sum f s i t (READ r) o v a = values-put s i (read (s .registers) r t) (values-read (s .registers) r t (a .registers) v) a
-values-instruction sum f s i t (WRITE r) o v a = values-put s i (write r t) (values-write r t v) a
-values-instruction sum f s i t BEGIN o v a = values-put s i (begin t) (values-begin t v) a
-values-instruction sum f s i t COMMIT o v a = values-commit s i t (firstStale 64 0 t (s .registers)) v a
-values-instruction sum f s i t (FORK k) o v a =
-    let size = length (instructionsBytes k) in
-    let parent = push (pos 0) (t .place + 3 + size) t in
-    let b : AllValues (put s i parent) = values-put s i parent (values-push (pos 0) (t .place + 3 + size) t zero-in-range v) a in
-    values-put (put s i parent) (numberOf (s .threads)) (spawned (t .place + 3) (t .place + 3 + size)) (values-spawned (t .place + 3) (t .place + 3 + size)) b
+values-instruction sum f s i t ins o v a = values-settle (numberOf (s .threads)) s i (act sum (s .registers) t (opOf ins)) (values-act sum f (s .registers) t ins o v (a .registers)) a
 
 -- ---- the places and the heights of a record
 -- all below 6,000, which is far below 2 ^ 64
@@ -200,8 +198,8 @@ both : (t : Thread) → Low t → Values t → RangedThread t
 both t l v =
     record {
       cells = v .cells;
-      seen = v .seen;
-      kept = v .kept;
+      readlog = v .readlog;
+      writelog = v .writelog;
       reads = v .reads;
       writes = v .writes;
       start = fits-64 (t .start) (l .start);
@@ -216,7 +214,7 @@ values-of : (s : State) → Ranged s → AllValues s
 values-of s r =
     record {
       registers = r .registers;
-      threads = λ i. let t = r .threads i in record { cells = t .cells; seen = t .seen; kept = t .kept; reads = t .reads; writes = t .writes };
+      threads = λ i. let t = r .threads i in record { cells = t .cells; readlog = t .readlog; writelog = t .writelog; reads = t .reads; writes = t .writes };
     }
 
 low-blank : Low blank
@@ -271,7 +269,7 @@ low-held {bytes} {t} short h = go (shape (h .region) (h .outer) (h .somewhere) (
 -- ---- states
 values-blank : Values blank
 unfolding blank
-values-blank = record { cells = zeros-in-range 64; seen = zeros-in-range 64; kept = zeros-in-range 64; reads = none-small; writes = none-small }
+values-blank = record { cells = zeros-in-range 64; readlog = zeros-in-range 64; writelog = zeros-in-range 64; reads = none-small; writes = none-small }
 
 values-fresh : (bytes : List ℕ) → AllValues (fresh bytes)
 unfolding fresh
@@ -315,11 +313,11 @@ module _ {code : List ℕ} {j : Job} (c : IsCode code j) where
 
         by : Exists s i → (k : Code) {h : ℕ} → Ready code (threadAt s i .place) (threadAt s i .end) k h → AllValues (pick sum code s i .state)
         by e ε r =
-            stays (ended-idle sum code s i (stands-end (r .stands)))
+            stays (ended-idle sum code (numberOf (s .threads)) s i (stands-end (r .stands)))
         by e (ins ⨾ k) r =
             let small : ltb i (length (s .threads)) ≡ true = lt-ltb i (length (s .threads)) (in-table s i e) in
             let l = stands-inside (r .stands) in
-            subst (λ (x : Stepped). AllValues (x .state)) (sym (does sum code s i (opOf ins) small e (λ z. absurd (omega arith)) (ready-op r)))
+            subst (λ (x : Stepped). AllValues (x .state)) (sym (does sum code (numberOf (s .threads)) s i (opOf ins) small e (λ z. absurd (omega arith)) (ready-op r)))
             (values-instruction sum g s i (threadAt s i) ins (r .valued .0) (a .threads i) a)
 
         at-shape : Exists s i → {w : Walked} → Shape code (threadAt s i .start) (threadAt s i .end) (threadAt s i .place) w → AllValues (pick sum code s i .state)
@@ -328,7 +326,7 @@ module _ {code : List ℕ} {j : Job} (c : IsCode code j) where
 
         go : (b : Bool) → exists (threadAt s i) ≡ b → AllValues (pick sum code s i .state)
         go true e = let h = held c (outer c) s f y i e in at-shape e (shape (h .region) (h .outer) (h .somewhere) (h .placed .walks))
-        go false e = stays (missing-idle sum code s i e)
+        go false e = stays (missing-idle sum code (numberOf (s .threads)) s i e)
 
     -- a pick leaves the numbers of a state such as their fields can hold
     pub pick-ranged : (s : State) → Fits code s → Typed s → Ranged s → (i : ℕ) → Ranged (pick sum code s i .state)

@@ -14,8 +14,8 @@ use Rattle.code.specs.Reader as code
 use Rattle.script.specs.Bytes.{bytes16}
 use Rattle.script.specs.Outcome.{done}
 use Rattle.script.specs.Reader.{Job}
-use Rattle.machine.specs.Steps.{State, threadAt}
-use Rattle.machine.specs.Fits.{Child, Walked, walkOp, nextPlace, Walks, starts, passes, In, here, there, ownCode, Exists, Forked, Fits, Typed}
+use Rattle.machine.specs.Steps.{State, threadAt, Child}
+use Rattle.machine.specs.Fits.{Walked, walkOp, nextPlace, Walks, starts, passes, In, here, there, ownCode, Exists, Forked, Fits, Typed}
 use Rattle.machine.proofs.Walking.{not-before}
 use Rattle.machine.specs.Stands.{opOf, Ready}
 use Rattle.machine.proofs.Codes.{next-place, stands-end, ready-op, ready-next, ready-child, code-ready}

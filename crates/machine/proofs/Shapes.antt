@@ -1,13 +1,13 @@
 -- At each place of a thread's own code stands code that can be run from there: what the walk leaves is what that code needs. Assumes nothing.
 use Prim.Native.Nat.{ℕ, zero, suc, _+_, _-_, _≤_, _<_}
-use mathlib.Core.Path.{_≡_, refl, sym, subst, _∙_}
+use mathlib.Core.Path.{_≡_, refl, sym, ap, subst, _∙_}
 use mathlib.Core.List.{List}
 use native.Mathlib.Omega.{arith}
 use lib.ListN.{drop}
 use Rattle.code.specs.Compile.{Instruction, Code, PUSH, ADD, READ, WRITE, BEGIN, COMMIT, FORK, ε, _⨾_}
 use Rattle.code.specs.Reader.{Op, opAt}
 use Rattle.script.specs.Outcome.{Outcome, done}
-use Rattle.machine.specs.Fits.{Walked, walkOp, nextPlace, Walks, starts, passes}
+use Rattle.machine.specs.Fits.{Walked, notes, shut, undone, walkOp, nextPlace, Walks, starts, passes}
 use Rattle.machine.proofs.Walking.{not-before}
 use Rattle.machine.specs.Stands.{opOf, Ready}
 use Rattle.machine.proofs.Codes.{stands-end, ready-op, ready-next}
@@ -32,21 +32,23 @@ pub record Begun (bytes : List ℕ) (start end : ℕ) (w : Walked) (body c : Cod
   pub somewhere : 1 ≤ w .begin
   pub again : Ready bytes (w .begin) end (BEGIN ⨾ body) (w .base)
   pub outside : Outside (BEGIN ⨾ body) (w .base)
-  pub walks : Walks bytes start end (w .begin) (record { height = w .base; begin = 0; base = 0; children = w .children })
+  pub walks : Walks bytes start end (w .begin) (undone w)
   pub same : behind c ≡ behind body
 
 pub data Shape (bytes : List ℕ) (start end place : ℕ) (w : Walked) : Type 0 where
   out : (c : Code) → Ready bytes place end c (w .height) → Outside c (w .height) → w .begin ≡ 0 → w .base ≡ 0 → Shape bytes start end place w
   open′ : (body c : Code) (k : ℕ) → Ready bytes place end c (w .height) → Inside c k (w .base) → w .height ≡ k + w .base → Begun bytes start end w body c → Shape bytes start end place w
 
+shut-same : (w : Walked) → w .begin ≡ 0 → w .base ≡ 0 → shut w ≡ w
+shut-same w b c = ap (λ (n : ℕ). notes n 0 w) (sym b) ∙ ap (λ (n : ℕ). notes (w .begin) n w) (sym c)
+
 pub same-op : {a b : Op} → _≡_ {A = Outcome Op} (done a) (done b) → a ≡ b
 same-op e = cc
 
 module _ {bytes : List ℕ} {start end : ℕ} where
-  closed-walk : {place : ℕ} (w : Walked) → w .begin ≡ 0 → w .base ≡ 0 → Walks bytes start end place w → Walks bytes start end place (record { height = w .height; begin = 0; base = 0; children = w .children })
-  closed-walk {place} w b c ws =
-      subst (λ (n : ℕ). Walks bytes start end place (record { height = w .height; begin = 0; base = n; children = w .children })) c
-      (subst (λ (n : ℕ). Walks bytes start end place (record { height = w .height; begin = n; base = w .base; children = w .children })) b ws)
+  -- where no transaction is open
+  shut-walk : {place : ℕ} (w : Walked) → w .begin ≡ 0 → w .base ≡ 0 → Walks bytes start end place w → Walks bytes start end place (shut w)
+  shut-walk {place} w b c ws = subst (λ (x : Walked). Walks bytes start end place x) (sym (shut-same w b c)) ws
 
   module _ (place : ℕ) (w : Walked) (started : 1 ≤ place) (ws : Walks bytes start end place w) where
     abbrev After : Op → Type 0
@@ -59,7 +61,7 @@ module _ {bytes : List ℕ} {start end : ℕ} where
     from-outside (READ v) c r o b z = absurd o
     from-outside (WRITE v) c r o b z = absurd o
     from-outside BEGIN c r o b z =
-        open′ c c 0 (ready-next r) o (omega arith) (record { somewhere = started; again = r; outside = o; walks = closed-walk w b z ws; same = refl })
+        open′ c c 0 (ready-next r) o (omega arith) (record { somewhere = started; again = r; outside = o; walks = shut-walk w b z ws; same = refl })
     from-outside COMMIT c r o b z = absurd o
     from-outside (FORK k) c r o b z = out c (ready-next r) (o .1) b z
 

@@ -12,11 +12,10 @@ use lib.ListN.{length, getD, set, take}
 use lib.Seq.{getD-set-same, getD-set-other}
 use lib.Signed.{ltZ}
 use Rattle.code.specs.Compile.{Code, BEGIN, _⨾_}
-use Rattle.machine.specs.declared.Thread.{Thread}
-use Rattle.machine.specs.Threads.{begin, stale, firstStale, overlaid}
-use Rattle.machine.specs.Stands.{stackFrom, logOf, Ready}
+use Rattle.thread.specs.declared.Thread.{Thread}
+use Rattle.thread.specs.Threads.{begin, stale, firstStale, overlaid, logOf, readLog, writeLog}
+use Rattle.machine.specs.Stands.{stackFrom, Ready, registerCells}
 use Rattle.machine.proofs.Placings.{closed-below}
-use Rattle.stm.specs.Cells.{byValue}
 use Rattle.stm.specs.Tasks as tasks
 use Rattle.stm.specs.Tasks.{Task, outside, inside, logged, nothing, staleIn, entered, overwritten}
 use Rattle.stm.specs.Meaning.{Outside, Inside, behind}
@@ -25,9 +24,9 @@ use Rattle.word.specs.Registers.{member, with}
 use Rattle.word.proofs.Sets.{member-none, member-same, member-other}
 
 -- the task that a record shows, its code standing where its place is
-pub data Shows (bytes : List ℕ) (t : Thread) : Task byValue → Type 0 where
+pub data Shows (bytes : List ℕ) (t : Thread) : Task registerCells → Type 0 where
   shut : (c : Code) → Ready bytes (t .place) (t .end) c (t .height) → Outside c (t .height) → t .begin ≡ 0 → Shows bytes t (outside c (stackFrom (t .cells) 0 (t .height)))
-  open′ : (body c : Code) (k : ℕ) → Ready bytes (t .place) (t .end) c (t .height) → Inside c k (t .base) → t .height ≡ k + t .base → 1 ≤ t .begin → Ready bytes (t .begin) (t .end) (BEGIN ⨾ body) (t .base) → Outside (BEGIN ⨾ body) (t .base) → behind c ≡ behind body → Shows bytes t (inside body (stackFrom (t .cells) 0 (t .base)) c (stackFrom (t .cells) (t .base) k) (logOf (t .reads) (t .seen)) (logOf (t .writes) (t .kept)))
+  open′ : (body c : Code) (k : ℕ) → Ready bytes (t .place) (t .end) c (t .height) → Inside c k (t .base) → t .height ≡ k + t .base → 1 ≤ t .begin → Ready bytes (t .begin) (t .end) (BEGIN ⨾ body) (t .base) → Outside (BEGIN ⨾ body) (t .base) → behind c ≡ behind body → Shows bytes t (inside body (stackFrom (t .cells) 0 (t .base)) c (stackFrom (t .cells) (t .base) k) (readLog t) (writeLog t))
 
 -- ---- stacks
 stack-same : (cells cells′ : List ℤ) (base k : ℕ) → ((i : ℕ) → i < k + base → getD cells i (pos 0) ≡ getD cells′ i (pos 0)) → stackFrom cells base k ≡ stackFrom cells′ base k
@@ -80,30 +79,30 @@ log-with set′ ns v n l e = fun-ext (λ u. at u (eqb u v) refl)
         rw (member-other set′ v u x, getD-set-other ns v u n (pos 0) x)
 
 -- the first stale register, and the table with the write log in it
-stale-same : (t : Thread) (table : List ℤ) (v : ℕ) → stale t table v ≡ staleIn byValue (logOf (t .reads) (t .seen) v) (getD table v (pos 0))
+stale-same : (t : Thread) (table : List ℤ) (v : ℕ) → stale t table v ≡ staleIn registerCells (readLog t v) (getD table v (pos 0))
 unfolding stale logOf
 stale-same t table v = go (member (t .reads) v)
   where
-    go : (b : Bool) → (b && (ltZ (getD (t .seen) v (pos 0)) (getD table v (pos 0)) || ltZ (getD table v (pos 0)) (getD (t .seen) v (pos 0)))) ≡ staleIn byValue (cond b (some (getD (t .seen) v (pos 0))) none) (getD table v (pos 0))
+    go : (b : Bool) → (b && (ltZ (getD (t .readlog) v (pos 0)) (getD table v (pos 0)) || ltZ (getD table v (pos 0)) (getD (t .readlog) v (pos 0)))) ≡ staleIn registerCells (cond b (some (getD (t .readlog) v (pos 0))) none) (getD table v (pos 0))
     go true = refl
     go false = refl
 
-pub first-same : (left v : ℕ) (t : Thread) (table : List ℤ) → firstStale left v t table ≡ tasks.firstStale byValue left v (logOf (t .reads) (t .seen)) table
+pub first-same : (left v : ℕ) (t : Thread) (table : List ℤ) → firstStale left v t table ≡ tasks.firstStale registerCells left v (readLog t) table
 unfolding firstStale tasks.firstStale
 first-same zero v t table = refl
-first-same (suc left) v t table = go (stale t table v) (staleIn byValue (logOf (t .reads) (t .seen) v) (getD table v (pos 0))) (stale-same t table v) (first-same left (suc v) t table)
+first-same (suc left) v t table = go (stale t table v) (staleIn registerCells (readLog t v) (getD table v (pos 0))) (stale-same t table v) (first-same left (suc v) t table)
   where
-    go : (a b : Bool) → a ≡ b → firstStale left (suc v) t table ≡ tasks.firstStale byValue left (suc v) (logOf (t .reads) (t .seen)) table → _≡_ {A = ℕ} (elim a [ true ↦ v | false ↦ firstStale left (suc v) t table ]) (elim b [ true ↦ v | false ↦ tasks.firstStale byValue left (suc v) (logOf (t .reads) (t .seen)) table ])
+    go : (a b : Bool) → a ≡ b → firstStale left (suc v) t table ≡ tasks.firstStale registerCells left (suc v) (readLog t) table → _≡_ {A = ℕ} (elim a [ true ↦ v | false ↦ firstStale left (suc v) t table ]) (elim b [ true ↦ v | false ↦ tasks.firstStale registerCells left (suc v) (readLog t) table ])
     go true true e r = refl
     go true false e r = absurd (let z : _≡_ {A = ℕ} 0 1 = cc in omega arith)
     go false true e r = absurd (let z : _≡_ {A = ℕ} 0 1 = cc in omega arith)
     go false false e r = r
 
-pub overlaid-same : (left v : ℕ) (t : Thread) (table : List ℤ) → overlaid left v t table ≡ overwritten byValue left v (logOf (t .writes) (t .kept)) table
+pub overlaid-same : (left v : ℕ) (t : Thread) (table : List ℤ) → overlaid left v t table ≡ overwritten registerCells left v (writeLog t) table
 unfolding overlaid overwritten logOf
 overlaid-same zero v t table = refl
 overlaid-same (suc left) v t table = go (member (t .writes) v) (λ table′. overlaid-same left (suc v) t table′)
   where
-    go : (b : Bool) → ((table′ : List ℤ) → overlaid left (suc v) t table′ ≡ overwritten byValue left (suc v) (logOf (t .writes) (t .kept)) table′) → overlaid left (suc v) t (cond b (set table v (getD (t .kept) v (pos 0))) table) ≡ overwritten byValue left (suc v) (logOf (t .writes) (t .kept)) (entered byValue (cond b (some (getD (t .kept) v (pos 0))) none) v table)
-    go true f = f (set table v (getD (t .kept) v (pos 0)))
+    go : (b : Bool) → ((table′ : List ℤ) → overlaid left (suc v) t table′ ≡ overwritten registerCells left (suc v) (writeLog t) table′) → overlaid left (suc v) t (cond b (set table v (getD (t .writelog) v (pos 0))) table) ≡ overwritten registerCells left (suc v) (writeLog t) (entered registerCells (cond b (some (getD (t .writelog) v (pos 0))) none) v table)
+    go true f = f (set table v (getD (t .writelog) v (pos 0)))
     go false f = f table

@@ -14,18 +14,17 @@ use Rattle.code.specs.Compile.{Instruction, Code, PUSH, ADD, READ, WRITE, BEGIN
 use Rattle.code.specs.Bytes.{instructionsBytes}
 use Rattle.code.specs.Counts.{Takes}
 use Rattle.code.specs.Reader as code
-use Rattle.machine.specs.declared.Thread.{Thread}
-use Rattle.machine.specs.Threads.{zeros, spawned, push, add, begin, below, sourceOf, readFrom, noted, read, write, closed, firstStale, overlaid}
+use Rattle.thread.specs.declared.Thread.{Thread}
+use Rattle.thread.specs.Threads.{zeros, spawned, push, add, begin, below, sourceOf, readFrom, noted, read, write, closed, firstStale, overlaid, logOf, readLog, writeLog}
 use Rattle.stm.specs.Events.{Source, fromWrites, fromReads, fromTable, summed, looked, sentBack, committed}
-use Rattle.machine.specs.Steps.{State, Stepped, numberOf, put, commit, instruction}
-use Rattle.machine.specs.Fits.{Child, Walked, walkOp, nextPlace, Walks, Placed, TypedThread}
+use Rattle.machine.specs.Steps.{State, Stepped, numberOf, committing, commit, instruction, Child, act, settle}
+use Rattle.machine.specs.Fits.{undone, walkOp, nextPlace, Walks, Placed, TypedThread}
 use Rattle.machine.proofs.Walking.{not-before}
-use Rattle.machine.specs.Stands.{stackFrom, logOf, opOf, Ready}
+use Rattle.machine.specs.Stands.{stackFrom, opOf, Ready, registerCells, tableOf}
 use Rattle.machine.proofs.Codes.{stands-inside, ready-op, ready-next, ready-child, ready-takes}
 use Rattle.machine.proofs.Shapes.{taking-two, taking-less, Shape, out, open′ as shape-open, shape}
 use Rattle.machine.proofs.Placings.{typed-push, typed-add, typed-begin, typed-read, typed-write, typed-closed, placed-push, placed-add, placed-read, read-kids, placed-write, placed-begin, placed-commit, commit-kids, placed-back, back-kids}
 use Rattle.machine.proofs.Showings.{Shows, shut, open′, stack-suc, stack-set, stack-push, stack-add, stack-closed, log-none, log-with, first-same, overlaid-same}
-use Rattle.stm.specs.Cells.{byValue}
 use Rattle.stm.specs.Tasks.{Log, outside, inside, Did, Found, logged, goes, found, foundIn, overwritten, commits, stepOutside, stepInside}
 use Rattle.stm.specs.Meaning.{TakesOutside, TakesInside, Outside, Inside, behind}
 use Rattle.word.specs.Registers.{member}
@@ -46,9 +45,9 @@ pub data Born (bytes : List ℕ) (ts : List Thread) (n : ℕ) : List Code → Li
   child : {k : Code} (start end : ℕ) → Ready bytes start end k 0 → Outside k 0 → 1 ≤ start → Born bytes ts n (k ∷ []) (record { start = start; end = end } ∷ []) (set ts n (spawned start end))
 
 -- a step of thread i, which was t and had passed the FORKs of `old`, and the step of its task
-pub record Simulated (bytes : List ℕ) (s : State) (i : ℕ) (t : Thread) (old : List Child) (r : Stepped) (d : Did byValue) : Type 0 where
+pub record Simulated (bytes : List ℕ) (s : State) (i : ℕ) (t : Thread) (old : List Child) (r : Stepped) (d : Did registerCells) : Type 0 where
   pub event : r .event ≡ d .event
-  pub registers : r .state .registers ≡ d .table
+  pub registers : tableOf (r .state) ≡ d .table
   pub thread : Thread
   pub born : List Child
   pub threads : Born bytes (set (s .threads) i thread) (numberOf (s .threads)) (d .children) born (r .state .threads)
@@ -59,10 +58,10 @@ pub record Simulated (bytes : List ℕ) (s : State) (i : ℕ) (t : Thread) (old 
   pub start : thread .start ≡ t .start
   pub end : thread .end ≡ t .end
 
-shown-inside : {bytes : List ℕ} {t : Thread} {body c : Code} {b b′ σ σ′ : List ℤ} {r r′ w w′ : Log ℤ} → Shows bytes t (inside body b c σ r w) → b ≡ b′ → σ ≡ σ′ → r ≡ r′ → w ≡ w′ → Shows bytes t (inside body b′ c σ′ r′ w′)
+shown-inside : {bytes : List ℕ} {t : Thread} {body c : Code} {b b′ σ σ′ : List ℤ} {r r′ : Log (registerCells .Cell)} {w w′ : Log ℤ} → Shows bytes t (inside body b c σ r w) → b ≡ b′ → σ ≡ σ′ → r ≡ r′ → w ≡ w′ → Shows bytes t (inside body b′ c σ′ r′ w′)
 shown-inside {bytes} {t} {body} {c} {b} {b′} {σ} {σ′} {r} {r′} {w} {w′} s e f g h =
     subst (λ (x : Log ℤ). Shows bytes t (inside body b′ c σ′ r′ x)) h
-    (subst (λ (x : Log ℤ). Shows bytes t (inside body b′ c σ′ x w)) g
+    (subst (λ (x : Log (registerCells .Cell)). Shows bytes t (inside body b′ c σ′ x w)) g
     (subst (λ (x : List ℤ). Shows bytes t (inside body b′ c x r w)) f
     (subst (λ (x : List ℤ). Shows bytes t (inside body x c σ r w)) e s)))
 
@@ -70,25 +69,21 @@ shown-outside : {bytes : List ℕ} {t : Thread} {c : Code} {σ σ′ : List ℤ}
 shown-outside {bytes} {t} {c} s e = subst (λ (x : List ℤ). Shows bytes t (outside c x)) e s
 
 -- where the BEGIN of an open transaction was
-back-walks : {bytes : List ℕ} {t : Thread} (h : Held bytes t) → 1 ≤ t .begin → Walks bytes (t .start) (t .end) (t .begin) (record { height = t .base; begin = 0; base = 0; children = h .placed .walked .children })
+back-walks : {bytes : List ℕ} {t : Thread} (h : Held bytes t) → 1 ≤ t .begin → Walks bytes (t .start) (t .end) (t .begin) (undone (h .placed .walked))
 back-walks {bytes} {t} h l = go (shape (h .region) (h .outer) (h .somewhere) (h .placed .walks))
   where
-    w : Walked
-    w = h .placed .walked
-
-    go : Shape bytes (t .start) (t .end) (t .place) (h .placed .walked) → Walks bytes (t .start) (t .end) (t .begin) (record { height = t .base; begin = 0; base = 0; children = h .placed .walked .children })
+    go : Shape bytes (t .start) (t .end) (t .place) (h .placed .walked) → Walks bytes (t .start) (t .end) (t .begin) (undone (h .placed .walked))
     go (out c r o z y) = absurd (let b = h .placed .begin in omega arith)
     go (shape-open body c k r o e g) =
-        subst (λ (n : ℕ). Walks bytes (t .start) (t .end) (t .begin) (record { height = n; begin = 0; base = 0; children = h .placed .walked .children })) (sym (h .placed .base))
-        (subst (λ (n : ℕ). Walks bytes (t .start) (t .end) n (record { height = h .placed .walked .base; begin = 0; base = 0; children = h .placed .walked .children })) (sym (h .placed .begin)) (g .walks))
+        subst (λ (n : ℕ). Walks bytes (t .start) (t .end) n (undone (h .placed .walked))) (sym (h .placed .begin)) (g .walks)
 
 module _ {bytes : List ℕ} (sum : Rule) (s : State) (j : ℕ) (t : Thread) (h : Held bytes t) where
-  abbrev pub Sim : Stepped → Did byValue → Type 0
+  abbrev pub Sim : Stepped → Did registerCells → Type 0
   Sim r d = Simulated bytes s j t (h .placed .walked .children) r d
 
   -- ---- outside a transaction
-  pub from-outside : (i : Instruction) (c : Code) → Ready bytes (t .place) (t .end) (i ⨾ c) (t .height) → Outside (i ⨾ c) (t .height) → t .begin ≡ 0 → Sim (instruction sum s j t (opOf i)) (stepOutside byValue sum (s .registers) (i ⨾ c) (stackFrom (t .cells) 0 (t .height)))
-  unfolding instruction stepOutside Outside TakesOutside Takes nextPlace walkOp push begin placed-push placed-begin placed-add add stackFrom
+  pub from-outside : (i : Instruction) (c : Code) → Ready bytes (t .place) (t .end) (i ⨾ c) (t .height) → Outside (i ⨾ c) (t .height) → t .begin ≡ 0 → Sim (instruction sum s j t (opOf i)) (stepOutside registerCells sum (tableOf s) (i ⨾ c) (stackFrom (t .cells) 0 (t .height)))
+  unfolding act settle stepOutside Outside TakesOutside Takes nextPlace walkOp push begin placed-push placed-begin placed-add add stackFrom
   from-outside (PUSH n) c r o z =
       let l = stands-inside (r .stands) in
       let y = h .typed .cells in
@@ -148,7 +143,7 @@ module _ {bytes : List ℕ} (sum : Rule) (s : State) (j : ℕ) (t : Thread) (h :
       nothing-above = refl
   from-outside ADD c r o z = add-outside (t .height - 2) (let two = taking-two (λ (x : ℕ). Outside c x) (t .height) o in let e : t .height ≡ suc (suc (t .height - 2)) = omega arith in e)
     where
-      simulated : (k : ℕ) → t .height ≡ suc (suc k) → Sim (instruction sum s j t code.add) (stepOutside byValue sum (s .registers) (ADD ⨾ c) (stackFrom (t .cells) 0 (suc (suc k))))
+      simulated : (k : ℕ) → t .height ≡ suc (suc k) → Sim (instruction sum s j t code.add) (stepOutside registerCells sum (tableOf s) (ADD ⨾ c) (stackFrom (t .cells) 0 (suc (suc k))))
       simulated k e =
           let l = stands-inside (r .stands) in
           let y = h .typed .cells in
@@ -175,8 +170,8 @@ module _ {bytes : List ℕ} (sum : Rule) (s : State) (j : ℕ) (t : Thread) (h :
               let b : t .height - 1 ≡ suc k + 0 = omega arith in
               rw (ap (λ (m : ℕ). stackFrom (add sum t .cells) 0 m) x, stack-add (t .cells) 0 k (t .height) (sum (below t 2) (below t 1)) (pos 0) (omega arith) (omega arith), a, b)
 
-      add-outside : (k : ℕ) → t .height ≡ suc (suc k) → Sim (instruction sum s j t code.add) (stepOutside byValue sum (s .registers) (ADD ⨾ c) (stackFrom (t .cells) 0 (t .height)))
-      add-outside k e = subst (λ (x : ℕ). Sim (instruction sum s j t code.add) (stepOutside byValue sum (s .registers) (ADD ⨾ c) (stackFrom (t .cells) 0 x))) (sym e) (simulated k e)
+      add-outside : (k : ℕ) → t .height ≡ suc (suc k) → Sim (instruction sum s j t code.add) (stepOutside registerCells sum (tableOf s) (ADD ⨾ c) (stackFrom (t .cells) 0 (t .height)))
+      add-outside k e = subst (λ (x : ℕ). Sim (instruction sum s j t code.add) (stepOutside registerCells sum (tableOf s) (ADD ⨾ c) (stackFrom (t .cells) 0 x))) (sym e) (simulated k e)
 
   -- ---- inside a transaction
   pub record Inner (i : Instruction) (body c : Code) (k : ℕ) : Type 0 where
@@ -188,17 +183,17 @@ module _ {bytes : List ℕ} (sum : Rule) (s : State) (j : ℕ) (t : Thread) (h :
     pub outer : Outside (BEGIN ⨾ body) (t .base)
     pub same : behind (i ⨾ c) ≡ behind body
 
-  abbrev pub reads : Log ℤ
-  reads = logOf (t .reads) (t .seen)
+  abbrev pub reads : Log (registerCells .Cell)
+  reads = readLog t
 
   abbrev pub writes : Log ℤ
-  writes = logOf (t .writes) (t .kept)
+  writes = writeLog t
 
   abbrev pub below-base : List ℤ
   below-base = stackFrom (t .cells) 0 (t .base)
 
-  inner-push : (n : ℤ) (body c : Code) (k : ℕ) → Inner (PUSH n) body c k → Sim (instruction sum s j t (code.push n)) (stepInside byValue sum (s .registers) body below-base (PUSH n ⨾ c) (stackFrom (t .cells) (t .base) k) reads writes)
-  unfolding instruction stepInside Inside TakesInside Takes nextPlace walkOp push placed-push behind
+  inner-push : (n : ℤ) (body c : Code) (k : ℕ) → Inner (PUSH n) body c k → Sim (instruction sum s j t (code.push n)) (stepInside registerCells sum (tableOf s) body below-base (PUSH n ⨾ c) (stackFrom (t .cells) (t .base) k) reads writes)
+  unfolding act settle stepInside Inside TakesInside Takes nextPlace walkOp push placed-push behind
   inner-push n body c k x =
       let l = stands-inside (x .ready .stands) in
       let y = h .typed .cells in
@@ -218,8 +213,8 @@ module _ {bytes : List ℕ} (sum : Rule) (s : State) (j : ℕ) (t : Thread) (h :
         end = refl;
       }
 
-  inner-add : (body c : Code) (k : ℕ) → Inner ADD body c (suc (suc k)) → Sim (instruction sum s j t code.add) (stepInside byValue sum (s .registers) body below-base (ADD ⨾ c) (stackFrom (t .cells) (t .base) (suc (suc k))) reads writes)
-  unfolding instruction stepInside Inside TakesInside nextPlace walkOp add placed-add behind stackFrom
+  inner-add : (body c : Code) (k : ℕ) → Inner ADD body c (suc (suc k)) → Sim (instruction sum s j t code.add) (stepInside registerCells sum (tableOf s) body below-base (ADD ⨾ c) (stackFrom (t .cells) (t .base) (suc (suc k))) reads writes)
+  unfolding act settle stepInside Inside TakesInside nextPlace walkOp add placed-add behind stackFrom
   inner-add body c k x =
       let l = stands-inside (x .ready .stands) in
       let y = h .typed .cells in
@@ -254,19 +249,19 @@ module _ {bytes : List ℕ} (sum : Rule) (s : State) (j : ℕ) (t : Thread) (h :
           stack-add (t .cells) (t .base) k (t .height) (sum (below t 2) (below t 1)) (pos 0) e (omega arith) ∙ ap (λ (n : ℤ). n ∷ stackFrom (t .cells) (t .base) k) (ap (λ (p : ℕ). sum (getD (t .cells) p (pos 0)) (below t 1)) a ∙ ap (λ (p : ℕ). sum (getD (t .cells) (k + t .base) (pos 0)) (getD (t .cells) p (pos 0))) b)
 
   -- READ finds in the logs and the table what it finds in the record's
-  found-same : (v : ℕ) → v < 64 → (a b : Bool) → foundIn byValue (cond a (some (getD (t .kept) v (pos 0))) none) (cond b (some (getD (t .seen) v (pos 0))) none) (getD (s .registers) v (pos 0)) reads v ≡ record {
+  found-same : (v : ℕ) → v < 64 → (a b : Bool) → foundIn registerCells (cond a (some (getD (t .writelog) v (pos 0))) none) (cond b (some (getD (t .readlog) v (pos 0))) none) (getD (s .registers) v (pos 0)) reads v ≡ record {
     value = readFrom (cond a fromWrites (cond b fromReads fromTable)) (s .registers) t v;
     source = cond a fromWrites (cond b fromReads fromTable);
-    reads = logOf (noted (cond a fromWrites (cond b fromReads fromTable)) v (readFrom (cond a fromWrites (cond b fromReads fromTable)) (s .registers) t v) t .reads) (noted (cond a fromWrites (cond b fromReads fromTable)) v (readFrom (cond a fromWrites (cond b fromReads fromTable)) (s .registers) t v) t .seen);
+    reads = logOf (noted (cond a fromWrites (cond b fromReads fromTable)) v (readFrom (cond a fromWrites (cond b fromReads fromTable)) (s .registers) t v) t .reads) (noted (cond a fromWrites (cond b fromReads fromTable)) v (readFrom (cond a fromWrites (cond b fromReads fromTable)) (s .registers) t v) t .readlog);
   }
   found-same v l true b = refl
   found-same v l false true = refl
-  found-same v l false false = ap (λ (r : Log ℤ). record { value = getD (s .registers) v (pos 0); source = fromTable; reads = r }) (sym (log-with (t .reads) (t .seen) v (getD (s .registers) v (pos 0)) l (h .typed .seen)))
+  found-same v l false false = ap (λ (r : Log ℤ). record { value = getD (s .registers) v (pos 0); source = fromTable; reads = r }) (sym (log-with (t .reads) (t .readlog) v (getD (s .registers) v (pos 0)) l (h .typed .readlog)))
 
-  inner-read : (v : ℕ) (body c : Code) (k : ℕ) → Inner (READ v) body c k → Sim (instruction sum s j t (code.read v)) (stepInside byValue sum (s .registers) body below-base (READ v ⨾ c) (stackFrom (t .cells) (t .base) k) reads writes)
-  unfolding instruction stepInside Inside TakesInside Takes nextPlace walkOp behind found read sourceOf logOf push
+  inner-read : (v : ℕ) (body c : Code) (k : ℕ) → Inner (READ v) body c k → Sim (instruction sum s j t (code.read v)) (stepInside registerCells sum (tableOf s) body below-base (READ v ⨾ c) (stackFrom (t .cells) (t .base) k) reads writes)
+  unfolding act settle stepInside Inside TakesInside Takes nextPlace walkOp behind found read sourceOf logOf push
   inner-read v body c k x =
-      subst (λ (f : Found byValue). Sim (instruction sum s j t (code.read v)) (goes byValue (inside body below-base c (f .value ∷ stackFrom (t .cells) (t .base) k) (f .reads) writes) (s .registers) (looked (f .source))))
+      subst (λ (f : Found registerCells). Sim (instruction sum s j t (code.read v)) (goes registerCells (inside body below-base c (f .value ∷ stackFrom (t .cells) (t .base) k) (f .reads) writes) (s .registers) (looked (f .source))))
       (sym (found-same v (x .goes-on .0) (member (t .writes) v) (member (t .reads) v)))
       (record {
         event = refl;
@@ -288,7 +283,7 @@ module _ {bytes : List ℕ} (sum : Rule) (s : State) (j : ℕ) (t : Thread) (h :
       placed-read-kids : placed-read t (h .placed) l (s .registers) v (x .goes-on .0) (ready-op (x .ready)) (x .somewhere) .walked .children ≡ h .placed .walked .children
       placed-read-kids = read-kids t (h .placed) l (s .registers) v (x .goes-on .0) (ready-op (x .ready)) (x .somewhere)
 
-      shown : (from : Source) (n : ℤ) → Shows bytes (push n (t .place + 2) (noted from v n t)) (inside body below-base c (n ∷ stackFrom (t .cells) (t .base) k) (logOf (noted from v n t .reads) (noted from v n t .seen)) writes)
+      shown : (from : Source) (n : ℤ) → Shows bytes (push n (t .place + 2) (noted from v n t)) (inside body below-base c (n ∷ stackFrom (t .cells) (t .base) k) (logOf (noted from v n t .reads) (noted from v n t .readlog)) writes)
       shown fromWrites n =
           let y = h .typed .cells in
           let e = x .height in
@@ -315,8 +310,8 @@ module _ {bytes : List ℕ} (sum : Rule) (s : State) (j : ℕ) (t : Thread) (h :
       end′ fromReads = refl
       end′ fromTable = refl
 
-  inner-write : (v : ℕ) (body c : Code) (k : ℕ) → Inner (WRITE v) body c (suc k) → Sim (instruction sum s j t (code.write v)) (stepInside byValue sum (s .registers) body below-base (WRITE v ⨾ c) (stackFrom (t .cells) (t .base) (suc k)) reads writes)
-  unfolding instruction stepInside Inside TakesInside nextPlace walkOp write placed-write behind stackFrom
+  inner-write : (v : ℕ) (body c : Code) (k : ℕ) → Inner (WRITE v) body c (suc k) → Sim (instruction sum s j t (code.write v)) (stepInside registerCells sum (tableOf s) body below-base (WRITE v ⨾ c) (stackFrom (t .cells) (t .base) (suc k)) reads writes)
+  unfolding act settle stepInside Inside TakesInside nextPlace walkOp write placed-write behind stackFrom
   inner-write v body c k x =
       let l = stands-inside (x .ready .stands) in
       let e = x .height in
@@ -330,25 +325,22 @@ module _ {bytes : List ℕ} (sum : Rule) (s : State) (j : ℕ) (t : Thread) (h :
         typed = typed-write v t (h .typed);
         placed = placed-write t (h .placed) l v (x .goes-on .0) (ready-op (x .ready)) (x .somewhere);
         kids = refl;
-        shows = shown-inside (open′ body c (suc k) (ready-next (x .ready)) (x .goes-on .1) e (x .somewhere) (x .again) (x .outer) (x .same)) refl refl refl (log-with (t .writes) (t .kept) v (below t 1) (x .goes-on .0) (h .typed .kept) ∙ ap (λ (p : ℕ). logged writes v (getD (t .cells) p (pos 0))) a);
+        shows = shown-inside (open′ body c (suc k) (ready-next (x .ready)) (x .goes-on .1) e (x .somewhere) (x .again) (x .outer) (x .same)) refl refl refl (log-with (t .writes) (t .writelog) v (below t 1) (x .goes-on .0) (h .typed .writelog) ∙ ap (λ (p : ℕ). logged writes v (getD (t .cells) p (pos 0))) a);
         start = refl;
         end = refl;
       }
 
   -- COMMIT: both find the same first stale register
-  inner-commit : (body c : Code) → Inner COMMIT body c 1 → (v : ℕ) → Sim (commit s j t v) (commits byValue (s .registers) body below-base c (getD (t .cells) (0 + t .base) (pos 0)) writes v)
-  unfolding commit Inside TakesInside behind closed nextPlace
+  inner-commit : (body c : Code) → Inner COMMIT body c 1 → (v : ℕ) → Sim (settle (numberOf (s .threads)) s j (commit (s .registers) t v)) (commits registerCells (tableOf s) body below-base c (getD (t .cells) (0 + t .base) (pos 0)) writes v)
+  unfolding commit settle Inside TakesInside behind closed nextPlace
   inner-commit body c x v = go (ltb v 64)
     where
       l : t .place < t .end
       l = stands-inside (x .ready .stands)
 
-      go : (b : Bool) → Sim (cond b (record { state = put s j (closed (t .begin) (t .base) t); event = sentBack v }) (record {
-        state = record { registers = overlaid 64 0 t (s .registers); threads = set (s .threads) j (closed (t .place + 1) (t .height) t) };
-        event = committed;
-      })) (elim b [
+      go : (b : Bool) → Sim (settle (numberOf (s .threads)) s j (committing b (s .registers) t v)) (elim b [
         | true ↦ record { task = outside (BEGIN ⨾ body) below-base; table = s .registers; children = []; event = sentBack v }
-        | false ↦ record { task = outside c (getD (t .cells) (0 + t .base) (pos 0) ∷ below-base); table = overwritten byValue 64 0 writes (s .registers); children = []; event = committed }
+        | false ↦ record { task = outside c (getD (t .cells) (0 + t .base) (pos 0) ∷ below-base); table = overwritten registerCells 64 0 writes (tableOf s); children = []; event = committed }
       ])
       go true =
           let y = h .typed .cells in
@@ -360,8 +352,8 @@ module _ {bytes : List ℕ} (sum : Rule) (s : State) (j : ℕ) (t : Thread) (h :
             born = [];
             threads = nobody;
             typed = typed-closed (t .begin) (t .base) t z (h .typed);
-            placed = placed-back t (h .placed .walked .children) (back-walks h (x .somewhere));
-            kids = back-kids t (h .placed .walked .children) (back-walks h (x .somewhere));
+            placed = placed-back t (h .placed .walked) (h .placed .base) (back-walks h (x .somewhere));
+            kids = back-kids t (h .placed .walked) (h .placed .base) (back-walks h (x .somewhere));
             shows = shown-outside (shut (BEGIN ⨾ body) (x .again) (x .outer) refl) (stack-closed (t .cells) 0 (t .base) (t .base) _ (omega arith) (omega arith));
             start = refl;
             end = refl;
@@ -388,14 +380,14 @@ module _ {bytes : List ℕ} (sum : Rule) (s : State) (j : ℕ) (t : Thread) (h :
           one-above : stackFrom (t .cells) 0 (suc (t .base)) ≡ getD (t .cells) (0 + t .base) (pos 0) ∷ below-base
           one-above = stack-suc (t .cells) 0 (t .base) ∙ ap (λ (p : ℕ). getD (t .cells) p (pos 0) ∷ below-base) (let e : t .base + 0 ≡ 0 + t .base = omega arith in e)
 
-  commit-found : (body c : Code) → Inner COMMIT body c 1 → Sim (instruction sum s j t code.commit) (stepInside byValue sum (s .registers) body below-base (COMMIT ⨾ c) (stackFrom (t .cells) (t .base) 1) reads writes)
-  unfolding instruction stepInside stackFrom
+  commit-found : (body c : Code) → Inner COMMIT body c 1 → Sim (instruction sum s j t code.commit) (stepInside registerCells sum (tableOf s) body below-base (COMMIT ⨾ c) (stackFrom (t .cells) (t .base) 1) reads writes)
+  unfolding act settle stepInside stackFrom
   commit-found body c x =
-      subst (λ (v : ℕ). Sim (commit s j t (firstStale 64 0 t (s .registers))) (commits byValue (s .registers) body below-base c (getD (t .cells) (0 + t .base) (pos 0)) writes v)) (first-same 64 0 t (s .registers)) (inner-commit body c x (firstStale 64 0 t (s .registers)))
+      subst (λ (v : ℕ). Sim (instruction sum s j t code.commit) (commits registerCells (tableOf s) body below-base c (getD (t .cells) (0 + t .base) (pos 0)) writes v)) (first-same 64 0 t (s .registers)) (inner-commit body c x (firstStale 64 0 t (s .registers)))
 
   -- any instruction inside
-  pub from-inside : (i : Instruction) (body c : Code) (k : ℕ) → Inner i body c k → Sim (instruction sum s j t (opOf i)) (stepInside byValue sum (s .registers) body below-base (i ⨾ c) (stackFrom (t .cells) (t .base) k) reads writes)
-  unfolding instruction Inside TakesInside
+  pub from-inside : (i : Instruction) (body c : Code) (k : ℕ) → Inner i body c k → Sim (instruction sum s j t (opOf i)) (stepInside registerCells sum (tableOf s) body below-base (i ⨾ c) (stackFrom (t .cells) (t .base) k) reads writes)
+  unfolding act settle Inside TakesInside
   from-inside (PUSH n) body c k x = inner-push n body c k x
   from-inside ADD body c zero x = absurd (x .goes-on)
   from-inside ADD body c (suc zero) x = absurd (x .goes-on)

@@ -16,14 +16,14 @@ use Rattle.code.specs.Counts.{Takes}
 use Rattle.code.specs.Reader.{Op, opAt}
 use Rattle.script.specs.Outcome.{done}
 use Rattle.script.specs.Turns.{Registers}
-use Rattle.machine.specs.declared.Thread.{Thread}
-use Rattle.machine.specs.Threads.{blank, spawned}
-use Rattle.machine.specs.Steps.{State, Stepped, exists, numberOf, threadAt, instruction, pick}
+use Rattle.thread.specs.declared.Thread.{Thread}
+use Rattle.thread.specs.Threads.{blank, spawned, exists, readLog, writeLog}
+use Rattle.machine.specs.Steps.{State, Stepped, numberOf, threadAt, instruction, pick, act, settle}
 use Rattle.stm.specs.Events.{Event, idle, pushed, summed, forked, begun, looked, wrote, committed, sentBack, isIdle}
 use Rattle.machine.specs.Fits.{Exists}
 use Rattle.machine.specs.Source.{Log, empty, SThread, StepM, Preempt, ForkM, PushM, AddM, BeginM, ReadM, WriteM, Committed, Failed}
-use Rattle.machine.specs.Stands.{stackFrom, logOf, opOf, ValuedC, Ready}
-use Rattle.machine.specs.Soup.{First, ruleOf, Carries, nobody, Soup, Name, named, StepOn}
+use Rattle.machine.specs.Stands.{stackFrom, opOf, ValuedC, Ready, registerCells}
+use Rattle.machine.specs.Soup.{First, ruleOf, Carries, nobody, Soup, Name, named, PickOn}
 use Rattle.machine.proofs.Picks.{missing-idle, ended-idle, does}
 use Rattle.machine.proofs.Codes.{stands-end, stands-inside, stands-op, ready-op, ready-takes}
 use Rattle.machine.proofs.Shapes.{same-op, taking-two}
@@ -33,7 +33,6 @@ use Rattle.machine.proofs.Mirrors.{Mirrors, same-start, spawned-exists,
 use Rattle.machine.proofs.Numbers.{next-absent, at-end, number-small, number-is, below-exists, exists-below, never}
 use Rattle.machine.proofs.Rules.{preempted, preempted-rule, named-same, Peeled, peel, only}
 use Rattle.machine.proofs.Carryings.{newborn, Forks, nobody as no-child, child, Follows, Fine, follows}
-use Rattle.stm.specs.Cells.{byValue}
 use Rattle.stm.specs.Tasks.{Task, outside, System, taskAt, did, stepOutside, stepTask}
 use Rattle.stm.specs.Meaning.{taking1, TakesOutside, TakesInside, Outside, Inside}
 use Rattle.word.specs.Sum.{Rule}
@@ -165,7 +164,7 @@ module _ {bytes : List ℕ} where
               subst (λ (y : SThread). Carries bytes (getD (set (s .threads) n t) k blank) y) (sym b) (subst (λ (y : Thread). Carries bytes y (getD soup k nobody)) (sym a) (x .carries k g))
 
 -- ---- every state has a soup
-carrier : {bytes : List ℕ} {t : Thread} {task : Task byValue} → Shows bytes t task → (m : SThread) × Carries bytes t m
+carrier : {bytes : List ℕ} {t : Thread} {task : Task registerCells} → Shows bytes t task → (m : SThread) × Carries bytes t m
 carrier {bytes} {t} (shut c r o z) = (
   record { code = c; stack = stackFrom (t .cells) 0 (t .height); again = ε; reads = empty; writes = empty },
   record {
@@ -178,7 +177,7 @@ carrier {bytes} {t} (shut c r o z) = (
   },
 )
 carrier {bytes} {t} (open′ body c k r o e l g x y) = (
-  record { code = c; stack = stackFrom (t .cells) 0 (t .height); again = BEGIN ⨾ body; reads = logOf (t .reads) (t .seen); writes = logOf (t .writes) (t .kept) },
+  record { code = c; stack = stackFrom (t .cells) 0 (t .height); again = BEGIN ⨾ body; reads = readLog t; writes = writeLog t },
   record {
     code = r .stands;
     valued = r .valued;
@@ -190,7 +189,7 @@ carrier {bytes} {t} (open′ body c k r o e l g x y) = (
 )
 
 -- a state that shows a system of tasks has a soup
-pub soup-of : {bytes : List ℕ} {s : State} {sys : System byValue} → Mirrors bytes s sys → (soup : List SThread) × Soup bytes s soup
+pub soup-of : {bytes : List ℕ} {s : State} {sys : System registerCells} → Mirrors bytes s sys → (soup : List SThread) × Soup bytes s soup
 soup-of {bytes} {s} {sys} m =
     let r = listed (length (sys .tasks)) (λ (i : ℕ) (x : SThread). Carries bytes (threadAt s i) x) (λ i l. carrier (m .shown i l)) in
     (r .0, record { number = r .1 .0 ∙ sym (m .number); carries = λ i l. r .1 .1 i (subst (λ (n : ℕ). i < n) (r .1 .0) l) })
@@ -201,7 +200,7 @@ taking-some P zero t = absurd t
 taking-some P (suc h) t = omega arith
 
 module _ {bytes : List ℕ} (sum : Rule) (s : State) (t : Thread) (table : Registers) where
-  fine-outside : (i : Instruction) (c : Code) (σ : List ℤ) → Ready bytes (t .place) (t .end) (i ⨾ c) (t .height) → Outside (i ⨾ c) (t .height) → ((k : Code) → stepTask byValue sum table (outside (i ⨾ c) σ) .children ≡ k ∷ [] → numberOf (s .threads) < 16) → Fine s t (opOf i)
+  fine-outside : (i : Instruction) (c : Code) (σ : List ℤ) → Ready bytes (t .place) (t .end) (i ⨾ c) (t .height) → Outside (i ⨾ c) (t .height) → ((k : Code) → stepTask registerCells sum table (outside (i ⨾ c) σ) .children ≡ k ∷ [] → numberOf (s .threads) < 16) → Fine s t (opOf i)
   unfolding Fine Outside TakesOutside Takes stepTask stepOutside
   fine-outside (PUSH n) c σ r o room = ready-takes r
   fine-outside ADD c σ r o room = taking-two (λ (x : ℕ). Outside c x) (t .height) o
@@ -221,13 +220,13 @@ module _ {bytes : List ℕ} (sum : Rule) (s : State) (t : Thread) (table : Regis
   fine-inside COMMIT c k r o e l = ((let one : k ≡ 1 = o .0 in omega arith), l)
   fine-inside (FORK m) c k r o e l = absurd o
 
-  fine : {task : Task byValue} → Shows bytes t task → ((k : Code) → stepTask byValue sum table task .children ≡ k ∷ [] → numberOf (s .threads) < 16) → (op : Op) → t .place < t .end → opAt (drop (t .place) bytes) ≡ done op → Fine s t op
+  fine : {task : Task registerCells} → Shows bytes t task → ((k : Code) → stepTask registerCells sum table task .children ≡ k ∷ [] → numberOf (s .threads) < 16) → (op : Op) → t .place < t .end → opAt (drop (t .place) bytes) ≡ done op → Fine s t op
   fine (shut ε r o z) room op l e = absurd (let x = stands-end (r .stands) in omega arith)
   fine (shut (i ⨾ c) r o z) room op l e = subst (λ (p : Op). Fine s t p) (same-op (sym (ready-op r) ∙ e)) (fine-outside i c (stackFrom (t .cells) 0 (t .height)) r o room)
   fine (open′ body ε k r o h b g x y) room op l e = absurd (no-inside k (t .base) o)
   fine (open′ body (i ⨾ c) k r o h b g x y) room op l e = subst (λ (p : Op). Fine s t p) (same-op (sym (ready-op r) ∙ e)) (fine-inside i c k r o h b)
 
-shown-low : {bytes : List ℕ} {t : Thread} {task : Task byValue} → Shows bytes t task → t .height ≤ 64
+shown-low : {bytes : List ℕ} {t : Thread} {task : Task registerCells} → Shows bytes t task → t .height ≤ 64
 shown-low (shut c r o z) = r .low
 shown-low (open′ body c k r o h b g x y) = r .low
 
@@ -249,11 +248,11 @@ data Move (bytes : List ℕ) (sum : Rule) (s : State) (i : ℕ) (m : SThread) : 
   moves : (r : Stepped) → pick sum bytes s i ≡ r → Follows bytes sum s i (threadAt s i) m r → Move bytes sum s i m
 
 module _ (bytes : List ℕ) (sum : Rule) where
-  move : (s : State) (sys : System byValue) → Mirrors bytes s sys → (i : ℕ) → i < numberOf (s .threads) → Held bytes (threadAt s i) → ((k : Code) → did byValue sum sys i .children ≡ k ∷ [] → numberOf (s .threads) < 16) → (m : SThread) → Carries bytes (threadAt s i) m → Move bytes sum s i m
+  move : (s : State) (sys : System registerCells) → Mirrors bytes s sys → (i : ℕ) → i < numberOf (s .threads) → Held bytes (threadAt s i) → ((k : Code) → did registerCells sum sys i .children ≡ k ∷ [] → numberOf (s .threads) < 16) → (m : SThread) → Carries bytes (threadAt s i) m → Move bytes sum s i m
   unfolding ValuedC
   move s sys a i l h room m x = go (m .code) (m .again) (m .stack) (m .reads) (m .writes) x
     where
-      shows : Shows bytes (threadAt s i) (taskAt byValue sys i)
+      shows : Shows bytes (threadAt s i) (taskAt registerCells sys i)
       shows = a .shown i (subst (λ (n : ℕ). i < n) (a .number) l)
 
       e : exists (threadAt s i) ≡ true
@@ -264,17 +263,17 @@ module _ (bytes : List ℕ) (sum : Rule) where
 
       go : (c f : Code) (σ : List ℤ) (r w : Log) → Carries bytes (threadAt s i) (record { code = c; stack = σ; again = f; reads = r; writes = w }) → Move bytes sum s i (record { code = c; stack = σ; again = f; reads = r; writes = w })
       go ε f σ r w y =
-          ended refl (ended-idle sum bytes s i (stands-end (y .code)))
+          ended refl (ended-idle sum bytes (numberOf (s .threads)) s i (stands-end (y .code)))
       go (ins ⨾ c) f σ r w y =
           let less = stands-inside (y .code) in
           let o : opAt (drop (threadAt s i .place) bytes) ≡ done (opOf ins) = stands-op (y .code) (y .valued .0) in
           moves
           (instruction sum s i (threadAt s i) (opOf ins))
-          (does sum bytes s i (opOf ins) small e (λ z. absurd (omega arith)) o)
+          (does sum bytes (numberOf (s .threads)) s i (opOf ins) small e (λ z. absurd (omega arith)) o)
           (follows bytes sum s i (threadAt s i) (h .typed) (shown-low shows) ins c f σ r w y (fine sum s (threadAt s i) (sys .table) shows room (opOf ins) less o))
 
   -- a thread's rule is a step of the soup
-  step-on : (s : State) (soup : List SThread) → Soup bytes s soup → length (s .threads) ≡ 16 → ((i : ℕ) → Exists s (suc i) → Exists s i) → (i : ℕ) (front : List SThread) (m : SThread) (behind : List SThread) → length front ≡ i → soup ≡ front ++ (m ∷ behind) → (r : Stepped) → pick sum bytes s i ≡ r → (x : Follows bytes sum s i (threadAt s i) m r) → StepOn bytes sum s i soup (x .heap) (front ++ (x .m′ ∷ (x .new ++ behind)))
+  step-on : (s : State) (soup : List SThread) → Soup bytes s soup → length (s .threads) ≡ 16 → ((i : ℕ) → Exists s (suc i) → Exists s i) → (i : ℕ) (front : List SThread) (m : SThread) (behind : List SThread) → length front ≡ i → soup ≡ front ++ (m ∷ behind) → (r : Stepped) → pick sum bytes s i ≡ r → (x : Follows bytes sum s i (threadAt s i) m r) → PickOn bytes sum s i soup (x .heap) (front ++ (x .m′ ∷ (x .new ++ behind)))
   step-on s soup a sized gap i front m behind at was r p x =
       record {
         front = front;
@@ -323,19 +322,19 @@ module _ (bytes : List ℕ) (sum : Rule) where
           (grown (record { registers = r .state .registers; threads = ts }) (front ++ (x .m′ ∷ behind)) one (let w = length-set (s .threads) i (x .thread) in let v = number in omega arith) still-free (spawned start end) (newborn k) (spawned-exists start end there) c))
 
   -- a pick that is not idle is a step of the soup, by the rule of its event
-  pub pick-steps : (s : State) (sys : System byValue) → Mirrors bytes s sys → ((i : ℕ) → Exists s (suc i) → Exists s i) → ((i : ℕ) → Exists s i → Held bytes (threadAt s i)) → (i : ℕ) → ((k : Code) → did byValue sum sys i .children ≡ k ∷ [] → numberOf (s .threads) < 16) → (soup : List SThread) → Soup bytes s soup → isIdle (pick sum bytes s i .event) ≡ false → (h′ : Registers) × ((soup′ : List SThread) × StepOn bytes sum s i soup h′ soup′)
+  pub pick-steps : (s : State) (sys : System registerCells) → Mirrors bytes s sys → ((i : ℕ) → Exists s (suc i) → Exists s i) → ((i : ℕ) → Exists s i → Held bytes (threadAt s i)) → (i : ℕ) → ((k : Code) → did registerCells sum sys i .children ≡ k ∷ [] → numberOf (s .threads) < 16) → (soup : List SThread) → Soup bytes s soup → isIdle (pick sum bytes s i .event) ≡ false → (h′ : Registers) × ((soup′ : List SThread) × PickOn bytes sum s i soup h′ soup′)
   pick-steps s sys a gap holds i room soup x busy = go (decLt i (numberOf (s .threads)))
     where
       no-idle : pick sum bytes s i ≡ record { state = s; event = idle } → ⊥
       no-idle p = never (ap (λ (y : Stepped). isIdle (y .event)) p) busy
 
-      by : i < length soup → Move bytes sum s i (getD soup i nobody) → (h′ : Registers) × ((soup′ : List SThread) × StepOn bytes sum s i soup h′ soup′)
+      by : i < length soup → Move bytes sum s i (getD soup i nobody) → (h′ : Registers) × ((soup′ : List SThread) × PickOn bytes sum s i soup h′ soup′)
       by l (ended z p) = absurd (no-idle p)
       by l (moves r p y) =
           let d = split soup i l in
           (y .heap, (_, step-on s soup x (a .records) gap i (d .front) (getD soup i nobody) (d .behind) (d .number) (d .was) r p y))
 
-      go : Dec (i < numberOf (s .threads)) → (h′ : Registers) × ((soup′ : List SThread) × StepOn bytes sum s i soup h′ soup′)
+      go : Dec (i < numberOf (s .threads)) → (h′ : Registers) × ((soup′ : List SThread) × PickOn bytes sum s i soup h′ soup′)
       go (yes l) =
           let k : i < length soup = subst (λ (n : ℕ). i < n) (sym (x .number)) l in
           by k (move s sys a i l (holds i (below-exists s i l)) room (getD soup i nobody) (x .carries i k))
@@ -343,7 +342,7 @@ module _ (bytes : List ℕ) (sum : Rule) where
         where
           missing : (b : Bool) → exists (threadAt s i) ≡ b → ⊥
           missing true e = absurd (let z = exists-below s gap i e in omega arith)
-          missing false e = no-idle (missing-idle sum bytes s i e)
+          missing false e = no-idle (missing-idle sum bytes (numberOf (s .threads)) s i e)
 
   some-code : {h h′ : Registers} {m : SThread} {behind s′ : List SThread} → (x : StepM sum h (m ∷ behind) h′ s′) → First x → m .code ≡ ε → ⊥
   unfolding First
@@ -358,7 +357,7 @@ module _ (bytes : List ℕ) (sum : Rule) where
   some-code (Failed q) f e = absurd (let z : _≡_ {A = ℕ} 0 1 = cc in omega arith)
 
   -- every step of the soup is a pick that is not idle
-  pub step-picks : (s : State) (sys : System byValue) → Mirrors bytes s sys → ((i : ℕ) → Exists s (suc i) → Exists s i) → ((i : ℕ) → Exists s i → Held bytes (threadAt s i)) → ((i : ℕ) (k : Code) → did byValue sum sys i .children ≡ k ∷ [] → numberOf (s .threads) < 16) → (soup : List SThread) → Soup bytes s soup → (h′ : Registers) (soup′ : List SThread) → (step : StepM sum (s .registers) soup h′ soup′) → (i : ℕ) × ((isIdle (pick sum bytes s i .event) ≡ false) × ((named (pick sum bytes s i .event) ≡ some (ruleOf step)) × StepOn bytes sum s i soup h′ soup′))
+  pub step-picks : (s : State) (sys : System registerCells) → Mirrors bytes s sys → ((i : ℕ) → Exists s (suc i) → Exists s i) → ((i : ℕ) → Exists s i → Held bytes (threadAt s i)) → ((i : ℕ) (k : Code) → did registerCells sum sys i .children ≡ k ∷ [] → numberOf (s .threads) < 16) → (soup : List SThread) → Soup bytes s soup → (h′ : Registers) (soup′ : List SThread) → (step : StepM sum (s .registers) soup h′ soup′) → (i : ℕ) × ((isIdle (pick sum bytes s i .event) ≡ false) × ((named (pick sum bytes s i .event) ≡ some (ruleOf step)) × PickOn bytes sum s i soup h′ soup′))
   step-picks s sys a gap holds room soup x h′ soup′ step = (i, by (move s sys a i small (holds i (below-exists s i small)) (room i) (d .m) carries))
     where
       d : Peeled sum (s .registers) soup h′ soup′ (ruleOf step)
@@ -377,7 +376,7 @@ module _ (bytes : List ℕ) (sum : Rule) where
       carries =
           subst (λ (y : SThread). Carries bytes (threadAt s i) y) (ap (λ (y : List SThread). getD y i nobody) (d .was) ∙ getD-append-seam (d .front) (d .m) (d .behind) nobody) (x .carries i long)
 
-      by : Move bytes sum s i (d .m) → (isIdle (pick sum bytes s i .event) ≡ false) × ((named (pick sum bytes s i .event) ≡ some (ruleOf step)) × StepOn bytes sum s i soup h′ soup′)
+      by : Move bytes sum s i (d .m) → (isIdle (pick sum bytes s i .event) ≡ false) × ((named (pick sum bytes s i .event) ≡ some (ruleOf step)) × PickOn bytes sum s i soup h′ soup′)
       by (ended e p) = absurd (some-code (d .step) (d .first) e)
       by (moves r p y) =
           let o = only (d .step) (d .first) (y .step (d .behind)) (y .first (d .behind)) in
@@ -386,6 +385,6 @@ module _ (bytes : List ℕ) (sum : Rule) where
             not-idle (pick sum bytes s i .event) _ (z .rule []),
             (
               ap (λ (v : Stepped). named (v .event)) p ∙ (y .rule (d .behind) ∙ ap some (sym (o .1 .1) ∙ d .rule)),
-              subst (λ (l : List SThread). StepOn bytes sum s i soup h′ l) (sym w) (subst (λ (h : Registers). StepOn bytes sum s i soup h (d .front ++ (y .m′ ∷ (y .new ++ d .behind)))) (sym (o .0)) z),
+              subst (λ (l : List SThread). PickOn bytes sum s i soup h′ l) (sym w) (subst (λ (h : Registers). PickOn bytes sum s i soup h (d .front ++ (y .m′ ∷ (y .new ++ d .behind)))) (sym (o .0)) z),
             ),
           )

@@ -1,23 +1,20 @@
--- What `fresh`, `step` and `run` answer, and what they leave in the registers and the records: document 01, "Turning a job down", 11 to 13.
-use Prim.Native.Nat.{ℕ, _<_, _≤_}
+-- What `fresh`, `step` and `run` come to, leave and answer: document 01, "Turning a job down", 11 to 13.
+use Prim.Native.Nat.{ℕ, zero, suc, _<_, _≤_}
 use mathlib.Core.Bool.{not, _&&_}
 use mathlib.Core.Path.{_≡_}
 use mathlib.Core.List.{List}
 use lib.Dec.{eqb, ltb}
 use lib.ListN.{length}
-use Rattle.machine.specs.declared.Laid.{Laid}
-use Rattle.machine.specs.declared.Laid.the-variants as laid
-use Rattle.machine.specs.declared.Moved.{Moved}
-use Rattle.machine.specs.declared.Moved.the-variants as moved
-use Rattle.machine.specs.declared.Tally.{Tally}
-use Rattle.machine.specs.declared.Tally.the-variants as tally
-use Rattle.stm.specs.Events.{fromWrites, fromReads, fromTable, Event, idle, pushed, summed, forked, begun, looked, wrote, committed, sentBack, Happened, counted, isIdle, isCommit, isBack}
+use Rattle.machine.specs.declared.FreshReply.{FreshReply}
+use Rattle.machine.specs.declared.StepReply.{StepReply}
+use Rattle.machine.specs.declared.RunReply.{RunReply}
+use Rattle.stm.specs.Events.{Event, Counts, countsOf, eventNumber, eventRegister, turnNumber, eventOf}
 use Rattle.machine.specs.Steps.{State, Stepped, pick, fresh, Ran, run}
 use Rattle.machine.specs.Fits.{Fits}
 use Rattle.machine.specs.FitTest.{fits}
 use Rattle.code.specs.Bytes.{IsCode, Foreign}
 use Rattle.code.specs.Reader.{readCode}
-use Rattle.script.specs.Outcome.{Outcome, refused, done, refuse, onward, mapped}
+use Rattle.script.specs.Outcome.{Outcome, refused, done, refuse, onward}
 use Rattle.script.specs.Reader.{Job}
 use Rattle.word.specs.Sum.{Rule, wrapping}
 
@@ -40,90 +37,64 @@ freshOf code s = onward (readCode code) (λ j. rightLengths s (done (fresh code)
 unfoldable pub stepOf : (code : List ℕ) → State → (pick : ℕ) → Outcome Stepped
 stepOf code s i = onward (readCode code) (λ j. fitting code s (done (pick (sumOf j) code s i)))
 
--- "13, more than 32,768 picks"
+-- 13, "more than 32,768 picks"
 unfoldable pub runOf : (code : List ℕ) → State → (picks : List ℕ) → Outcome Ran
 runOf code s is = onward (readCode code) (λ j. fitting code s (refuse (ltb 32768 (length is)) 13 0 (done (run (sumOf j) code s is))))
 
--- the registers and the records behind a call: "A refusal .. alters no lent memory"
-abbrev pub leaves : {A : Type 0} → (A → State) → Outcome A → State → State
-leaves f (refused number place) s = s
-leaves f (done a) s = f a
+-- ---- this paper's number, place and values in each answer; refusal 0 is none
+abbrev pub freshReply : Outcome State → FreshReply
+freshReply (refused number place) = record { refusal = number; place = place }
+freshReply (done s) = record { refusal = 0; place = 0 }
 
-unfoldable pub freshLeaves : (code : List ℕ) → State → State
-freshLeaves code s = leaves (λ (x : State). x) (freshOf code s) s
+abbrev pub stepReply : Outcome Stepped → StepReply
+stepReply (refused number place) = record { refusal = number; place = place; event = 0; register = 0; turn = 0 }
+stepReply (done r) =
+    record {
+      refusal = 0;
+      place = 0;
+      event = eventNumber (r .event);
+      register = eventRegister (r .event);
+      turn = turnNumber (r .event);
+    }
 
-unfoldable pub stepLeaves : (code : List ℕ) → State → (pick : ℕ) → State
-stepLeaves code s i = leaves (λ (x : Stepped). x .state) (stepOf code s i) s
+abbrev pub runReply : Outcome Ran → RunReply
+runReply (refused number place) = record { refusal = number; place = place; steps = 0; idle = 0; commits = 0; back = 0 }
+runReply (done r) =
+    let c = countsOf (r .events) in
+    record { refusal = 0; place = 0; steps = c .steps; idle = c .idle; commits = c .commits; back = c .back }
 
-unfoldable pub runLeaves : (code : List ℕ) → State → (picks : List ℕ) → State
-runLeaves code s is = leaves (λ (x : Ran). x .state) (runOf code s is) s
+-- and what an answer says
+abbrev pub saying : {A : Type 0} → (refusal place : ℕ) → A → Outcome A
+saying zero place a = done a
+saying (suc number) place a = refused (suc number) place
 
--- `steps` are picks not idle, `commits` those that took effect, `back` those sent back
-pub record Counts : Type 0 where
-  pub steps : ℕ
-  pub idle : ℕ
-  pub commits : ℕ
-  pub back : ℕ
+abbrev pub freshSays : FreshReply → Outcome (Unit {0})
+freshSays r = saying (r .refusal) (r .place) tt
 
-unfoldable pub countsOf : List Happened → Counts
-countsOf hs =
-    record { steps = counted (λ e. not (isIdle e)) hs; idle = counted isIdle hs; commits = counted isCommit hs; back = counted isBack hs }
+abbrev pub stepSays : StepReply → Outcome Event
+stepSays r = saying (r .refusal) (r .place) (eventOf (r .event) (r .register) (r .turn))
 
--- ---- the answers' enums: this paper's number and values for each case
-abbrev pub laidSays : Laid → Outcome (Unit {0})
-laidSays laid.Done = done tt
-laidSays (laid.Refused number place) = refused number place
+abbrev pub runSays : RunReply → Outcome Counts
+runSays r = saying (r .refusal) (r .place) (record { steps = r .steps; idle = r .idle; commits = r .commits; back = r .back })
 
-abbrev pub movedSays : Moved → Outcome Event
-movedSays moved.Idle = done idle
-movedSays moved.Pushed = done pushed
-movedSays (moved.Summed inside) = done (summed inside)
-movedSays moved.Forked = done forked
-movedSays moved.Begun = done begun
-movedSays moved.LookedInWrites = done (looked fromWrites)
-movedSays moved.LookedInReads = done (looked fromReads)
-movedSays moved.LookedInTable = done (looked fromTable)
-movedSays moved.Wrote = done wrote
-movedSays moved.Committed = done committed
-movedSays (moved.SentBack v) = done (sentBack v)
-movedSays (moved.Refused number place) = refused number place
+-- ---- what a call returns: the registers and the records that it leaves, and its answer
+pub record Returned (Reply : Type 0) : Type 0 where
+  pub state : State
+  pub reply : Reply
 
-abbrev pub tallySays : Tally → Outcome Counts
-tallySays (tally.Ran a b c d) = done (record { steps = a; idle = b; commits = c; back = d })
-tallySays (tally.Refused number place) = refused number place
+-- "A refusal .. alters no lent memory"
+abbrev pub returned : {A Reply : Type 0} → (A → State) → (Outcome A → Reply) → State → Outcome A → Returned Reply
+returned leaves answer s (refused number place) = record { state = s; reply = answer (refused number place) }
+returned leaves answer s (done a) = record { state = leaves a; reply = answer (done a) }
 
--- and the answer of each outcome
-abbrev pub laidOf : Outcome (Unit {0}) → Laid
-laidOf (refused number place) = laid.Refused number place
-laidOf (done x) = laid.Done
+unfoldable pub freshCall : (code : List ℕ) → State → Returned FreshReply
+freshCall code s = returned (λ (r : State). r) freshReply s (freshOf code s)
 
-abbrev pub movedOf : Outcome Event → Moved
-movedOf (refused number place) = moved.Refused number place
-movedOf (done idle) = moved.Idle
-movedOf (done pushed) = moved.Pushed
-movedOf (done (summed inside)) = moved.Summed inside
-movedOf (done forked) = moved.Forked
-movedOf (done begun) = moved.Begun
-movedOf (done (looked fromWrites)) = moved.LookedInWrites
-movedOf (done (looked fromReads)) = moved.LookedInReads
-movedOf (done (looked fromTable)) = moved.LookedInTable
-movedOf (done wrote) = moved.Wrote
-movedOf (done committed) = moved.Committed
-movedOf (done (sentBack v)) = moved.SentBack v
+unfoldable pub stepCall : (code : List ℕ) → State → (pick : ℕ) → Returned StepReply
+stepCall code s i = returned (λ (r : Stepped). r .state) stepReply s (stepOf code s i)
 
-abbrev pub tallyOf : Outcome Counts → Tally
-tallyOf (refused number place) = tally.Refused number place
-tallyOf (done c) = tally.Ran (c .steps) (c .idle) (c .commits) (c .back)
-
--- what the answers say
-unfoldable pub freshSays : (code : List ℕ) → State → Outcome (Unit {0})
-freshSays code s = mapped (λ (x : State). tt) (freshOf code s)
-
-unfoldable pub stepSays : (code : List ℕ) → State → (pick : ℕ) → Outcome Event
-stepSays code s i = mapped (λ (x : Stepped). x .event) (stepOf code s i)
-
-unfoldable pub runSays : (code : List ℕ) → State → (picks : List ℕ) → Outcome Counts
-runSays code s is = mapped (λ (x : Ran). countsOf (x .events)) (runOf code s is)
+unfoldable pub runCall : (code : List ℕ) → State → (picks : List ℕ) → Returned RunReply
+runCall code s is = returned (λ (r : Ran). r .state) runReply s (runOf code s is)
 
 -- ---- the table's rows 11 to 13, each with the tests before it passed: what a call comes to
 pub data FreshAnswer (code : List ℕ) (s : State) : Outcome State → Type 0 where

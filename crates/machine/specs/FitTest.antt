@@ -7,9 +7,10 @@ use lib.Dec.{eqb, ltb}
 use lib.IntN.{ℤ, pos}
 use lib.ListN.{length, drop, getD}
 use lib.Signed.{ltZ}
-use Rattle.machine.specs.declared.Thread.{Thread}
-use Rattle.machine.specs.Steps.{State, exists, threadAt}
-use Rattle.machine.specs.Fits.{Child, Walked, unmoved, walkOp, nextPlace, ownCode}
+use Rattle.thread.specs.declared.Thread.{Thread}
+use Rattle.thread.specs.Threads.{exists}
+use Rattle.machine.specs.Steps.{State, threadAt, Child}
+use Rattle.machine.specs.Fits.{Walked, unmoved, walkOp, nextPlace, ownCode}
 use Rattle.code.specs.Reader.{Op, opAt}
 use Rattle.script.specs.Outcome.{Outcome, refused, done}
 use Rattle.word.specs.Registers.{member}
@@ -53,12 +54,12 @@ agreesWith t (some w) =
 -- a thread's record
 unfoldable pub placed : List ℕ → Thread → Bool
 placed bytes t =
-    agreesWith t (walkTo bytes t) && (free (member (t .reads)) (t .seen) && (free (member (t .writes)) (t .kept) && free (λ n. ltb n (t .height)) (t .cells)))
+    agreesWith t (walkTo bytes t) && (free (member (t .reads)) (t .readlog) && (free (member (t .writes)) (t .writelog) && free (λ n. ltb n (t .height)) (t .cells)))
 
 -- a record of no thread
 unfoldable pub allZero : Thread → Bool
 allZero t =
-    eqb (t .start) 0 && (eqb (t .end) 0 && (eqb (t .place) 0 && (eqb (t .height) 0 && (eqb (t .begin) 0 && (eqb (t .base) 0 && (eqb (t .reads) 0 && (eqb (t .writes) 0 && (free (λ n. false) (t .cells) && (free (λ n. false) (t .seen) && free (λ n. false) (t .kept))))))))))
+    eqb (t .start) 0 && (eqb (t .end) 0 && (eqb (t .place) 0 && (eqb (t .height) 0 && (eqb (t .begin) 0 && (eqb (t .base) 0 && (eqb (t .reads) 0 && (eqb (t .writes) 0 && (free (λ n. false) (t .cells) && (free (λ n. false) (t .readlog) && free (λ n. false) (t .writelog))))))))))
 
 -- threads first, each placed; then records of no thread only
 unfoldable pub noneBehind : List Thread → Bool

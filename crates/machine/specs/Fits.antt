@@ -5,19 +5,14 @@ use mathlib.Core.Bool.{true, false}
 use mathlib.Core.List.{List, [], _∷_}
 use lib.IntN.{ℤ, pos}
 use lib.ListN.{length, drop, getD}
-use Rattle.machine.specs.declared.Thread.{Thread}
-use Rattle.machine.specs.Threads.{blank}
-use Rattle.machine.specs.Steps.{State, exists, threadAt}
+use Rattle.thread.specs.declared.Thread.{Thread}
+use Rattle.thread.specs.Threads.{blank, exists}
+use Rattle.machine.specs.Steps.{State, threadAt, Child}
 use Rattle.code.specs.Reader.{Op, opAt}
 use Rattle.code.specs.Reader as code
 use Rattle.script.specs.Outcome.{done}
 use Rattle.word.specs.Registers.{none, member}
 use Rattle.word.specs.Sum.{InRange, Rule}
-
--- a FORK's child code, from its start up to its end
-pub record Child : Type 0 where
-  pub start : ℕ
-  pub end : ℕ
 
 -- What the instructions before a place leave there: the stack height; the place and stack height of the BEGIN of an open transaction, 0
 -- if none is open; and the child codes of the FORKs passed, the last one first.
@@ -30,19 +25,33 @@ pub record Walked : Type 0 where
 abbrev pub unmoved : Walked
 unmoved = record { height = 0; begin = 0; base = 0; children = [] }
 
-abbrev pub higher : Walked → Walked
-higher w = record { height = suc (w .height); begin = w .begin; base = w .base; children = w .children }
+-- another stack height; other notes; a FORK passed
+abbrev pub risen : ℕ → Walked → Walked
+risen height w = record { height = height; begin = w .begin; base = w .base; children = w .children }
+
+abbrev pub notes : (begin base : ℕ) → Walked → Walked
+notes begin base w = record { height = w .height; begin = begin; base = base; children = w .children }
+
+abbrev pub forking : Child → Walked → Walked
+forking child w = record { height = w .height; begin = w .begin; base = w .base; children = child ∷ w .children }
+
+-- no transaction is open
+abbrev pub shut : Walked → Walked
+shut w = notes 0 0 w
+
+-- what was left before the BEGIN of the open transaction: no FORK stands inside one
+abbrev pub undone : Walked → Walked
+undone w = risen (w .base) (shut w)
 
 -- the instruction at a place
 unfoldable pub walkOp : Op → (place : ℕ) → Walked → Walked
-walkOp (code.push n) q w = higher w
-walkOp code.add q w = record { height = w .height - 1; begin = w .begin; base = w .base; children = w .children }
-walkOp (code.read v) q w = higher w
+walkOp (code.push n) q w = risen (suc (w .height)) w
+walkOp code.add q w = risen (w .height - 1) w
+walkOp (code.fork size) q w = forking (record { start = q + 3; end = q + 3 + size }) (risen (suc (w .height)) w)
+walkOp code.begin q w = notes q (w .height) w
+walkOp (code.read v) q w = risen (suc (w .height)) w
 walkOp (code.write v) q w = w
-walkOp code.begin q w = record { height = w .height; begin = q; base = w .height; children = w .children }
-walkOp code.commit q w = record { height = w .height; begin = 0; base = 0; children = w .children }
-walkOp (code.fork size) q w =
-    record { height = suc (w .height); begin = w .begin; base = w .base; children = record { start = q + 3; end = q + 3 + size } ∷ w .children }
+walkOp code.commit q w = shut w
 
 -- "less the child code of the FORKs in it": the parent goes on behind it
 unfoldable pub nextPlace : Op → (place : ℕ) → ℕ
@@ -88,8 +97,8 @@ pub record Placed (bytes : List ℕ) (t : Thread) : Type 0 where
   pub no-reads : walked .begin ≡ 0 → t .reads ≡ none
   pub no-writes : walked .begin ≡ 0 → t .writes ≡ none
   -- "Log values not marked, stack cells above the height .. hold 0"
-  pub seen-free : (v : ℕ) → member (t .reads) v ≡ false → getD (t .seen) v (pos 0) ≡ pos 0
-  pub kept-free : (v : ℕ) → member (t .writes) v ≡ false → getD (t .kept) v (pos 0) ≡ pos 0
+  pub reads-free : (v : ℕ) → member (t .reads) v ≡ false → getD (t .readlog) v (pos 0) ≡ pos 0
+  pub writes-free : (v : ℕ) → member (t .writes) v ≡ false → getD (t .writelog) v (pos 0) ≡ pos 0
   pub cells-free : (n : ℕ) → t .height ≤ n → getD (t .cells) n (pos 0) ≡ pos 0
 
 -- thread i exists
@@ -132,8 +141,8 @@ pub record Fits (bytes : List ℕ) (s : State) : Type 0 where
 -- ---- what every state that can be lent has by its type alone: 64 cells, 64 values in each log
 pub record TypedThread (t : Thread) : Type 0 where
   pub cells : length (t .cells) ≡ 64
-  pub seen : length (t .seen) ≡ 64
-  pub kept : length (t .kept) ≡ 64
+  pub readlog : length (t .readlog) ≡ 64
+  pub writelog : length (t .writelog) ≡ 64
 
 abbrev pub Typed : State → Type 0
 Typed s = (i : ℕ) → TypedThread (threadAt s i)
@@ -141,8 +150,8 @@ Typed s = (i : ℕ) → TypedThread (threadAt s i)
 -- and numbers of 32 bits, sets of 64 bits, places and heights of 64 bits
 pub record RangedThread (t : Thread) : Type 0 where
   pub cells : (n : ℕ) → InRange (getD (t .cells) n (pos 0))
-  pub seen : (v : ℕ) → InRange (getD (t .seen) v (pos 0))
-  pub kept : (v : ℕ) → InRange (getD (t .kept) v (pos 0))
+  pub readlog : (v : ℕ) → InRange (getD (t .readlog) v (pos 0))
+  pub writelog : (v : ℕ) → InRange (getD (t .writelog) v (pos 0))
   pub reads : t .reads < 2 ^ 64
   pub writes : t .writes < 2 ^ 64
   pub start : t .start < 2 ^ 64

@@ -1,6 +1,6 @@
 -- The machine of document 01, "One pick, one step".
-pub mod Threads
 pub mod Steps
+pub mod InnerTally
 pub mod Fits
 pub mod FitTest
 pub mod Answers

@@ -5,14 +5,15 @@ use mathlib.Core.List.{List, [], _∷_, _++_}
 use mathlib.Core.Option.{Option, none, some}
 use lib.ListN.{length, getD}
 use Rattle.code.specs.Compile.{ε, compileP}
-use Rattle.machine.specs.declared.Thread.{Thread}
+use Rattle.thread.specs.declared.Thread.{Thread}
+use Rattle.thread.specs.Threads.{readLog, writeLog}
 use Rattle.machine.specs.Steps.{State, numberOf, threadAt, pick}
 use Rattle.stm.specs.Events.{Event, idle, pushed, summed, forked, begun, looked, wrote, committed, sentBack}
 use Rattle.machine.specs.Source.{empty, SThread, StepM, Preempt, ForkM, PushM, AddM, BeginM, ReadM, WriteM, Committed, Failed}
 use Rattle.script.specs.Tree.{Proc}
 use Rattle.script.specs.Turns.{Registers}
 use Rattle.script.specs.Soup.{Same}
-use Rattle.machine.specs.Stands.{Stands, ValuedC, stackFrom, logOf}
+use Rattle.machine.specs.Stands.{Stands, ValuedC, stackFrom}
 use Rattle.word.specs.Sum.{Rule}
 
 -- A record and a thread of the source. Its code is the record's own code from its place on; while a transaction is open, f is the code from
@@ -22,8 +23,8 @@ pub record Carries (bytes : List ℕ) (t : Thread) (m : SThread) : Type 0 where
   pub valued : ValuedC (m .code)
   pub stack : m .stack ≡ stackFrom (t .cells) 0 (t .height)
   pub again : 1 ≤ t .begin → Stands bytes (t .begin) (t .end) (m .again) × ValuedC (m .again)
-  pub reads : 1 ≤ t .begin → (v : ℕ) → m .reads v ≡ logOf (t .reads) (t .seen) v
-  pub writes : 1 ≤ t .begin → (v : ℕ) → m .writes v ≡ logOf (t .writes) (t .kept) v
+  pub reads : 1 ≤ t .begin → (v : ℕ) → m .reads v ≡ readLog t v
+  pub writes : 1 ≤ t .begin → (v : ℕ) → m .writes v ≡ writeLog t v
 
 -- a thread with nothing to do
 abbrev pub nobody : SThread
@@ -91,7 +92,7 @@ load p = record { code = compileP p ε; stack = []; again = ε; reads = empty; w
 
 -- A pick of thread i as a step of the soup, which leaves the heap h′ and the soup′. The source puts a forked child behind its parent,
 -- document 01 gives it the next number.
-pub record StepOn (bytes : List ℕ) (sum : Rule) (s : State) (i : ℕ) (soup : List SThread) (h′ : Registers) (soup′ : List SThread) : Type 0 where
+pub record PickOn (bytes : List ℕ) (sum : Rule) (s : State) (i : ℕ) (soup : List SThread) (h′ : Registers) (soup′ : List SThread) : Type 0 where
   pub front : List SThread
   pub m : SThread
   pub m′ : SThread

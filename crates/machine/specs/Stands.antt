@@ -1,9 +1,7 @@
 -- How a thread's record stands for a task that carries its code.
 use Prim.Native.Nat.{ℕ, zero, suc, _+_, _<_, _≤_}
 use mathlib.Core.Path.{_≡_}
-use mathlib.Core.Bool.{cond}
 use mathlib.Core.List.{List, [], _∷_, _++_}
-use mathlib.Core.Option.{Option, none, some}
 use lib.IntN.{ℤ, pos}
 use lib.ListN.{length, getD}
 use Rattle.code.specs.Compile.{Instruction, Code, PUSH, ADD, READ, WRITE, BEGIN, COMMIT, FORK, ε, _⨾_}
@@ -11,8 +9,17 @@ use Rattle.code.specs.Bytes.{instructionsBytes}
 use Rattle.code.specs.Counts.{RunsIn}
 use Rattle.code.specs.Reader.{Op}
 use Rattle.code.specs.Reader as code
-use Rattle.word.specs.Registers.{member}
+use Rattle.machine.specs.Steps.{State}
+use Rattle.stm.specs.Cells.{Cells, byValue}
 use Rattle.word.specs.Sum.{InRange}
+
+-- a register's cell, and when a logged one is stale: document 01's, by value
+abbrev pub registerCells : Cells
+registerCells = byValue
+
+-- the table of a state, as such cells
+abbrev pub tableOf : State → List (registerCells .Cell)
+tableOf s = s .registers
 
 -- the code c stands in the bytes from a place up to an end
 pub record Stands (bytes : List ℕ) (place end : ℕ) (c : Code) : Type 0 where
@@ -26,10 +33,6 @@ pub record Stands (bytes : List ℕ) (place end : ℕ) (c : Code) : Type 0 where
 unfoldable pub stackFrom : (cells : List ℤ) (base count : ℕ) → List ℤ
 stackFrom cells base zero = []
 stackFrom cells base (suc k) = getD cells (k + base) (pos 0) ∷ stackFrom cells base k
-
--- a log by its set and its values
-unfoldable pub logOf : (set : ℕ) (values : List ℤ) → ℕ → Option ℤ
-logOf set values v = cond (member set v) (some (getD values v (pos 0))) none
 
 -- an instruction as it stands in the bytes
 abbrev pub opOf : Instruction → Op

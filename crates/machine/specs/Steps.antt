@@ -6,8 +6,8 @@ use mathlib.Core.List.{List, [], _∷_}
 use lib.Dec.{eqb, ltb}
 use lib.IntN.{ℤ, pos}
 use lib.ListN.{length, drop, getD, set, replicate}
-use Rattle.machine.specs.declared.Thread.{Thread}
-use Rattle.machine.specs.Threads.{blank, spawned, push, add, begin, sourceOf, read, write, closed, firstStale, overlaid}
+use Rattle.thread.specs.declared.Thread.{Thread}
+use Rattle.thread.specs.Threads.{exists, blank, spawned, push, add, begin, sourceOf, read, write, closed, firstStale, overlaid}
 use Rattle.stm.specs.Events.{Event, idle, pushed, summed, forked, begun, looked, wrote, committed, sentBack, Happened, isIdle}
 use Rattle.code.specs.Reader.{Op, opAt}
 use Rattle.code.specs.Reader as code
@@ -19,14 +19,6 @@ pub record State : Type 0 where
   pub registers : List ℤ
   pub threads : List Thread
 
-pub record Stepped : Type 0 where
-  pub state : State
-  pub event : Event
-
--- a record of a thread has a start
-abbrev pub exists : Thread → Bool
-exists t = not (eqb (t .start) 0)
-
 -- "Threads are numbered without gaps": the number of threads is the next thread's number
 unfoldable pub numberOf : List Thread → ℕ
 numberOf [] = 0
@@ -35,48 +27,85 @@ numberOf (t ∷ ts) = cond (exists t) (suc (numberOf ts)) 0
 abbrev pub threadAt : State → ℕ → Thread
 threadAt s i = getD (s .threads) i blank
 
--- thread i becomes t
-abbrev pub put : State → ℕ → Thread → State
-put s i t = record { registers = s .registers; threads = set (s .threads) i t }
+-- a FORK's child code, from its start up to its end
+pub record Child : Type 0 where
+  pub start : ℕ
+  pub end : ℕ
 
-unfoldable pub commit : State → ℕ → Thread → (register : ℕ) → Stepped
-commit s i t v =
-    cond
-    (ltb v 64)
-    (record { state = put s i (closed (t .begin) (t .base) t); event = sentBack v })
-    (record {
-      state = record { registers = overlaid 64 0 t (s .registers); threads = set (s .threads) i (closed (t .place + 1) (t .height) t) };
-      event = committed;
-    })
+-- ---- one instruction of one thread
+-- what an instruction leaves: the thread's record, the register table, the child's code if one was forked, and what was done
+pub record Acted : Type 0 where
+  pub thread : Thread
+  pub table : List ℤ
+  pub children : List Child
+  pub event : Event
 
--- one instruction of thread i, which is t
-unfoldable pub instruction : Rule → State → ℕ → Thread → Op → Stepped
-instruction sum s i t (code.push n) = record { state = put s i (push n (t .place + 5) t); event = pushed }
-instruction sum s i t code.add = record { state = put s i (add sum t); event = summed (not (eqb (t .begin) 0)) }
-instruction sum s i t (code.read v) = record { state = put s i (read (s .registers) v t); event = looked (sourceOf t v) }
-instruction sum s i t (code.write v) = record { state = put s i (write v t); event = wrote }
-instruction sum s i t code.begin = record { state = put s i (begin t); event = begun }
-instruction sum s i t code.commit = commit s i t (firstStale 64 0 t (s .registers))
-instruction sum s i t (code.fork size) =
+-- an instruction that changes its thread's record alone
+abbrev pub alters : Thread → (table : List ℤ) → Event → Acted
+alters t table event = record { thread = t; table = table; children = []; event = event }
+
+-- COMMIT: "With a stale one the thread is sent back: to its BEGIN, stack height as noted, logs and notes emptied. Otherwise the write log
+-- goes into the table and the commit has taken effect"; v is the first stale register, or 64
+abbrev pub committing : (stale : Bool) → (table : List ℤ) → Thread → (v : ℕ) → Acted
+committing true table t v = alters (closed (t .begin) (t .base) t) table (sentBack v)
+committing false table t v = alters (closed (t .place + 1) (t .height) t) (overlaid 64 0 t table) committed
+
+unfoldable pub commit : (table : List ℤ) → Thread → (v : ℕ) → Acted
+commit table t v = committing (ltb v 64) table t v
+
+-- each instruction, in document 01's order
+unfoldable pub act : Rule → (table : List ℤ) → Thread → Op → Acted
+act sum table t (code.push n) = alters (push n (t .place + 5) t) table pushed
+act sum table t code.add = alters (add sum t) table (summed (not (eqb (t .begin) 0)))
+act sum table t (code.fork size) =
     record {
-      state = record {
-        registers = s .registers;
-        threads = set (set (s .threads) i (push (pos 0) (t .place + 3 + size) t)) (numberOf (s .threads)) (spawned (t .place + 3) (t .place + 3 + size));
-      };
+      thread = push (pos 0) (t .place + 3 + size) t;
+      table = table;
+      children = record { start = t .place + 3; end = t .place + 3 + size } ∷ [];
       event = forked;
     }
+act sum table t code.begin = alters (begin t) table begun
+act sum table t (code.read v) = alters (read table v t) table (looked (sourceOf t v))
+act sum table t (code.write v) = alters (write v t) table wrote
+act sum table t code.commit = commit table t (firstStale 64 0 t table)
 
-abbrev pub doing : Rule → State → ℕ → Thread → Outcome Op → Stepped
-doing sum s i t (refused number place) = record { state = s; event = idle }
-doing sum s i t (done op) = instruction sum s i t op
+-- ---- one pick
+pub record Stepped : Type 0 where
+  pub state : State
+  pub event : Event
 
--- "A pick of a thread that does not exist or has ended is idle"
-unfoldable pub pick : Rule → (code : List ℕ) → State → ℕ → Stepped
-pick sum bytes s i =
+-- a child becomes the next thread, `count` being the number of threads
+abbrev pub seated : (count : ℕ) → List Child → List Thread → List Thread
+seated count [] ts = ts
+seated count (c ∷ cs) ts = seated (suc count) cs (set ts count (spawned (c .start) (c .end)))
+
+-- thread i is put back into the state as an instruction left it
+unfoldable pub settle : (count : ℕ) → State → ℕ → Acted → Stepped
+settle count s i a =
+    record {
+      state = record { registers = a .table; threads = seated count (a .children) (set (s .threads) i (a .thread)) };
+      event = a .event;
+    }
+
+abbrev pub doing : Rule → (count : ℕ) → State → ℕ → Thread → Outcome Op → Stepped
+doing sum count s i t (refused number place) = record { state = s; event = idle }
+doing sum count s i t (done op) = settle count s i (act sum (s .registers) t op)
+
+-- "A pick of a thread that does not exist or has ended is idle and changes nothing": the picked thread's record is taken out, does the
+-- instruction at its place, and is put back
+unfoldable pub pickAmong : Rule → (code : List ℕ) → (count : ℕ) → State → ℕ → Stepped
+pickAmong sum bytes count s i =
     elim (not (ltb i (length (s .threads))) || (not (exists (threadAt s i)) || eqb (threadAt s i .place) (threadAt s i .end))) [
       | true ↦ record { state = s; event = idle }
-      | false ↦ doing sum s i (threadAt s i) (opAt (drop (threadAt s i .place) bytes))
+      | false ↦ doing sum count s i (threadAt s i) (opAt (drop (threadAt s i .place) bytes))
     ]
+
+abbrev pub pick : Rule → (code : List ℕ) → State → ℕ → Stepped
+pick sum bytes s i = pickAmong sum bytes (numberOf (s .threads)) s i
+
+-- one instruction of thread i, which is t
+abbrev pub instruction : Rule → State → ℕ → Thread → Op → Stepped
+instruction sum s i t op = settle (numberOf (s .threads)) s i (act sum (s .registers) t op)
 
 -- "Each other pick does one instruction": the one at the thread's place
 pub record DoesOne (sum : Rule) (code : List ℕ) (s : State) (i : ℕ) : Type 0 where
@@ -85,6 +114,7 @@ pub record DoesOne (sum : Rule) (code : List ℕ) (s : State) (i : ℕ) : Type 0
   pub does : pick sum code s i ≡ instruction sum s i (threadAt s i) op
   pub not-idle : isIdle (pick sum code s i .event) ≡ false
 
+-- ---- runs
 -- a fresh state: "thread 0 alone, at the start of the whole code, and every register 0"
 unfoldable pub fresh : (code : List ℕ) → State
 fresh bytes =

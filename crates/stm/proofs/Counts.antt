@@ -1,10 +1,10 @@
--- Events behind events: the counts add up, the orders follow one another. Assumes nothing.
-use Prim.Native.Nat.{suc, _+_}
-use mathlib.Core.Bool.{Bool, true, false, cond}
-use mathlib.Core.Path.{_≡_, refl}
+-- What the counts count, and which event numbers stand for; events behind events: the counts add up, the orders follow one another. Assumes nothing.
+use Prim.Native.Nat.{ℕ, suc, _+_}
+use mathlib.Core.Bool.{Bool, true, false, cond, not}
+use mathlib.Core.Path.{_≡_, refl, sym, ap}
 use mathlib.Core.List.{List, [], _∷_, _++_}
 use native.Mathlib.Omega.{arith}
-use Rattle.stm.specs.Events.{Event, Happened, counted, isTurn, order}
+use Rattle.stm.specs.Events.{Source, fromWrites, fromReads, fromTable, Event, idle, pushed, summed, forked, begun, looked, wrote, committed, sentBack, Happened, counted, isIdle, isCommit, isBack, isTurn, order, Counts, uncounted, more, tally, countsOf, together, eventNumber, eventRegister, turnNumber, eventOf}
 
 pub counted-append : (f : Event → Bool) (hs ks : List Happened) → counted f (hs ++ ks) ≡ counted f hs + counted f ks
 unfolding counted
@@ -23,3 +23,74 @@ order-append (h ∷ hs) ks = go (isTurn (h .event)) refl (order-append hs ks)
     go : (b : Bool) → isTurn (h .event) ≡ b → order (hs ++ ks) ≡ order hs ++ order ks → order (h ∷ (hs ++ ks)) ≡ order (h ∷ hs) ++ order ks
     go true t e = rw (order, t, e)
     go false t e = rw (order, t, e)
+
+-- each count is the number of events that it is of
+pub steps-counted : (hs : List Happened) → countsOf hs .steps ≡ counted (λ e. not (isIdle e)) hs
+unfolding countsOf counted tally
+steps-counted [] = refl
+steps-counted (h ∷ hs) = ap (more (not (isIdle (h .event)))) (steps-counted hs)
+
+pub idle-counted : (hs : List Happened) → countsOf hs .idle ≡ counted isIdle hs
+unfolding countsOf counted tally
+idle-counted [] = refl
+idle-counted (h ∷ hs) = ap (more (isIdle (h .event))) (idle-counted hs)
+
+pub commits-counted : (hs : List Happened) → countsOf hs .commits ≡ counted isCommit hs
+unfolding countsOf counted tally
+commits-counted [] = refl
+commits-counted (h ∷ hs) = ap (more (isCommit (h .event))) (commits-counted hs)
+
+pub back-counted : (hs : List Happened) → countsOf hs .back ≡ counted isBack hs
+unfolding countsOf counted tally
+back-counted [] = refl
+back-counted (h ∷ hs) = ap (more (isBack (h .event))) (back-counted hs)
+
+-- counts are equal if each is
+pub same-counts : {a b : Counts} → a .steps ≡ b .steps → a .idle ≡ b .idle → a .commits ≡ b .commits → a .back ≡ b .back → a ≡ b
+same-counts p q r s = λ i. record { steps = p i; idle = q i; commits = r i; back = s i }
+
+-- one pick's counts go in front or behind
+more-front : (b : Bool) (n m : ℕ) → more b n + m ≡ more b (n + m)
+more-front true n m = omega arith
+more-front false n m = refl
+
+more-behind : (b : Bool) (n m : ℕ) → more b n + m ≡ n + more b m
+more-behind true n m = omega arith
+more-behind false n m = refl
+
+pub tally-together : (e : Event) (a b : Counts) → together (tally e a) b ≡ tally e (together a b)
+unfolding tally
+tally-together e a b = same-counts (more-front (not (isIdle e)) _ _) (more-front (isIdle e) _ _) (more-front (isCommit e) _ _) (more-front (isBack e) _ _)
+
+pub tally-behind : (e : Event) (a b : Counts) → together (tally e a) b ≡ together a (tally e b)
+unfolding tally
+tally-behind e a b = same-counts (more-behind (not (isIdle e)) _ _) (more-behind (isIdle e) _ _) (more-behind (isCommit e) _ _) (more-behind (isBack e) _ _)
+
+-- nothing counted before or behind
+pub together-none : (a : Counts) → together uncounted a ≡ a
+together-none a = same-counts (omega arith) (omega arith) (omega arith) (omega arith)
+
+pub none-together : (a : Counts) → together a uncounted ≡ a
+none-together a = same-counts (omega arith) (omega arith) (omega arith) (omega arith)
+
+-- the counts of a whole list are those of its parts together
+pub counts-append : (hs ks : List Happened) → countsOf (hs ++ ks) ≡ together (countsOf hs) (countsOf ks)
+unfolding countsOf
+counts-append [] ks = sym (together-none (countsOf ks))
+counts-append (h ∷ hs) ks = rw (counts-append hs ks, tally-together (h .event) (countsOf hs) (countsOf ks))
+
+-- the numbers of an event tell the event
+pub event-of : (e : Event) → eventOf (eventNumber e) (eventRegister e) (turnNumber e) ≡ e
+unfolding eventOf eventNumber eventRegister turnNumber
+event-of idle = refl
+event-of pushed = refl
+event-of (summed true) = refl
+event-of (summed false) = refl
+event-of forked = refl
+event-of begun = refl
+event-of (looked fromWrites) = refl
+event-of (looked fromReads) = refl
+event-of (looked fromTable) = refl
+event-of wrote = refl
+event-of committed = refl
+event-of (sentBack v) = refl

@@ -1,62 +1,88 @@
--- A step keeps the table's length. Assumes nothing.
-use Prim.Native.Nat.{ℕ}
+-- A step keeps the table's length, and makes one task more exactly if it forks. Assumes nothing.
+use Prim.Native.Nat.{ℕ, _+_}
 use mathlib.Core.Bool.{Bool, true, false}
-use mathlib.Core.Path.{_≡_, refl}
+use mathlib.Core.Path.{_≡_, refl, _∙_}
 use mathlib.Core.List.{List, [], _∷_}
+use native.Mathlib.Omega.{arith}
 use lib.Dec.{ltb}
 use lib.IntN.{ℤ}
-use lib.ListN.{length}
+use lib.ListN.{length, set, length-set, length-append}
 use Rattle.code.specs.Compile.{Code, PUSH, ADD, READ, WRITE, BEGIN, COMMIT, FORK, ε, _⨾_}
-use Rattle.stm.specs.Events.{sentBack, committed}
+use Rattle.stm.specs.Events.{Event, sentBack, committed, isFork, more}
 use Rattle.stm.specs.Cells.{Cells}
-use Rattle.stm.specs.Tasks.{Log, Task, outside, inside, Did, firstStale, overwritten, commits, stepOutside, stepInside, stepTask}
+use Rattle.stm.specs.Tasks.{Log, Task, outside, inside, Did, firstStale, overwritten, commits, stepOutside, stepInside, stepTask, System, taskAt, started, did, next}
 use Rattle.stm.proofs.Logs.{overwritten-length}
 use Rattle.word.specs.Sum.{Rule}
 
 module _ (K : Cells) (sum : Rule) (h : List (K .Cell)) where
-  outside-length : (c : Code) (σ : List ℤ) → length (stepOutside K sum h c σ .table) ≡ length h
+  -- how many cells and children a step leaves
+  record Sized (d : Did K) : Type 0 where
+    table : length (d .table) ≡ length h
+    children : length (d .children) ≡ more (isFork (d .event)) 0
+
+  plain : {t : Task K} {e : Event} → isFork e ≡ false → Sized (record { task = t; table = h; children = []; event = e })
+  plain {t} {e} f = record { table = refl; children = rw f }
+
+  outside-sized : (c : Code) (σ : List ℤ) → Sized (stepOutside K sum h c σ)
   unfolding stepOutside
-  outside-length ε σ = refl
-  outside-length (PUSH n ⨾ c) σ = refl
-  outside-length (ADD ⨾ c) [] = refl
-  outside-length (ADD ⨾ c) (n ∷ []) = refl
-  outside-length (ADD ⨾ c) (n ∷ m ∷ σ) = refl
-  outside-length (READ v ⨾ c) σ = refl
-  outside-length (WRITE v ⨾ c) σ = refl
-  outside-length (BEGIN ⨾ c) σ = refl
-  outside-length (COMMIT ⨾ c) σ = refl
-  outside-length (FORK k ⨾ c) σ = refl
+  outside-sized ε σ = plain refl
+  outside-sized (PUSH n ⨾ c) σ = plain refl
+  outside-sized (ADD ⨾ c) [] = plain refl
+  outside-sized (ADD ⨾ c) (n ∷ []) = plain refl
+  outside-sized (ADD ⨾ c) (n ∷ m ∷ σ) = plain refl
+  outside-sized (READ v ⨾ c) σ = plain refl
+  outside-sized (WRITE v ⨾ c) σ = plain refl
+  outside-sized (BEGIN ⨾ c) σ = plain refl
+  outside-sized (COMMIT ⨾ c) σ = plain refl
+  outside-sized (FORK k ⨾ c) σ = record { table = refl; children = refl }
 
-  commits-length : (body : Code) (base : List ℤ) (c : Code) (n : ℤ) (w : Log ℤ) (v : ℕ) → length (commits K h body base c n w v .table) ≡ length h
-  commits-length body base c n w v = go (ltb v 64)
+  commits-sized : (body : Code) (base : List ℤ) (c : Code) (n : ℤ) (w : Log ℤ) (v : ℕ) → Sized (commits K h body base c n w v)
+  commits-sized body base c n w v = go (ltb v 64)
     where
-      result : Bool → Did K
-      result b =
-          elim b [
-            | true ↦ record { task = outside (BEGIN ⨾ body) base; table = h; children = []; event = sentBack v }
-            | false ↦ record { task = outside c (n ∷ base); table = overwritten K 64 0 w h; children = []; event = committed }
-          ]
+      go : (b : Bool) → Sized (elim b [
+        | true ↦ record { task = outside (BEGIN ⨾ body) base; table = h; children = []; event = sentBack v }
+        | false ↦ record { task = outside c (n ∷ base); table = overwritten K 64 0 w h; children = []; event = committed }
+      ])
+      go true = plain refl
+      go false = record { table = overwritten-length K 64 0 w h; children = refl }
 
-      go : (b : Bool) → length (result b .table) ≡ length h
-      go true = refl
-      go false = overwritten-length K 64 0 w h
-
-  inside-length : (body : Code) (base : List ℤ) (c : Code) (σ : List ℤ) (r : Log (K .Cell)) (w : Log ℤ) → length (stepInside K sum h body base c σ r w .table) ≡ length h
+  inside-sized : (body : Code) (base : List ℤ) (c : Code) (σ : List ℤ) (r : Log (K .Cell)) (w : Log ℤ) → Sized (stepInside K sum h body base c σ r w)
   unfolding stepInside
-  inside-length body base ε σ r w = refl
-  inside-length body base (PUSH n ⨾ c) σ r w = refl
-  inside-length body base (ADD ⨾ c) [] r w = refl
-  inside-length body base (ADD ⨾ c) (n ∷ []) r w = refl
-  inside-length body base (ADD ⨾ c) (n ∷ m ∷ σ) r w = refl
-  inside-length body base (READ v ⨾ c) σ r w = refl
-  inside-length body base (WRITE v ⨾ c) [] r w = refl
-  inside-length body base (WRITE v ⨾ c) (n ∷ σ) r w = refl
-  inside-length body base (BEGIN ⨾ c) σ r w = refl
-  inside-length body base (COMMIT ⨾ c) [] r w = refl
-  inside-length body base (COMMIT ⨾ c) (n ∷ σ) r w = commits-length body base c n w (firstStale K 64 0 r h)
-  inside-length body base (FORK k ⨾ c) σ r w = refl
+  inside-sized body base ε σ r w = plain refl
+  inside-sized body base (PUSH n ⨾ c) σ r w = plain refl
+  inside-sized body base (ADD ⨾ c) [] r w = plain refl
+  inside-sized body base (ADD ⨾ c) (n ∷ []) r w = plain refl
+  inside-sized body base (ADD ⨾ c) (n ∷ m ∷ σ) r w = plain refl
+  inside-sized body base (READ v ⨾ c) σ r w = plain refl
+  inside-sized body base (WRITE v ⨾ c) [] r w = plain refl
+  inside-sized body base (WRITE v ⨾ c) (n ∷ σ) r w = plain refl
+  inside-sized body base (BEGIN ⨾ c) σ r w = plain refl
+  inside-sized body base (COMMIT ⨾ c) [] r w = plain refl
+  inside-sized body base (COMMIT ⨾ c) (n ∷ σ) r w = commits-sized body base c n w (firstStale K 64 0 r h)
+  inside-sized body base (FORK k ⨾ c) σ r w = plain refl
+
+  step-sized : (t : Task K) → Sized (stepTask K sum h t)
+  unfolding stepTask
+  step-sized (outside c σ) = outside-sized c σ
+  step-sized (inside body base c σ r w) = inside-sized body base c σ r w
 
   pub step-length : (t : Task K) → length (stepTask K sum h t .table) ≡ length h
-  unfolding stepTask
-  step-length (outside c σ) = outside-length c σ
-  step-length (inside body base c σ r w) = inside-length body base c σ r w
+  step-length t = step-sized t .table
+
+-- a FORK makes one task more, nothing else does
+pub next-number : (K : Cells) (sum : Rule) (s : System K) (i : ℕ) → length (next K sum s i .tasks) ≡ more (isFork (did K sum s i .event)) (length (s .tasks))
+unfolding next
+next-number K sum s i =
+    let a = length-append (set (s .tasks) i (did K sum s i .task)) (started K (did K sum s i .children)) in
+    let b = length-set (s .tasks) i (did K sum s i .task) in
+    let c = started-length (did K sum s i .children) in
+    let d : length (did K sum s i .children) ≡ more (isFork (did K sum s i .event)) 0 = step-sized K sum (s .table) (taskAt K s i) .children in
+    a ∙ by (isFork (did K sum s i .event)) (length (set (s .tasks) i (did K sum s i .task))) (length (started K (did K sum s i .children))) b (c ∙ d)
+  where
+    started-length : (ks : List Code) → length (started K ks) ≡ length ks
+    started-length [] = refl
+    started-length (k ∷ ks) = let e = started-length ks in omega arith
+
+    by : (b : Bool) (n m : ℕ) → n ≡ length (s .tasks) → m ≡ more b 0 → n + m ≡ more b (length (s .tasks))
+    by true n m e f = omega arith
+    by false n m e f = omega arith

@@ -1,5 +1,5 @@
 -- What a pick does, and what is counted of it: document 01, "One pick, one step" and "Runs and turns".
-use Prim.Native.Nat.{ℕ, suc}
+use Prim.Native.Nat.{ℕ, suc, _+_}
 use mathlib.Core.Bool.{Bool, true, false, cond, not, _&&_}
 use mathlib.Core.List.{List, [], _∷_}
 use lib.Dec.{eqb}
@@ -63,6 +63,17 @@ isBack wrote = false
 isBack committed = false
 isBack (sentBack v) = true
 
+abbrev pub isFork : Event → Bool
+isFork idle = false
+isFork pushed = false
+isFork (summed inside) = false
+isFork forked = true
+isFork begun = false
+isFork (looked source) = false
+isFork wrote = false
+isFork committed = false
+isFork (sentBack v) = false
+
 -- "A pick takes a turn if .. it does an ADD outside a transaction, a FORK, or a COMMIT that takes effect"
 abbrev pub isTurn : Event → Bool
 isTurn idle = false
@@ -84,3 +95,84 @@ order (h ∷ hs) = cond (isTurn (h .event)) (h .thread ∷ order hs) (order hs)
 unfoldable pub backs : ℕ → List Happened → ℕ
 backs i [] = 0
 backs i (h ∷ hs) = cond (eqb (h .thread) i && isBack (h .event)) (suc (backs i hs)) (backs i hs)
+
+-- ---- "`steps` are picks not idle, `commits` those that took effect, `back` those sent back"
+pub record Counts : Type 0 where
+  pub steps : ℕ
+  pub idle : ℕ
+  pub commits : ℕ
+  pub back : ℕ
+
+abbrev pub uncounted : Counts
+uncounted = record { steps = 0; idle = 0; commits = 0; back = 0 }
+
+-- what one pick adds to the counts
+abbrev pub more : Bool → ℕ → ℕ
+more b n = cond b (suc n) n
+
+unfoldable pub tally : Event → Counts → Counts
+tally e c =
+    record {
+      steps = more (not (isIdle e)) (c .steps);
+      idle = more (isIdle e) (c .idle);
+      commits = more (isCommit e) (c .commits);
+      back = more (isBack e) (c .back);
+    }
+
+unfoldable pub countsOf : List Happened → Counts
+countsOf [] = uncounted
+countsOf (h ∷ hs) = tally (h .event) (countsOf hs)
+
+-- the counts of two lists of picks together
+abbrev pub together : Counts → Counts → Counts
+together a b =
+    record {
+      steps = a .steps + b .steps;
+      idle = a .idle + b .idle;
+      commits = a .commits + b .commits;
+      back = a .back + b .back;
+    }
+
+-- ---- events as numbers, in the order of document 02, No. 4: 0 idle, 1 to 9 from push to commit, 10 sent back
+unfoldable pub eventNumber : Event → ℕ
+eventNumber idle = 0
+eventNumber pushed = 1
+eventNumber (summed inside) = 2
+eventNumber forked = 3
+eventNumber begun = 4
+eventNumber (looked fromWrites) = 5
+eventNumber (looked fromReads) = 6
+eventNumber (looked fromTable) = 7
+eventNumber wrote = 8
+eventNumber committed = 9
+eventNumber (sentBack v) = 10
+
+-- the first stale register of a send-back, else 0
+unfoldable pub eventRegister : Event → ℕ
+eventRegister idle = 0
+eventRegister pushed = 0
+eventRegister (summed inside) = 0
+eventRegister forked = 0
+eventRegister begun = 0
+eventRegister (looked source) = 0
+eventRegister wrote = 0
+eventRegister committed = 0
+eventRegister (sentBack v) = v
+
+-- 1 if the pick took a turn, else 0
+unfoldable pub turnNumber : Event → ℕ
+turnNumber e = more (isTurn e) 0
+
+-- the event of these numbers
+unfoldable pub eventOf : (number register turn : ℕ) → Event
+eventOf number register turn =
+    cond (eqb number 1) pushed
+    (cond (eqb number 2) (summed (eqb turn 0))
+    (cond (eqb number 3) forked
+    (cond (eqb number 4) begun
+    (cond (eqb number 5) (looked fromWrites)
+    (cond (eqb number 6) (looked fromReads)
+    (cond (eqb number 7) (looked fromTable)
+    (cond (eqb number 8) wrote
+    (cond (eqb number 9) committed
+    (cond (eqb number 10) (sentBack register) idle)))))))))

@@ -1,0 +1,2 @@
+-- The thread record, and what each instruction makes of it.
+pub mod Threads

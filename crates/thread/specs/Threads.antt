@@ -1,0 +1,204 @@
+-- The thread record, and what each instruction makes of it: document 01, "One pick, one step". What a step frees is 0.
+use Prim.Native.Nat.{ℕ, zero, suc, _+_, _-_}
+use mathlib.Core.Bool.{Bool, true, false, cond, not, _&&_, _||_}
+use mathlib.Core.List.{List, _++_}
+use mathlib.Core.Option.{Option, none, some}
+use lib.Dec.{eqb}
+use lib.IntN.{ℤ, pos}
+use lib.Signed.{ltZ}
+use lib.ListN.{getD, set, take, replicate}
+use Rattle.thread.specs.declared.Thread.{Thread}
+use Rattle.stm.specs.Events.{Source, fromWrites, fromReads, fromTable}
+use Rattle.word.specs.Registers as registers
+use Rattle.word.specs.Registers.{member, with}
+use Rattle.word.specs.Sum.{Rule}
+
+-- 64 numbers, all 0
+abbrev pub zeros : List ℤ
+zeros = replicate 64 (pos 0)
+
+-- a record of no thread
+unfoldable pub blank : Thread
+blank =
+    record {
+      start = 0;
+      end = 0;
+      place = 0;
+      height = 0;
+      cells = zeros;
+      begin = 0;
+      base = 0;
+      reads = registers.none;
+      readlog = zeros;
+      writes = registers.none;
+      writelog = zeros;
+    }
+
+-- a record of a thread has a start
+abbrev pub exists : Thread → Bool
+exists t = not (eqb (t .start) 0)
+
+-- a log: the values of the registers that its set marks
+unfoldable pub logOf : (set : ℕ) (values : List ℤ) → ℕ → Option ℤ
+logOf set values v = cond (member set v) (some (getD values v (pos 0))) none
+
+-- the read log and the write log of a record
+abbrev pub readLog : Thread → ℕ → Option ℤ
+readLog t = logOf (t .reads) (t .readlog)
+
+abbrev pub writeLog : Thread → ℕ → Option ℤ
+writeLog t = logOf (t .writes) (t .writelog)
+
+-- ---- a record with another place, another stack, other notes, other logs
+abbrev pub withPlace : ℕ → Thread → Thread
+withPlace place t =
+    record {
+      start = t .start;
+      end = t .end;
+      place = place;
+      height = t .height;
+      cells = t .cells;
+      begin = t .begin;
+      base = t .base;
+      reads = t .reads;
+      readlog = t .readlog;
+      writes = t .writes;
+      writelog = t .writelog;
+    }
+
+abbrev pub withStack : (height : ℕ) (cells : List ℤ) → Thread → Thread
+withStack height cells t =
+    record {
+      start = t .start;
+      end = t .end;
+      place = t .place;
+      height = height;
+      cells = cells;
+      begin = t .begin;
+      base = t .base;
+      reads = t .reads;
+      readlog = t .readlog;
+      writes = t .writes;
+      writelog = t .writelog;
+    }
+
+abbrev pub withNotes : (begin base : ℕ) → Thread → Thread
+withNotes begin base t =
+    record {
+      start = t .start;
+      end = t .end;
+      place = t .place;
+      height = t .height;
+      cells = t .cells;
+      begin = begin;
+      base = base;
+      reads = t .reads;
+      readlog = t .readlog;
+      writes = t .writes;
+      writelog = t .writelog;
+    }
+
+abbrev pub withLogs : (reads : ℕ) (readlog : List ℤ) (writes : ℕ) (writelog : List ℤ) → Thread → Thread
+withLogs reads readlog writes writelog t =
+    record {
+      start = t .start;
+      end = t .end;
+      place = t .place;
+      height = t .height;
+      cells = t .cells;
+      begin = t .begin;
+      base = t .base;
+      reads = reads;
+      readlog = readlog;
+      writes = writes;
+      writelog = writelog;
+    }
+
+-- both logs empty
+abbrev pub withoutLogs : Thread → Thread
+withoutLogs t = withLogs registers.none zeros registers.none zeros t
+
+-- a thread at the start of its own code
+unfoldable pub spawned : (start end : ℕ) → Thread
+spawned start end =
+    record {
+      start = start;
+      end = end;
+      place = start;
+      height = 0;
+      cells = zeros;
+      begin = 0;
+      base = 0;
+      reads = registers.none;
+      readlog = zeros;
+      writes = registers.none;
+      writelog = zeros;
+    }
+
+-- the number so many below the top of the stack, the topmost being 1 below
+abbrev pub below : Thread → ℕ → ℤ
+below t i = getD (t .cells) (t .height - i) (pos 0)
+
+-- a number on top of the stack, and the next place
+unfoldable pub push : ℤ → ℕ → Thread → Thread
+push n next t = withPlace next (withStack (suc (t .height)) (set (t .cells) (t .height) n) t)
+
+-- ADD: the two topmost numbers become their sum
+unfoldable pub add : Rule → Thread → Thread
+add sum t =
+    withPlace (t .place + 1)
+    (withStack (t .height - 1) (set (set (t .cells) (t .height - 2) (sum (below t 2) (below t 1))) (t .height - 1) (pos 0)) t)
+
+-- "BEGIN: notes its place and the stack height, and empties both logs"
+unfoldable pub begin : Thread → Thread
+begin t = withPlace (t .place + 1) (withNotes (t .place) (t .height) (withoutLogs t))
+
+-- READ: "the value in the write log if there, else in the read log if there, else the table's"
+unfoldable pub sourceOf : Thread → ℕ → Source
+sourceOf t v = cond (member (t .writes) v) fromWrites (cond (member (t .reads) v) fromReads fromTable)
+
+abbrev pub readFrom : Source → List ℤ → Thread → ℕ → ℤ
+readFrom fromWrites table t v = getD (t .writelog) v (pos 0)
+readFrom fromReads table t v = getD (t .readlog) v (pos 0)
+readFrom fromTable table t v = getD table v (pos 0)
+
+-- the table's value "enters the read log"
+abbrev pub noted : Source → ℕ → ℤ → Thread → Thread
+noted fromWrites v n t = t
+noted fromReads v n t = t
+noted fromTable v n t = withLogs (with (t .reads) v) (set (t .readlog) v n) (t .writes) (t .writelog) t
+
+unfoldable pub read : List ℤ → ℕ → Thread → Thread
+read table v t =
+    let source = sourceOf t v in
+    let n = readFrom source table t v in
+    push n (t .place + 2) (noted source v n t)
+
+-- "WRITE: puts the top of the stack in the write log; the top stays"
+unfoldable pub write : ℕ → Thread → Thread
+write v t =
+    withPlace (t .place + 2)
+    (withLogs (t .reads) (t .readlog) (with (t .writes) v) (set (t .writelog) v (below t 1)) t)
+
+-- the thread at a place with a height, no transaction being open: "logs and notes emptied", the cells above the height 0
+unfoldable pub closed : (place height : ℕ) → Thread → Thread
+closed place height t =
+    withPlace place
+    (withStack height (take height (t .cells) ++ replicate (64 - height) (pos 0)) (withNotes 0 0 (withoutLogs t)))
+
+-- "A register is stale if its read log value differs from the table's"
+unfoldable pub stale : Thread → List ℤ → ℕ → Bool
+stale t table v =
+    member (t .reads) v
+    && (ltZ (getD (t .readlog) v (pos 0)) (getD table v (pos 0)) || ltZ (getD table v (pos 0)) (getD (t .readlog) v (pos 0)))
+
+-- "walks the registers from 0 up and stops at the first stale one": that register, or 64
+unfoldable pub firstStale : (left v : ℕ) → Thread → List ℤ → ℕ
+firstStale zero v t table = v
+firstStale (suc left) v t table = elim (stale t table v) [ true ↦ v | false ↦ firstStale left (suc v) t table ]
+
+-- "the write log goes into the table"
+unfoldable pub overlaid : (left v : ℕ) → Thread → List ℤ → List ℤ
+overlaid zero v t table = table
+overlaid (suc left) v t table =
+    overlaid left (suc v) t (cond (member (t .writes) v) (set table v (getD (t .writelog) v (pos 0))) table)
