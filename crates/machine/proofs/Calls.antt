@@ -2,30 +2,35 @@
 use Prim.Native.Nat.{ℕ}
 use mathlib.Core.Bool.{Bool, true, false, not, _&&_}
 use mathlib.Core.Path.{_≡_, refl, sym, ap, subst, _∙_}
-use mathlib.Core.List.{List}
+use mathlib.Core.List.{List, [], _∷_}
+use mathlib.Core.Logic.{_↔_}
 use native.Mathlib.Omega.{arith}
-use borrow.Author.Tests.{eqb-true, eq-eqb, ltb-true, ltb-false}
+use borrow.Author.Tests.{eqb-true, eq-eqb, ltb-true, ltb-false, lt-ltb, le-ltb, not-false}
 use lib.Dec.{eqb, ltb}
 use lib.ListN.{length}
 use Rattle.machine.specs.Steps.{State, Stepped, Ran, pick, fresh, run}
 use Rattle.machine.specs.Fits.{Fits, Typed}
 use Rattle.machine.specs.FitTest.{fits}
 use Rattle.machine.specs.Answers as answers
-use Rattle.machine.specs.Answers.{sumOf, rightLengths, fitting, freshOf, stepOf, runOf, freshReply, stepReply, runReply, freshSays, stepSays, runSays, returned, freshCall, stepCall, runCall, FreshAnswer, StepAnswer, RunAnswer}
-use Rattle.stm.specs.Events.{countsOf}
+use Rattle.machine.specs.declared.FreshReply.{FreshReply}
+use Rattle.machine.specs.declared.StepReply.{StepReply}
+use Rattle.machine.specs.declared.RunReply.{RunReply}
+use Rattle.machine.specs.Answers.{sumOf, rightLengths, fitting, freshOf, stepOf, runOf, freshReply, stepReply, runReply, freshSays, stepSays, runSays, Returned, returned, freshCall, stepCall, runCall, FreshAnswer, StepAnswer, RunAnswer, stepCounts, runCounts}
+use Rattle.stm.specs.Events.{fromWrites, fromReads, fromTable, Event, idle, pushed, summed, forked, begun, looked, wrote, committed, sentBack, tally, countsOf, eventNumber}
 use Rattle.stm.proofs.Counts.{event-of}
 use Rattle.machine.proofs.Numbers.{never}
 use Rattle.machine.proofs.FitTests.{fits-exactly}
 use Rattle.machine.proofs.Fresh.{fresh-fits, fresh-typed}
 use Rattle.machine.proofs.Agrees.{step-fits, run-fits}
-use Rattle.code.specs.Bytes.{IsCode}
+use Rattle.code.specs.Bytes.{IsCode, Foreign}
 use Rattle.code.specs.Reader.{readCode}
 use Rattle.code.proofs.Foreign.{only-foreign, foreign-exactly}
-use Rattle.code.proofs.ReadBack.{read-is-code}
+use Rattle.code.proofs.ReadBack.{code-read, read-is-code}
 use Rattle.script.specs.Bytes.{Bytes}
 use Rattle.script.specs.Outcome.{Outcome, refused, done, refuse, onward, mapped}
 use Rattle.script.specs.Reader.{Job}
-use Rattle.script.proofs.Accepts.{both}
+use Rattle.script.proofs.Accepts.{both, passed}
+use Rattle.word.specs.Sum.{wrapping}
 
 -- no code that is foreign is read, and it is refused with 11 at 0
 eleven : (code : List ℕ) (n p : ℕ) → readCode code ≡ refused n p → readCode code ≡ refused 11 0
@@ -33,89 +38,82 @@ eleven code n p e =
     let o = only-foreign code n p e in
     e ∙ (ap (λ (m : ℕ). refused m p) (o .0) ∙ ap (λ (m : ℕ). refused 11 m) (o .1))
 
+same-done : {A : Type 0} {x y : A} → _≡_ {A = Outcome A} (done x) (done y) → x ≡ y
+same-done e = cc
+
+-- what goes on from a job came to it
+passed-on : {A : Type 0} (o : Outcome Job) (f : Job → Outcome A) (a : A) → onward o f ≡ done a → (j : Job) × ((o ≡ done j) × (f j ≡ done a))
+passed-on (refused n p) f a e = absurd (let z : _≡_ {A = ℕ} 0 1 = cc in omega arith)
+passed-on (done j) f a e = (j, (refl, e))
+
 -- what holds of 11 at 0 holds of every refusal of code
 eleventh : (P : ℕ → ℕ → Type 0) (code : List ℕ) (n p : ℕ) → readCode code ≡ refused n p → P 11 0 → P n p
 eleventh P code n p e x =
     let o = only-foreign code n p e in
     subst (λ (m : ℕ). P m p) (sym (o .0)) (subst (λ (m : ℕ). P 11 m) (sym (o .1)) x)
 
--- `fresh`: 11, then the two lengths
-pub fresh-answers : (code : List ℕ) (s : State) → Bytes code → FreshAnswer code s (freshOf code s)
-unfolding freshOf
-fresh-answers code s b = by (readCode code) refl
-  where
-    sized : {j : Job} → IsCode code j → (t : Bool) → (eqb (length (s .threads)) 16 && eqb (length (s .registers)) 64) ≡ t → FreshAnswer code s (refuse (not t) 12 0 (done (fresh code)))
-    sized c true e = let p = both (eqb (length (s .threads)) 16) (eqb (length (s .registers)) 64) e in answers.laid-down c (eqb-true _ _ (p .0)) (eqb-true _ _ (p .1))
-    sized c false e = answers.foreign-state c (λ l. never (let p : (eqb (length (s .threads)) 16 && eqb (length (s .registers)) 64) ≡ true = rw (eq-eqb (length (s .threads)) 16 (l .0), eq-eqb (length (s .registers)) 64 (l .1)) in p) e)
+-- ---- what the calls come to: 11, then 12, then 13
+module _ (code : List ℕ) (s : State) where
+  -- the two lengths of `fresh`
+  abbrev sized : Bool
+  sized = eqb (length (s .threads)) 16 && eqb (length (s .registers)) 64
 
-    by : (o : Outcome Job) → readCode code ≡ o → FreshAnswer code s (onward o (λ j. rightLengths s (done (fresh code))))
-    by (refused n p) e =
-        let z = only-foreign code n p e in
-        subst (λ (x : Outcome State). FreshAnswer code s x) (sym (ap (λ (m : ℕ). refused m p) (z .0) ∙ ap (λ (m : ℕ). refused 11 m) (z .1))) (answers.foreign-code (foreign-exactly code b .0 (eleven code n p e)))
-    by (done j) e = sized (read-is-code code j b e) (eqb (length (s .threads)) 16 && eqb (length (s .registers)) 64) refl
+  sized-true : length (s .threads) ≡ 16 → length (s .registers) ≡ 64 → sized ≡ true
+  sized-true k l = rw (eq-eqb (length (s .threads)) 16 k, eq-eqb (length (s .registers)) 64 l)
 
--- `step`: 11, then 12
-pub step-answers : (code : List ℕ) (s : State) (i : ℕ) → Bytes code → Typed s → StepAnswer code s i (stepOf code s i)
-unfolding stepOf
-step-answers code s i b y = by (readCode code) refl
-  where
-    fitted : {j : Job} → IsCode code j → (t : Bool) → fits code s ≡ t → StepAnswer code s i (refuse (not t) 12 0 (done (pick (sumOf j) code s i)))
-    fitted c true e = answers.picked c (fits-exactly code s y .0 e)
-    fitted c false e = answers.foreign-state c (λ f. never (fits-exactly code s y .1 f) e)
+  sized-false : ((length (s .threads) ≡ 16) × (length (s .registers) ≡ 64) → ⊥) → sized ≡ false
+  sized-false n = go sized refl
+    where
+      go : (b : Bool) → sized ≡ b → b ≡ false
+      go true e = let p = both (eqb (length (s .threads)) 16) (eqb (length (s .registers)) 64) e in absurd (n (eqb-true _ _ (p .0), eqb-true _ _ (p .1)))
+      go false e = refl
 
-    by : (o : Outcome Job) → readCode code ≡ o → StepAnswer code s i (onward o (λ j. fitting code s (done (pick (sumOf j) code s i))))
-    by (refused n p) e =
-        let z = only-foreign code n p e in
-        subst (λ (x : Outcome Stepped). StepAnswer code s i x) (sym (ap (λ (m : ℕ). refused m p) (z .0) ∙ ap (λ (m : ℕ). refused 11 m) (z .1))) (answers.foreign-code (foreign-exactly code b .0 (eleven code n p e)))
-    by (done j) e = fitted (read-is-code code j b e) (fits code s) refl
+  unfit : Typed s → (Fits code s → ⊥) → fits code s ≡ false
+  unfit y n = go (fits code s) refl
+    where
+      go : (b : Bool) → fits code s ≡ b → b ≡ false
+      go true e = absurd (n (fits-exactly code s y .0 e))
+      go false e = refl
 
--- `run`: 11, then 12, then 13
-pub run-answers : (code : List ℕ) (s : State) (is : List ℕ) → Bytes code → Typed s → RunAnswer code s is (runOf code s is)
-unfolding runOf
-run-answers code s is b y = by (readCode code) refl
-  where
-    short : {j : Job} → IsCode code j → Fits code s → (t : Bool) → ltb 32768 (length is) ≡ t → RunAnswer code s is (refuse t 13 0 (done (run (sumOf j) code s is)))
-    short c f true e = answers.long-list c f (ltb-true 32768 (length is) e)
-    short c f false e = answers.ran c f (ltb-false 32768 (length is) e)
+  fresh-11 : readCode code ≡ refused 11 0 → freshOf code s ≡ refused 11 0
+  unfolding freshOf
+  fresh-11 e = rw e
 
-    fitted : {j : Job} → IsCode code j → (t : Bool) → fits code s ≡ t → RunAnswer code s is (refuse (not t) 12 0 (refuse (ltb 32768 (length is)) 13 0 (done (run (sumOf j) code s is))))
-    fitted c true e = short c (fits-exactly code s y .0 e) (ltb 32768 (length is)) refl
-    fitted c false e = answers.foreign-state c (λ f. never (fits-exactly code s y .1 f) e)
+  fresh-12 : {j : Job} → readCode code ≡ done j → sized ≡ false → freshOf code s ≡ refused 12 0
+  unfolding freshOf
+  fresh-12 e z = rw (e, z)
 
-    by : (o : Outcome Job) → readCode code ≡ o → RunAnswer code s is (onward o (λ j. fitting code s (refuse (ltb 32768 (length is)) 13 0 (done (run (sumOf j) code s is)))))
-    by (refused n p) e =
-        let z = only-foreign code n p e in
-        subst (λ (x : Outcome Ran). RunAnswer code s is x) (sym (ap (λ (m : ℕ). refused m p) (z .0) ∙ ap (λ (m : ℕ). refused 11 m) (z .1))) (answers.foreign-code (foreign-exactly code b .0 (eleven code n p e)))
-    by (done j) e = fitted (read-is-code code j b e) (fits code s) refl
+  fresh-done : {j : Job} → readCode code ≡ done j → sized ≡ true → freshOf code s ≡ done (fresh code)
+  unfolding freshOf
+  fresh-done e z = rw (e, z)
 
--- ---- what the calls leave: a state that fits, or the one that was lent
--- `fresh` that is not refused leaves a state that fits
-pub fresh-call-fits : (code : List ℕ) (s r : State) → Bytes code → freshOf code s ≡ done r → Fits code r × Typed r
-fresh-call-fits code s r b e = by (freshOf code s) e (fresh-answers code s b)
-  where
-    by : (o : Outcome State) → o ≡ done r → FreshAnswer code s o → Fits code r × Typed r
-    by o q (answers.foreign-code f) = absurd (let z : _≡_ {A = ℕ} 0 1 = cc in omega arith)
-    by o q (answers.foreign-state c f) = absurd (let z : _≡_ {A = ℕ} 0 1 = cc in omega arith)
-    by o q (answers.laid-down c k l) = let x : fresh code ≡ r = cc in subst (λ (y : State). Fits code y × Typed y) x (fresh-fits code, fresh-typed code)
+  step-11 : (i : ℕ) → readCode code ≡ refused 11 0 → stepOf code s i ≡ refused 11 0
+  unfolding stepOf
+  step-11 i e = rw e
 
--- and so does a step
-pub step-call-fits : (code : List ℕ) (s : State) (i : ℕ) (r : Stepped) → Bytes code → Typed s → stepOf code s i ≡ done r → Fits code (r .state) × Typed (r .state)
-step-call-fits code s i r b y e = by (stepOf code s i) e (step-answers code s i b y)
-  where
-    by : (o : Outcome Stepped) → o ≡ done r → StepAnswer code s i o → Fits code (r .state) × Typed (r .state)
-    by o q (answers.foreign-code f) = absurd (let z : _≡_ {A = ℕ} 0 1 = cc in omega arith)
-    by o q (answers.foreign-state c f) = absurd (let z : _≡_ {A = ℕ} 0 1 = cc in omega arith)
-    by o q (answers.picked {j} c f) = let x : pick (sumOf j) code s i ≡ r = cc in subst (λ (z : Stepped). Fits code (z .state) × Typed (z .state)) x (step-fits c (sumOf j) s f y i)
+  step-12 : (i : ℕ) {j : Job} → readCode code ≡ done j → fits code s ≡ false → stepOf code s i ≡ refused 12 0
+  unfolding stepOf
+  step-12 i e z = rw (e, z)
 
--- and a run
-pub run-call-fits : (code : List ℕ) (s : State) (is : List ℕ) (r : Ran) → Bytes code → Typed s → runOf code s is ≡ done r → Fits code (r .state) × Typed (r .state)
-run-call-fits code s is r b y e = by (runOf code s is) e (run-answers code s is b y)
-  where
-    by : (o : Outcome Ran) → o ≡ done r → RunAnswer code s is o → Fits code (r .state) × Typed (r .state)
-    by o q (answers.foreign-code f) = absurd (let z : _≡_ {A = ℕ} 0 1 = cc in omega arith)
-    by o q (answers.foreign-state c f) = absurd (let z : _≡_ {A = ℕ} 0 1 = cc in omega arith)
-    by o q (answers.long-list c f l) = absurd (let z : _≡_ {A = ℕ} 0 1 = cc in omega arith)
-    by o q (answers.ran {j} c f l) = let x : run (sumOf j) code s is ≡ r = cc in subst (λ (z : Ran). Fits code (z .state) × Typed (z .state)) x (run-fits c (sumOf j) s f y is)
+  step-done : (i : ℕ) {j : Job} → readCode code ≡ done j → fits code s ≡ true → stepOf code s i ≡ done (pick (sumOf j) code s i)
+  unfolding stepOf
+  step-done i e z = rw (e, z)
+
+  run-11 : (is : List ℕ) → readCode code ≡ refused 11 0 → runOf code s is ≡ refused 11 0
+  unfolding runOf
+  run-11 is e = rw e
+
+  run-12 : (is : List ℕ) {j : Job} → readCode code ≡ done j → fits code s ≡ false → runOf code s is ≡ refused 12 0
+  unfolding runOf
+  run-12 is e z = rw (e, z)
+
+  run-13 : (is : List ℕ) {j : Job} → readCode code ≡ done j → fits code s ≡ true → ltb 32768 (length is) ≡ true → runOf code s is ≡ refused 13 0
+  unfolding runOf
+  run-13 is e z l = rw (e, z, l)
+
+  run-done : (is : List ℕ) {j : Job} → readCode code ≡ done j → fits code s ≡ true → ltb 32768 (length is) ≡ false → runOf code s is ≡ done (run (sumOf j) code s is)
+  unfolding runOf
+  run-done is e z l = rw (e, z, l)
 
 -- ---- what the calls return
 -- a refused call returns what it was lent: "A refusal returns its number and a place, and alters no lent memory"
@@ -143,6 +141,106 @@ step-taken code s i r e = ap (λ (o : Outcome Stepped). returned (λ (r : Steppe
 pub run-taken : (code : List ℕ) (s : State) (is : List ℕ) (r : Ran) → runOf code s is ≡ done r → runCall code s is ≡ record { state = r .state; reply = runReply (done r) }
 unfolding runCall
 run-taken code s is r e = ap (λ (o : Outcome Ran). returned (λ (r : Ran). r .state) runReply s o) e
+
+-- ---- the rows, both ways: a call returns what one row says, and what a row says is what the call returns
+-- the code is foreign, or some job's
+data Known (code : List ℕ) : Type 0 where
+  foreign : Foreign code → readCode code ≡ refused 11 0 → Known code
+  known : {j : Job} → IsCode code j → readCode code ≡ done j → Known code
+
+known-code : (code : List ℕ) → Bytes code → Known code
+known-code code b = go (readCode code) refl
+  where
+    go : (o : Outcome Job) → readCode code ≡ o → Known code
+    go (refused n p) e = foreign (foreign-exactly code b .0 (eleven code n p e)) (eleven code n p e)
+    go (done j) e = known (read-is-code code j b e) e
+
+reads : {code : List ℕ} {j : Job} → IsCode code j → readCode code ≡ done j
+reads {code} {j} c = ap readCode (c .text) ∙ code-read j (c .version) (c .within)
+
+-- `fresh`: 11, then the two lengths
+pub fresh-answers : (code : List ℕ) (s : State) → Bytes code → (r : Returned FreshReply) → FreshAnswer code s r ↔ (r ≡ freshCall code s)
+fresh-answers code s b r = (there r, λ e. subst (λ (x : Returned FreshReply). FreshAnswer code s x) (sym e) (back (known-code code b)))
+  where
+    there : (r : Returned FreshReply) → FreshAnswer code s r → r ≡ freshCall code s
+    there r (answers.foreign-code f) = sym (fresh-refused code s 11 0 (fresh-11 code s (foreign-exactly code b .1 f)))
+    there r (answers.foreign-state c n) = sym (fresh-refused code s 12 0 (fresh-12 code s (reads c) (sized-false code s n)))
+    there r (answers.laid-down c k l) = sym (fresh-taken code s (fresh code) (fresh-done code s (reads c) (sized-true code s k l)))
+
+    back : Known code → FreshAnswer code s (freshCall code s)
+    back (foreign f e) = subst (λ (x : Returned FreshReply). FreshAnswer code s x) (sym (fresh-refused code s 11 0 (fresh-11 code s e))) (answers.foreign-code f)
+    back (known c e) = go (sized code s) refl
+      where
+        go : (t : Bool) → sized code s ≡ t → FreshAnswer code s (freshCall code s)
+        go true z =
+            let p = both (eqb (length (s .threads)) 16) (eqb (length (s .registers)) 64) z in
+            subst (λ (x : Returned FreshReply). FreshAnswer code s x) (sym (fresh-taken code s (fresh code) (fresh-done code s e z))) (answers.laid-down c (eqb-true _ _ (p .0)) (eqb-true _ _ (p .1)))
+        go false z = subst (λ (x : Returned FreshReply). FreshAnswer code s x) (sym (fresh-refused code s 12 0 (fresh-12 code s e z))) (answers.foreign-state c (λ l. never (sized-true code s (l .0) (l .1)) z))
+
+-- `step`: 11, then 12
+pub step-answers : (code : List ℕ) (s : State) (i : ℕ) → Bytes code → Typed s → (r : Returned StepReply) → StepAnswer code s i r ↔ (r ≡ stepCall code s i)
+step-answers code s i b y r = (there r, λ e. subst (λ (x : Returned StepReply). StepAnswer code s i x) (sym e) (back (known-code code b)))
+  where
+    there : (r : Returned StepReply) → StepAnswer code s i r → r ≡ stepCall code s i
+    there r (answers.foreign-code f) = sym (step-refused code s i 11 0 (step-11 code s i (foreign-exactly code b .1 f)))
+    there r (answers.foreign-state c n) = sym (step-refused code s i 12 0 (step-12 code s i (reads c) (unfit code s y n)))
+    there r (answers.picked {j} c f) = sym (step-taken code s i (pick (sumOf j) code s i) (step-done code s i (reads c) (fits-exactly code s y .1 f)))
+
+    back : Known code → StepAnswer code s i (stepCall code s i)
+    back (foreign f e) = subst (λ (x : Returned StepReply). StepAnswer code s i x) (sym (step-refused code s i 11 0 (step-11 code s i e))) (answers.foreign-code f)
+    back (known {j} c e) = go (fits code s) refl
+      where
+        go : (t : Bool) → fits code s ≡ t → StepAnswer code s i (stepCall code s i)
+        go true z = subst (λ (x : Returned StepReply). StepAnswer code s i x) (sym (step-taken code s i (pick (sumOf j) code s i) (step-done code s i e z))) (answers.picked c (fits-exactly code s y .0 z))
+        go false z = subst (λ (x : Returned StepReply). StepAnswer code s i x) (sym (step-refused code s i 12 0 (step-12 code s i e z))) (answers.foreign-state c (λ f. never (fits-exactly code s y .1 f) z))
+
+-- `run`: 11, then 12, then 13
+pub run-answers : (code : List ℕ) (s : State) (is : List ℕ) → Bytes code → Typed s → (r : Returned RunReply) → RunAnswer code s is r ↔ (r ≡ runCall code s is)
+run-answers code s is b y r = (there r, λ e. subst (λ (x : Returned RunReply). RunAnswer code s is x) (sym e) (back (known-code code b)))
+  where
+    there : (r : Returned RunReply) → RunAnswer code s is r → r ≡ runCall code s is
+    there r (answers.foreign-code f) = sym (run-refused code s is 11 0 (run-11 code s is (foreign-exactly code b .1 f)))
+    there r (answers.foreign-state c n) = sym (run-refused code s is 12 0 (run-12 code s is (reads c) (unfit code s y n)))
+    there r (answers.long-list c f l) = sym (run-refused code s is 13 0 (run-13 code s is (reads c) (fits-exactly code s y .1 f) (lt-ltb 32768 (length is) l)))
+    there r (answers.ran {j} c f l) = sym (run-taken code s is (run (sumOf j) code s is) (run-done code s is (reads c) (fits-exactly code s y .1 f) (le-ltb 32768 (length is) l)))
+
+    back : Known code → RunAnswer code s is (runCall code s is)
+    back (foreign f e) = subst (λ (x : Returned RunReply). RunAnswer code s is x) (sym (run-refused code s is 11 0 (run-11 code s is e))) (answers.foreign-code f)
+    back (known {j} c e) = go (fits code s) refl (ltb 32768 (length is)) refl
+      where
+        go : (t : Bool) → fits code s ≡ t → (l : Bool) → ltb 32768 (length is) ≡ l → RunAnswer code s is (runCall code s is)
+        go true z true l = subst (λ (x : Returned RunReply). RunAnswer code s is x) (sym (run-refused code s is 13 0 (run-13 code s is e z l))) (answers.long-list c (fits-exactly code s y .0 z) (ltb-true 32768 (length is) l))
+        go true z false l = subst (λ (x : Returned RunReply). RunAnswer code s is x) (sym (run-taken code s is (run (sumOf j) code s is) (run-done code s is e z l))) (answers.ran c (fits-exactly code s y .0 z) (ltb-false 32768 (length is) l))
+        go false z t l = subst (λ (x : Returned RunReply). RunAnswer code s is x) (sym (run-refused code s is 12 0 (run-12 code s is e z))) (answers.foreign-state c (λ f. never (fits-exactly code s y .1 f) z))
+
+-- ---- a call leaves a state that fits, or the one that was lent
+-- `fresh` that is not refused leaves a state that fits
+pub fresh-call-fits : (code : List ℕ) (s r : State) → freshOf code s ≡ done r → Fits code r × Typed r
+unfolding freshOf
+fresh-call-fits code s r e =
+    let x = passed-on (readCode code) (λ (j : Job). rightLengths s (done (fresh code))) r e in
+    let y : done (fresh code) ≡ done r = passed (not (sized code s)) 12 0 (done (fresh code)) (x .1 .1) .1 in
+    subst (λ (y : State). Fits code y × Typed y) (same-done y) (fresh-fits code, fresh-typed code)
+
+-- and so does a step
+pub step-call-fits : (code : List ℕ) (s : State) (i : ℕ) (r : Stepped) → Bytes code → Typed s → stepOf code s i ≡ done r → Fits code (r .state) × Typed (r .state)
+unfolding stepOf
+step-call-fits code s i r b y e =
+    let x = passed-on (readCode code) (λ (j : Job). fitting code s (done (pick (sumOf j) code s i))) r e in
+    let f = passed (not (fits code s)) 12 0 (done (pick (sumOf (x .0)) code s i)) (x .1 .1) in
+    let z : pick (sumOf (x .0)) code s i ≡ r = same-done (f .1) in
+    subst (λ (w : Stepped). Fits code (w .state) × Typed (w .state)) z
+    (step-fits (read-is-code code (x .0) b (x .1 .0)) (sumOf (x .0)) s (fits-exactly code s y .0 (not-false (fits code s) (f .0))) y i)
+
+-- and a run
+pub run-call-fits : (code : List ℕ) (s : State) (is : List ℕ) (r : Ran) → Bytes code → Typed s → runOf code s is ≡ done r → Fits code (r .state) × Typed (r .state)
+unfolding runOf
+run-call-fits code s is r b y e =
+    let x = passed-on (readCode code) (λ (j : Job). fitting code s (refuse (ltb 32768 (length is)) 13 0 (done (run (sumOf j) code s is)))) r e in
+    let f = passed (not (fits code s)) 12 0 (refuse (ltb 32768 (length is)) 13 0 (done (run (sumOf (x .0)) code s is))) (x .1 .1) in
+    let z : run (sumOf (x .0)) code s is ≡ r = same-done (passed (ltb 32768 (length is)) 13 0 (done (run (sumOf (x .0)) code s is)) (f .1) .1) in
+    subst (λ (w : Ran). Fits code (w .state) × Typed (w .state)) z
+    (run-fits (read-is-code code (x .0) b (x .1 .0)) (sumOf (x .0)) s (fits-exactly code s y .0 (not-false (fits code s) (f .0))) y is)
 
 -- ---- each answer says what the call comes to: no refusal has number 0
 pub fresh-says : (code : List ℕ) (s : State) → freshSays (freshCall code s .reply) ≡ mapped (λ (r : State). tt) (freshOf code s)
@@ -181,3 +279,28 @@ run-says code s is = by (readCode code) refl
         go true c = refl
         go false true = refl
         go false false = refl
+
+-- ---- the counts that an answer reports are those of its picks
+pub step-reports : (r : Stepped) (i : ℕ) → stepCounts (stepReply (done r)) ≡ countsOf (record { thread = i; event = r .event } ∷ [])
+unfolding countsOf tally eventNumber
+step-reports r i = by (r .event)
+  where
+    by : (e : Event) → stepCounts (stepReply (done (record { state = r .state; event = e }))) ≡ countsOf (record { thread = i; event = e } ∷ [])
+    by idle = refl
+    by pushed = refl
+    by (summed inside) = refl
+    by forked = refl
+    by begun = refl
+    by (looked fromWrites) = refl
+    by (looked fromReads) = refl
+    by (looked fromTable) = refl
+    by wrote = refl
+    by committed = refl
+    by (sentBack v) = refl
+
+pub run-reports : (r : Ran) → runCounts (runReply (done r)) ≡ countsOf (r .events)
+run-reports r = refl
+
+-- the rule for sums of version 1 is wrapping
+pub version-1-wraps : (j : Job) → j .version ≡ 1 → sumOf j ≡ wrapping
+version-1-wraps j e = refl

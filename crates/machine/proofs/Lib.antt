@@ -20,3 +20,4 @@ pub mod Calls
 pub mod Agrees
 pub mod Ranges
 pub mod Tallies
+pub mod Found

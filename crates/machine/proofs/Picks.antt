@@ -67,7 +67,7 @@ or-true true = refl
 or-true false = refl
 
 module _ (sum : Rule) (bytes : List ℕ) (count : ℕ) (s : State) (i : ℕ) where
-  no-record : ltb i (length (s .threads)) ≡ false → pickAmong sum bytes count s i ≡ record { state = s; event = idle }
+  pub no-record : ltb i (length (s .threads)) ≡ false → pickAmong sum bytes count s i ≡ record { state = s; event = idle }
   unfolding pickAmong
   no-record e = rw (pickAmong, e)
 

@@ -4,7 +4,7 @@ use mathlib.Core.Path.{_≡_, refl, ap, subst}
 use mathlib.Core.List.{List, [], _∷_, _++_}
 use native.Mathlib.Omega.{arith}
 use Rattle.machine.specs.Source.{SThread, StepM, Preempt, ForkM, PushM, AddM, BeginM, ReadM, WriteM, Committed, Failed}
-use Rattle.machine.specs.Soup.{Name, First, ruleOf, ByRule}
+use Rattle.machine.specs.Soup.{Name, First, ruleOf, IsFor, ByRule}
 use Rattle.stm.specs.Events.{Event}
 use Rattle.script.specs.Turns.{Registers}
 use Rattle.word.specs.Sum.{Rule}
@@ -98,3 +98,16 @@ module _ {sum : Rule} where
   own WriteM f = record { m′ = _; new = []; leaves = refl; step = λ others. WriteM; rule = λ others. refl }
   own (Committed e) f = record { m′ = _; new = []; leaves = refl; step = λ others. Committed e; rule = λ others. refl }
   own (Failed e) f = record { m′ = _; new = []; leaves = refl; step = λ others. Failed e; rule = λ others. refl }
+
+-- the name of a rule says what it is for, so that rules for different instructions have different names
+pub rule-is-for : {sum : Rule} {h h′ : Registers} {m : SThread} {behind left : List SThread} → (x : StepM sum h (m ∷ behind) h′ left) → First x → IsFor (ruleOf x) h m
+unfolding First ruleOf IsFor
+rule-is-for (Preempt x) f = absurd f
+rule-is-for ForkM f = (_, (_, refl))
+rule-is-for PushM f = (_, (_, refl))
+rule-is-for AddM f = (_, refl)
+rule-is-for BeginM f = (_, refl)
+rule-is-for ReadM f = (_, (_, refl))
+rule-is-for WriteM f = (_, (_, refl))
+rule-is-for (Committed e) f = (_, (refl, e))
+rule-is-for (Failed e) f = (_, (refl, e))

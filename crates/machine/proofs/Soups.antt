@@ -1,6 +1,7 @@
 -- A state and its soup: a pick is a step of the soup, and every step of the soup is a pick. Assumes nothing.
 use Prim.Native.Nat.{ℕ, zero, suc, _+_, _≤_, _<_}
 use mathlib.Core.Bool.{Bool, true, false}
+use mathlib.Core.Logic.{_↔_}
 use mathlib.Core.Path.{_≡_, refl, sym, ap, subst, _∙_}
 use mathlib.Core.List.{List, [], _∷_, _++_, append-assoc, append-nil}
 use mathlib.Core.Option.{some}
@@ -22,7 +23,7 @@ use Rattle.machine.specs.Steps.{State, Stepped, numberOf, threadAt, inst
 use Rattle.stm.specs.Events.{Event, idle, pushed, summed, forked, begun, looked, wrote, committed, sentBack, isIdle}
 use Rattle.machine.specs.Fits.{Exists}
 use Rattle.machine.specs.Source.{Log, empty, SThread, StepM, Preempt, ForkM, PushM, AddM, BeginM, ReadM, WriteM, Committed, Failed}
-use Rattle.machine.specs.Stands.{stackFrom, opOf, ValuedC, Ready, registerCells}
+use Rattle.machine.specs.Stands.{Stands, stackFrom, opOf, ValuedC, Ready, registerCells}
 use Rattle.machine.specs.Soup.{First, ruleOf, Carries, nobody, Soup, Name, named, PickOn}
 use Rattle.machine.proofs.Picks.{missing-idle, ended-idle, does}
 use Rattle.machine.proofs.Codes.{stands-end, stands-inside, stands-op, ready-op, ready-takes}
@@ -388,3 +389,11 @@ module _ (bytes : List ℕ) (sum : Rule) where
               subst (λ (l : List SThread). PickOn bytes sum s i soup h′ l) (sym w) (subst (λ (h : Registers). PickOn bytes sum s i soup h (d .front ++ (y .m′ ∷ (y .new ++ d .behind)))) (sym (o .0)) z),
             ),
           )
+
+-- a thread has ended exactly if the source's is halted: it has no code left
+pub ended-halted : {bytes : List ℕ} {t : Thread} {m : SThread} → Carries bytes t m → (t .place ≡ t .end) ↔ (m .code ≡ ε)
+ended-halted {bytes} {t} {m} x = (there (m .code) (x .code), λ e. stands-end (subst (λ (c : Code). Stands bytes (t .place) (t .end) c) e (x .code)))
+  where
+    there : (c : Code) → Stands bytes (t .place) (t .end) c → t .place ≡ t .end → c ≡ ε
+    there ε s e = refl
+    there (i ⨾ c) s e = absurd (let l = stands-inside s in omega arith)

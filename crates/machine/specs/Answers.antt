@@ -8,7 +8,7 @@ use lib.ListN.{length}
 use Rattle.machine.specs.declared.FreshReply.{FreshReply}
 use Rattle.machine.specs.declared.StepReply.{StepReply}
 use Rattle.machine.specs.declared.RunReply.{RunReply}
-use Rattle.stm.specs.Events.{Event, Counts, countsOf, eventNumber, eventRegister, turnNumber, eventOf}
+use Rattle.stm.specs.Events.{Event, more, Counts, uncounted, countsOf, eventNumber, eventRegister, turnNumber, eventOf}
 use Rattle.machine.specs.Steps.{State, Stepped, pick, fresh, Ran, run}
 use Rattle.machine.specs.Fits.{Fits}
 use Rattle.machine.specs.FitTest.{fits}
@@ -96,19 +96,39 @@ stepCall code s i = returned (λ (r : Stepped). r .state) stepReply s (stepOf co
 unfoldable pub runCall : (code : List ℕ) → State → (picks : List ℕ) → Returned RunReply
 runCall code s is = returned (λ (r : Ran). r .state) runReply s (runOf code s is)
 
--- ---- the table's rows 11 to 13, each with the tests before it passed: what a call comes to
-pub data FreshAnswer (code : List ℕ) (s : State) : Outcome State → Type 0 where
-  foreign-code : Foreign code → FreshAnswer code s (refused 11 0)
-  foreign-state : {j : Job} → IsCode code j → ((length (s .threads) ≡ 16) × (length (s .registers) ≡ 64) → ⊥) → FreshAnswer code s (refused 12 0)
-  laid-down : {j : Job} → IsCode code j → length (s .threads) ≡ 16 → length (s .registers) ≡ 64 → FreshAnswer code s (done (fresh code))
+-- ---- the table's rows 11 to 13, each with the tests before it passed: what a call returns, memory and answer
+pub data FreshAnswer (code : List ℕ) (s : State) : Returned FreshReply → Type 0 where
+  foreign-code : Foreign code → FreshAnswer code s (record { state = s; reply = freshReply (refused 11 0) })
+  foreign-state : {j : Job} → IsCode code j → ((length (s .threads) ≡ 16) × (length (s .registers) ≡ 64) → ⊥) → FreshAnswer code s (record { state = s; reply = freshReply (refused 12 0) })
+  laid-down : {j : Job} → IsCode code j → length (s .threads) ≡ 16 → length (s .registers) ≡ 64 → FreshAnswer code s (record { state = fresh code; reply = freshReply (done (fresh code)) })
 
-pub data StepAnswer (code : List ℕ) (s : State) (i : ℕ) : Outcome Stepped → Type 0 where
-  foreign-code : Foreign code → StepAnswer code s i (refused 11 0)
-  foreign-state : {j : Job} → IsCode code j → (Fits code s → ⊥) → StepAnswer code s i (refused 12 0)
-  picked : {j : Job} → IsCode code j → Fits code s → StepAnswer code s i (done (pick (sumOf j) code s i))
+pub data StepAnswer (code : List ℕ) (s : State) (i : ℕ) : Returned StepReply → Type 0 where
+  foreign-code : Foreign code → StepAnswer code s i (record { state = s; reply = stepReply (refused 11 0) })
+  foreign-state : {j : Job} → IsCode code j → (Fits code s → ⊥) → StepAnswer code s i (record { state = s; reply = stepReply (refused 12 0) })
+  picked : {j : Job} → IsCode code j → Fits code s → StepAnswer code s i (record { state = pick (sumOf j) code s i .state; reply = stepReply (done (pick (sumOf j) code s i)) })
 
-pub data RunAnswer (code : List ℕ) (s : State) (is : List ℕ) : Outcome Ran → Type 0 where
-  foreign-code : Foreign code → RunAnswer code s is (refused 11 0)
-  foreign-state : {j : Job} → IsCode code j → (Fits code s → ⊥) → RunAnswer code s is (refused 12 0)
-  long-list : {j : Job} → IsCode code j → Fits code s → 32768 < length is → RunAnswer code s is (refused 13 0)
-  ran : {j : Job} → IsCode code j → Fits code s → length is ≤ 32768 → RunAnswer code s is (done (run (sumOf j) code s is))
+pub data RunAnswer (code : List ℕ) (s : State) (is : List ℕ) : Returned RunReply → Type 0 where
+  foreign-code : Foreign code → RunAnswer code s is (record { state = s; reply = runReply (refused 11 0) })
+  foreign-state : {j : Job} → IsCode code j → (Fits code s → ⊥) → RunAnswer code s is (record { state = s; reply = runReply (refused 12 0) })
+  long-list : {j : Job} → IsCode code j → Fits code s → 32768 < length is → RunAnswer code s is (record { state = s; reply = runReply (refused 13 0) })
+  ran : {j : Job} → IsCode code j → Fits code s → length is ≤ 32768 → RunAnswer code s is (record { state = run (sumOf j) code s is .state; reply = runReply (done (run (sumOf j) code s is)) })
+
+-- ---- the counts that an answer reports; a refused call's picks do not count
+abbrev pub reporting : (refusal : ℕ) → Counts → Counts
+reporting zero c = c
+reporting (suc number) c = uncounted
+
+-- a step's: one step, or one idle pick; one commit if it is 9, one send-back if it is 10
+abbrev pub stepCounts : StepReply → Counts
+stepCounts r =
+    reporting
+    (r .refusal)
+    (record {
+      steps = more (not (eqb (r .event) 0)) 0;
+      idle = more (eqb (r .event) 0) 0;
+      commits = more (eqb (r .event) 9) 0;
+      back = more (eqb (r .event) 10) 0;
+    })
+
+abbrev pub runCounts : RunReply → Counts
+runCounts r = reporting (r .refusal) (record { steps = r .steps; idle = r .idle; commits = r .commits; back = r .back })

@@ -1,15 +1,17 @@
 -- How the records of a state stand for the source's soup of threads that carry their code (source 5.2.4).
 use Prim.Native.Nat.{ℕ, _≤_, _<_}
+use mathlib.Core.Bool.{true, false}
 use mathlib.Core.Path.{_≡_}
 use mathlib.Core.List.{List, [], _∷_, _++_}
 use mathlib.Core.Option.{Option, none, some}
+use lib.IntN.{ℤ}
 use lib.ListN.{length, getD}
-use Rattle.code.specs.Compile.{ε, compileP}
+use Rattle.code.specs.Compile.{Code, PUSH, ADD, READ, WRITE, BEGIN, COMMIT, FORK, ε, _⨾_, compileP}
 use Rattle.thread.specs.declared.Thread.{Thread}
 use Rattle.thread.specs.Threads.{readLog, writeLog}
 use Rattle.machine.specs.Steps.{State, numberOf, threadAt, pick}
 use Rattle.stm.specs.Events.{Event, idle, pushed, summed, forked, begun, looked, wrote, committed, sentBack}
-use Rattle.machine.specs.Source.{empty, SThread, StepM, Preempt, ForkM, PushM, AddM, BeginM, ReadM, WriteM, Committed, Failed}
+use Rattle.machine.specs.Source.{empty, SThread, consistent, StepM, Preempt, ForkM, PushM, AddM, BeginM, ReadM, WriteM, Committed, Failed}
 use Rattle.script.specs.Tree.{Proc}
 use Rattle.script.specs.Turns.{Registers}
 use Rattle.script.specs.Soup.{Same}
@@ -56,6 +58,17 @@ ruleOf ReadM = read
 ruleOf WriteM = write
 ruleOf (Committed e) = commit
 ruleOf (Failed e) = fail
+
+-- what a rule is for: the thread's next instruction, and for COMMIT whether `r ⊆ h`
+unfoldable pub IsFor : Name → Registers → SThread → Type 0
+IsFor fork h m = (k : Code) × ((c : Code) × (m .code ≡ FORK k ⨾ c))
+IsFor push h m = (n : ℤ) × ((c : Code) × (m .code ≡ PUSH n ⨾ c))
+IsFor add h m = (c : Code) × (m .code ≡ ADD ⨾ c)
+IsFor begin h m = (c : Code) × (m .code ≡ BEGIN ⨾ c)
+IsFor read h m = (v : ℕ) × ((c : Code) × (m .code ≡ READ v ⨾ c))
+IsFor write h m = (v : ℕ) × ((c : Code) × (m .code ≡ WRITE v ⨾ c))
+IsFor commit h m = (c : Code) × ((m .code ≡ COMMIT ⨾ c) × (consistent 64 0 (m .reads) h ≡ true))
+IsFor fail h m = (c : Code) × ((m .code ≡ COMMIT ⨾ c) × (consistent 64 0 (m .reads) h ≡ false))
 
 -- it is the first thread of the soup that steps
 unfoldable pub First : {sum : Rule} {h h′ : Registers} {s s′ : List SThread} → StepM sum h s h′ s′ → Type 0

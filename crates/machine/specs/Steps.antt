@@ -1,5 +1,5 @@
 -- One pick, and a run of picks: document 01, "One pick, one step" and "Runs and turns".
-use Prim.Native.Nat.{ℕ, suc, _+_}
+use Prim.Native.Nat.{ℕ, suc, _+_, _<_}
 use mathlib.Core.Bool.{Bool, true, false, cond, not, _||_}
 use mathlib.Core.Path.{_≡_}
 use mathlib.Core.List.{List, [], _∷_}
@@ -7,11 +7,12 @@ use lib.Dec.{eqb, ltb}
 use lib.IntN.{ℤ, pos}
 use lib.ListN.{length, drop, getD, set, replicate}
 use Rattle.thread.specs.declared.Thread.{Thread}
-use Rattle.thread.specs.Threads.{exists, blank, spawned, push, add, begin, sourceOf, read, write, closed, firstStale, overlaid}
-use Rattle.stm.specs.Events.{Event, idle, pushed, summed, forked, begun, looked, wrote, committed, sentBack, Happened, isIdle}
+use Rattle.thread.specs.Threads.{exists, blank, spawned, push, add, begin, sourceOf, read, write, closed, stale, firstStale, overlaid}
+use Rattle.stm.specs.Events.{Source, fromWrites, fromReads, fromTable, Event, idle, pushed, summed, forked, begun, looked, wrote, committed, sentBack, Happened, isIdle}
 use Rattle.code.specs.Reader.{Op, opAt}
 use Rattle.code.specs.Reader as code
 use Rattle.script.specs.Outcome.{Outcome, refused, done}
+use Rattle.word.specs.Registers.{member}
 use Rattle.word.specs.Sum.{Rule}
 
 -- the register table and the thread table
@@ -113,6 +114,18 @@ pub record DoesOne (sum : Rule) (code : List ℕ) (s : State) (i : ℕ) : Type 0
   pub at-place : opAt (drop (threadAt s i .place) code) ≡ done op
   pub does : pick sum code s i ≡ instruction sum s i (threadAt s i) op
   pub not-idle : isIdle (pick sum code s i .event) ≡ false
+
+-- "the first stale one": the lowest stale register
+pub record FirstStale (t : Thread) (table : List ℤ) (v : ℕ) : Type 0 where
+  pub small : v < 64
+  pub its : stale t table v ≡ true
+  pub before : (u : ℕ) → u < v → stale t table u ≡ false
+
+-- where READ of register v finds its value: "in the write log if there, else in the read log if there, else the table's"
+pub data FoundIn (t : Thread) (v : ℕ) : Source → Type 0 where
+  in-writes : member (t .writes) v ≡ true → FoundIn t v fromWrites
+  in-reads : member (t .writes) v ≡ false → member (t .reads) v ≡ true → FoundIn t v fromReads
+  in-table : member (t .writes) v ≡ false → member (t .reads) v ≡ false → FoundIn t v fromTable
 
 -- ---- runs
 -- a fresh state: "thread 0 alone, at the start of the whole code, and every register 0"

@@ -1,10 +1,11 @@
 -- What the counts count, and which event numbers stand for; events behind events: the counts add up, the orders follow one another. Assumes nothing.
 use Prim.Native.Nat.{ℕ, suc, _+_}
-use mathlib.Core.Bool.{Bool, true, false, cond, not}
+use mathlib.Core.Bool.{Bool, true, false, cond, not, _&&_}
 use mathlib.Core.Path.{_≡_, refl, sym, ap}
 use mathlib.Core.List.{List, [], _∷_, _++_}
 use native.Mathlib.Omega.{arith}
-use Rattle.stm.specs.Events.{Source, fromWrites, fromReads, fromTable, Event, idle, pushed, summed, forked, begun, looked, wrote, committed, sentBack, Happened, counted, isIdle, isCommit, isBack, isTurn, order, Counts, uncounted, more, tally, countsOf, together, eventNumber, eventRegister, turnNumber, eventOf}
+use lib.Dec.{eqb}
+use Rattle.stm.specs.Events.{Source, fromWrites, fromReads, fromTable, Event, idle, pushed, summed, forked, begun, looked, wrote, committed, sentBack, Happened, counted, isIdle, isCommit, isBack, isTurn, order, backs, Counts, uncounted, more, tally, countsOf, together, eventNumber, eventRegister, turnNumber, eventOf}
 
 pub counted-append : (f : Event → Bool) (hs ks : List Happened) → counted f (hs ++ ks) ≡ counted f hs + counted f ks
 unfolding counted
@@ -12,6 +13,20 @@ counted-append f [] ks = omega arith
 counted-append f (h ∷ hs) ks = go (f (h .event)) (counted-append f hs ks)
   where
     go : (b : Bool) → counted f (hs ++ ks) ≡ counted f hs + counted f ks → cond b (suc (counted f (hs ++ ks))) (counted f (hs ++ ks)) ≡ cond b (suc (counted f hs)) (counted f hs) + counted f ks
+    go true e = omega arith
+    go false e = e
+
+-- the send-backs of a thread: of one pick, and of picks behind picks
+pub backs-one : (i : ℕ) (h : Happened) → backs i (h ∷ []) ≡ more (eqb (h .thread) i && isBack (h .event)) 0
+unfolding backs
+backs-one i h = refl
+
+pub backs-append : (i : ℕ) (hs ks : List Happened) → backs i (hs ++ ks) ≡ backs i hs + backs i ks
+unfolding backs
+backs-append i [] ks = omega arith
+backs-append i (h ∷ hs) ks = go (eqb (h .thread) i && isBack (h .event)) (backs-append i hs ks)
+  where
+    go : (b : Bool) → backs i (hs ++ ks) ≡ backs i hs + backs i ks → more b (backs i (hs ++ ks)) ≡ more b (backs i hs) + backs i ks
     go true e = omega arith
     go false e = e
 
