@@ -6,14 +6,18 @@ use lib.IntN.{pos}
 use lib.ListN.{replicate}
 use Rattle.guarantee.specs.Histories.{Session, History}
 use Rattle.guarantee.specs.Agreement.{Agreement}
-use Rattle.guarantee.proofs.Demand.{is-code, history-run, fits-behind}
+use Rattle.guarantee.proofs.Histories.{is-code, history-run, fits-behind}
 use Rattle.code.specs.Bytes.{compiled}
-use Rattle.machine.specs.Steps.{Ran, fresh}
+use Rattle.machine.specs.Steps.{numberOf, Ran, fresh}
 use Rattle.machine.specs.Answers.{sumOf}
 use Rattle.machine.specs.Source.{SThread, StepsM}
 use Rattle.machine.specs.Soup.{StandsFor, load}
 use Rattle.machine.proofs.Fresh.{fresh-fits, fresh-typed}
-use Rattle.machine.proofs.Agrees.{step-fits, run-fits, has-soup, fresh-soup, pick-is-step, step-is-pick, pick-is-step-same, step-is-pick-same, run-is-steps}
+use Rattle.machine.proofs.Picks.{missing-idle, ended-idle}
+use Rattle.machine.proofs.Found.{sent-back-first, committed-none, looked-found}
+use Rattle.machine.proofs.Rules.{rule-is-for}
+use Rattle.machine.proofs.Soups.{ended-halted}
+use Rattle.machine.proofs.Agrees.{does-one, step-fits, run-fits, has-soup, fresh-soup, pick-is-step, step-is-pick, pick-is-step-same, step-is-pick-same, run-is-steps}
 use Rattle.script.specs.Bytes.{Bytes}
 use Rattle.script.specs.Outcome.{done}
 use Rattle.script.specs.Reader.{Job, readJob}
@@ -34,13 +38,21 @@ pub agreement : (job : List ℕ) (j : Job) → Bytes job → readJob job ≡ don
 agreement job j b accepted =
     let c = is-code job j b accepted in
     record {
+      missing-idle = λ s i e. missing-idle (sumOf j) (compiled j) (numberOf (s .threads)) s i e;
+      ended-idle = λ s i e. ended-idle (sumOf j) (compiled j) (numberOf (s .threads)) s i e;
+      does-one = λ s f y i e n. does-one c (sumOf j) s f y i e n;
+      sent-back-first = λ s i v e. sent-back-first (sumOf j) (compiled j) (numberOf (s .threads)) s i v e;
+      committed-none = λ s i e. committed-none (sumOf j) (compiled j) (numberOf (s .threads)) s i e;
+      looked-found = λ s i from e. looked-found (sumOf j) (compiled j) (numberOf (s .threads)) s i from e;
       fresh-fits = (fresh-fits (compiled j), fresh-typed (compiled j));
       step-fits = λ s f y i. step-fits c (sumOf j) s f y i;
       run-fits = λ s f y is. run-fits c (sumOf j) s f y is;
       fresh-soup = fresh-soup c;
       has-soup = λ s f y. has-soup c s f y;
+      ended-halted = λ t m x. ended-halted x;
       pick-is-step = λ s f y soup x i e. pick-is-step c (sumOf j) s f y soup x i e;
       step-is-pick = λ s f y soup x h′ soup′ e. step-is-pick c (sumOf j) s f y soup x h′ soup′ e;
+      rule-is-for = λ x f. rule-is-for x f;
       pick-is-step-same = λ s f y soup x i e. pick-is-step-same c (sumOf j) s f y soup x i e;
       step-is-pick-same = λ s f y soup x h′ soup′ e. step-is-pick-same c (sumOf j) s f y soup x h′ soup′ e;
       history-reached = λ h. reached job j b accepted h;

@@ -1,37 +1,101 @@
--- Demand 2 on the machine: every step of a state that fits agrees with the machine of source document 002, 5.2.4; and what steps keep.
-use Prim.Native.Nat.{ℕ}
-use mathlib.Core.Bool.{false}
+-- Demand 2 on the machine: "every step agree[s] with the language and machine of source document 002, chapter 5, as document 01 fixes them".
+use Prim.Native.Nat.{ℕ, _<_}
+use mathlib.Core.Bool.{true, false}
+use mathlib.Core.Logic.{_↔_}
 use mathlib.Core.Path.{_≡_}
-use mathlib.Core.List.{List}
+use mathlib.Core.List.{List, _∷_}
 use mathlib.Core.Option.{some}
 use lib.IntN.{pos}
-use lib.ListN.{replicate}
+use lib.ListN.{drop, replicate}
 use Rattle.guarantee.specs.Histories.{Session, History}
+use Rattle.code.specs.Compile.{ε}
 use Rattle.code.specs.Bytes.{compiled}
-use Rattle.machine.specs.Steps.{State, pick, fresh, run}
-use Rattle.machine.specs.Fits.{Fits, Typed}
+use Rattle.code.specs.Reader.{opAt}
+use Rattle.code.specs.Reader as code
+use Rattle.thread.specs.declared.Thread.{Thread}
+use Rattle.thread.specs.Threads.{exists, stale}
+use Rattle.machine.specs.Steps.{State, threadAt, pick, DoesOne, FirstStale, FoundIn, fresh, run}
+use Rattle.machine.specs.Fits.{Exists, Fits, Typed}
 use Rattle.machine.specs.Answers.{sumOf}
 use Rattle.machine.specs.Source.{SThread, StepM, StepsM}
-use Rattle.machine.specs.Soup.{Soup, StandsFor, ruleOf, named, ByRule, load, PickOn}
+use Rattle.machine.specs.Soup.{Carries, Soup, StandsFor, ruleOf, IsFor, First, named, ByRule, load, PickOn}
+use Rattle.script.specs.Outcome.{done}
 use Rattle.script.specs.Reader.{Job}
 use Rattle.script.specs.Turns.{Registers}
-use Rattle.stm.specs.Events.{Happened, isIdle}
+use Rattle.stm.specs.Events.{Source, idle, looked, committed, sentBack, Happened, isIdle}
+use Rattle.word.specs.Sum.{Rule}
 
-pub record Agreement (j : Job) : Type 0 where
-  -- "A fresh state fits its code, and each step leaves a state that fits as one that fits, what it frees being 0"
-  pub fresh-fits : Fits (compiled j) (fresh (compiled j)) × Typed (fresh (compiled j))
-  pub step-fits : (s : State) → Fits (compiled j) s → Typed s → (i : ℕ) → Fits (compiled j) (pick (sumOf j) (compiled j) s i .state) × Typed (pick (sumOf j) (compiled j) s i .state)
-  pub run-fits : (s : State) → Fits (compiled j) s → Typed s → (is : List ℕ) → Fits (compiled j) (run (sumOf j) (compiled j) s is .state) × Typed (run (sumOf j) (compiled j) s is .state)
-  -- a fitting state stands for a soup, a fresh one for the loaded process
-  pub fresh-soup : Soup (compiled j) (fresh (compiled j)) (load (j .tree))
-  pub has-soup : (s : State) → Fits (compiled j) s → Typed s → (soup : List SThread) × Soup (compiled j) s soup
-  -- a pick that is not idle is a step of the soup on that thread, by the rule that its event names
-  pub pick-is-step : (s : State) → Fits (compiled j) s → Typed s → (soup : List SThread) → Soup (compiled j) s soup → (i : ℕ) → isIdle (pick (sumOf j) (compiled j) s i .event) ≡ false → (h′ : Registers) × ((soup′ : List SThread) × PickOn (compiled j) (sumOf j) s i soup h′ soup′)
-  -- and each step of the soup is such a pick, whose event names its rule
-  pub step-is-pick : (s : State) → Fits (compiled j) s → Typed s → (soup : List SThread) → Soup (compiled j) s soup → (h′ : Registers) (soup′ : List SThread) → (step : StepM (sumOf j) (s .registers) soup h′ soup′) → (i : ℕ) × ((isIdle (pick (sumOf j) (compiled j) s i .event) ≡ false) × ((named (pick (sumOf j) (compiled j) s i .event) ≡ some (ruleOf step)) × PickOn (compiled j) (sumOf j) s i soup h′ soup′))
-  -- both also for soups in any order
-  pub pick-is-step-same : (s : State) → Fits (compiled j) s → Typed s → (soup : List SThread) → StandsFor (compiled j) s soup → (i : ℕ) → isIdle (pick (sumOf j) (compiled j) s i .event) ≡ false → (soup′ : List SThread) × (ByRule (sumOf j) (s .registers) soup (pick (sumOf j) (compiled j) s i .state .registers) soup′ (pick (sumOf j) (compiled j) s i .event) × StandsFor (compiled j) (pick (sumOf j) (compiled j) s i .state) soup′)
-  pub step-is-pick-same : (s : State) → Fits (compiled j) s → Typed s → (soup : List SThread) → StandsFor (compiled j) s soup → (h′ : Registers) (soup′ : List SThread) → (step : StepM (sumOf j) (s .registers) soup h′ soup′) → (i : ℕ) × ((named (pick (sumOf j) (compiled j) s i .event) ≡ some (ruleOf step)) × ((pick (sumOf j) (compiled j) s i .state .registers ≡ h′) × StandsFor (compiled j) (pick (sumOf j) (compiled j) s i .state) soup′))
-  -- behind every list of calls stands a soup that the source's machine reaches from the loaded process, every register being 0
-  pub history-reached : {now : Session} {events : List Happened} → History (compiled j) now events → (soup : List SThread) × (StepsM (sumOf j) (replicate 64 (pos 0)) (load (j .tree)) (now .state .registers) soup × StandsFor (compiled j) (now .state) soup)
-  pub history-fits : {now : Session} {events : List Happened} → History (compiled j) now events → Fits (compiled j) (now .state) × Typed (now .state)
+module _ (j : Job) where
+  -- the job's code, its rule for sums, and one pick
+  abbrev its : List ℕ
+  its = compiled j
+
+  abbrev sum : Rule
+  sum = sumOf j
+
+  pub record Agreement : Type 0 where
+    -- ---- picks
+    -- "A pick of a thread that does not exist or has ended is idle and changes nothing but the idle count"
+    pub missing-idle : (s : State) (i : ℕ) → exists (threadAt s i) ≡ false → pick sum its s i ≡ record { state = s; event = idle }
+    pub ended-idle : (s : State) (i : ℕ) → threadAt s i .place ≡ threadAt s i .end → pick sum its s i ≡ record { state = s; event = idle }
+    -- "Each other pick does one instruction": the one at the thread's place
+    pub does-one :
+        (s : State) → Fits its s → Typed s → (i : ℕ) → Exists s i → (threadAt s i .place ≡ threadAt s i .end → ⊥) →
+        DoesOne sum its s i
+    -- a send-back tells "the first stale one"; a commit that takes effect found none
+    pub sent-back-first : (s : State) (i v : ℕ) → pick sum its s i .event ≡ sentBack v → FirstStale (threadAt s i) (s .registers) v
+    pub committed-none :
+        (s : State) (i : ℕ) → pick sum its s i .event ≡ committed →
+        (u : ℕ) → u < 64 → stale (threadAt s i) (s .registers) u ≡ false
+    -- READ tells where it found its value
+    pub looked-found :
+        (s : State) (i : ℕ) (from : Source) → pick sum its s i .event ≡ looked from →
+        (v : ℕ) × ((opAt (drop (threadAt s i .place) its) ≡ done (code.read v)) × FoundIn (threadAt s i) v from)
+    -- ---- the fit
+    -- "A fresh state fits its code, and each step leaves a state that fits as one that fits, what it frees being 0"
+    pub fresh-fits : Fits its (fresh its) × Typed (fresh its)
+    pub step-fits :
+        (s : State) → Fits its s → Typed s → (i : ℕ) →
+        Fits its (pick sum its s i .state) × Typed (pick sum its s i .state)
+    pub run-fits :
+        (s : State) → Fits its s → Typed s → (is : List ℕ) →
+        Fits its (run sum its s is .state) × Typed (run sum its s is .state)
+    -- ---- the source's machine
+    -- a fitting state stands for a soup, a fresh one for the loaded process
+    pub fresh-soup : Soup its (fresh its) (load (j .tree))
+    pub has-soup : (s : State) → Fits its s → Typed s → (soup : List SThread) × Soup its s soup
+    -- a thread has ended exactly if the source's is halted, with no code left
+    pub ended-halted : (t : Thread) (m : SThread) → Carries its t m → (t .place ≡ t .end) ↔ (m .code ≡ ε)
+    -- a pick that is not idle is a step of the soup on that thread, by the rule that its event names
+    pub pick-is-step :
+        (s : State) → Fits its s → Typed s → (soup : List SThread) → Soup its s soup →
+        (i : ℕ) → isIdle (pick sum its s i .event) ≡ false →
+        (h′ : Registers) × ((soup′ : List SThread) × PickOn its sum s i soup h′ soup′)
+    -- and each step of the soup is such a pick, whose event names its rule
+    pub step-is-pick :
+        (s : State) → Fits its s → Typed s → (soup : List SThread) → Soup its s soup →
+        (h′ : Registers) (soup′ : List SThread) → (step : StepM sum (s .registers) soup h′ soup′) →
+        (i : ℕ) × ((isIdle (pick sum its s i .event) ≡ false) ×
+        ((named (pick sum its s i .event) ≡ some (ruleOf step)) × PickOn its sum s i soup h′ soup′))
+    -- a rule's name says which instruction it is for, so that different rules have different names
+    pub rule-is-for :
+        {h h′ : Registers} {m : SThread} {behind left : List SThread} →
+        (x : StepM sum h (m ∷ behind) h′ left) → First x → IsFor (ruleOf x) h m
+    -- picks and steps also for soups in any order
+    pub pick-is-step-same :
+        (s : State) → Fits its s → Typed s → (soup : List SThread) → StandsFor its s soup →
+        (i : ℕ) → isIdle (pick sum its s i .event) ≡ false →
+        (soup′ : List SThread) ×
+        (ByRule sum (s .registers) soup (pick sum its s i .state .registers) soup′ (pick sum its s i .event) ×
+        StandsFor its (pick sum its s i .state) soup′)
+    pub step-is-pick-same :
+        (s : State) → Fits its s → Typed s → (soup : List SThread) → StandsFor its s soup →
+        (h′ : Registers) (soup′ : List SThread) → (step : StepM sum (s .registers) soup h′ soup′) →
+        (i : ℕ) × ((named (pick sum its s i .event) ≡ some (ruleOf step)) ×
+        ((pick sum its s i .state .registers ≡ h′) × StandsFor its (pick sum its s i .state) soup′))
+    -- behind every list of calls stands a soup that the source's machine reaches from the loaded process, every register being 0
+    pub history-reached :
+        {now : Session} {events : List Happened} → History its now events →
+        (soup : List SThread) ×
+        (StepsM sum (replicate 64 (pos 0)) (load (j .tree)) (now .state .registers) soup × StandsFor its (now .state) soup)
+    pub history-fits : {now : Session} {events : List Happened} → History its now events → Fits its (now .state) × Typed (now .state)

@@ -1,4 +1,4 @@
--- Document 01, "Runs and turns": lists of calls that run a job's code by picks, and what demand 3 says of them.
+-- Document 01, "Runs and turns": lists of calls that run a job's code by picks, and what demand 3 speaks of.
 use Prim.Native.Nat.{ℕ, _<_, _≤_}
 use mathlib.Core.Logic.{_↔_}
 use mathlib.Core.Path.{_≡_}
@@ -6,11 +6,11 @@ use mathlib.Core.List.{List, [], _∷_, _++_}
 use lib.IntN.{ℤ, pos}
 use lib.ListN.{length, getD}
 use Rattle.code.specs.Bytes.{compiled}
+use Rattle.machine.specs.Steps as steps
 use Rattle.machine.specs.Steps.{State, Stepped, threadAt, fresh, Ran}
-use Rattle.stm.specs.Events.{Happened, counted, isCommit, backs, order, countsOf}
+use Rattle.stm.specs.Events.{Happened, counted, isCommit, backs, order, Counts, uncounted, countsOf, together}
 use Rattle.machine.specs.Fits.{Exists, Typed, Ranged}
-use Rattle.machine.specs.Answers.{sumOf, stepOf, runOf}
-use Rattle.script.specs.Count.{bound}
+use Rattle.machine.specs.Answers.{sumOf, stepOf, runOf, stepCall, runCall, stepCounts, runCounts}
 use Rattle.script.specs.Bytes.{Bytes}
 use Rattle.script.specs.Outcome.{Outcome, refused, done, mapped}
 use Rattle.script.specs.Reader.{Job}
@@ -61,6 +61,21 @@ pub data History (code : List ℕ) : Session → List Happened → Type 0 where
   turned-down : {now : Session} {events : List Happened} {number place : ℕ} → History code now events → (c : Call) → Lent c → comesTo c ≡ refused number place → History code now events
   followed : {now : Session} {events : List Happened} {r : Ran} → History code now events → (c : Call) → Lent c → codeOf c ≡ now .code → stateOf c ≡ now .state → comesTo c ≡ done r → History code (record { code = now .code; state = r .state }) (events ++ r .events)
 
+-- the calls of a list, in their order
+unfoldable pub callsOf : {code : List ℕ} {now : Session} {events : List Happened} → History code now events → List Call
+callsOf none = []
+callsOf (turned-down h c l e) = callsOf h ++ (c ∷ [])
+callsOf (followed h c l a b e) = callsOf h ++ (c ∷ [])
+
+-- the counts that its answers report, refused calls included
+abbrev pub reportedBy : Call → Counts
+reportedBy (step code s i) = stepCounts (stepCall code s i .reply)
+reportedBy (run code s is) = runCounts (runCall code s is .reply)
+
+unfoldable pub reported : List Call → Counts
+reported [] = uncounted
+reported (c ∷ cs) = together (reportedBy c) (reported cs)
+
 -- the script itself, fed a list of thread numbers
 unfoldable pub scriptAfter : Job → List ℕ → Script
 scriptAfter j is = turns (sumOf j) (initial (j .tree)) is
@@ -99,10 +114,34 @@ pub record SentBack (events : List Happened) : Type 0 where
   pub not-twice : (before between behind : List Happened) → events ≡ before ++ (between ++ behind) → counted isCommit between ≡ 0 → (i : ℕ) → backs i between ≤ 1
   pub none-first : (before behind : List Happened) → events ≡ before ++ behind → counted isCommit before ≡ 0 → (i : ℕ) → backs i before ≡ 0
 
--- Demand 3, whole, of an accepted job
-pub record Demand3 (j : Job) : Type 0 where
-  pub whole : {now : Session} {events : List Happened} → History (compiled j) now events → Whole j (now .state) events
-  pub orders : (is : List ℕ) → CanTake (sumOf j) (initial (j .tree)) is → IsOrder j is
-  pub sent-back : {now : Session} {events : List Happened} → History (compiled j) now events → SentBack events
-  -- "the job ends within L + (K−1)×(T−1)×M steps, or L if K is 0, idle picks uncounted"
-  pub ends : {now : Session} {events : List Happened} → History (compiled j) now events → countsOf events .steps ≤ bound (j .tree)
+-- Which lists of calls there are.
+pub record CallLists (j : Job) : Type 0 where
+  -- any refused call may stand at any point of any list
+  pub refused-anywhere :
+      {now : Session} {events : List Happened} {number place : ℕ} →
+      History (compiled j) now events → (c : Call) → Lent c → comesTo c ≡ refused number place →
+      History (compiled j) now events
+  -- any call that is taken, with the code and the state so far, continues it
+  pub taken-onward :
+      {now : Session} {events : List Happened} {r : Ran} →
+      History (compiled j) now events → (c : Call) → Lent c → codeOf c ≡ now .code → stateOf c ≡ now .state → comesTo c ≡ done r →
+      History (compiled j) (record { code = now .code; state = r .state }) (events ++ r .events)
+  -- so there is one with a refused step first, a refused run in between, and a run of any bytes up to 32,768
+  pub mixed :
+      (is js : List ℕ) → Bytes is → Bytes js → length is ≤ 32768 → 32768 < length js →
+      (now : Session) × ((events : List Happened) × ((h : History (compiled j) now events) ×
+      (callsOf h ≡ step [] (fresh (compiled j)) 0 ∷ run (compiled j) (fresh (compiled j)) js ∷ run (compiled j) (fresh (compiled j)) is ∷ [])))
+  -- "a step by itself counts as one with a single pick"
+  pub step-is-run : (code : List ℕ) (s : State) (i : ℕ) → comesTo (step code s i) ≡ comesTo (run code s (i ∷ []))
+  -- a list is one run of picks from the fresh state
+  pub one-run :
+      {now : Session} {events : List Happened} → History (compiled j) now events →
+      (is : List ℕ) × (steps.run (sumOf j) (compiled j) (fresh (compiled j)) is ≡ record { state = now .state; events = events })
+  -- the counts that its calls report add up to those of the whole list
+  pub reports :
+      {now : Session} {events : List Happened} (h : History (compiled j) now events) →
+      reported (callsOf h) ≡ countsOf events
+  -- no turn of its order is idle in the script
+  pub order-taken :
+      {now : Session} {events : List Happened} → History (compiled j) now events →
+      CanTake (sumOf j) (initial (j .tree)) (order events)

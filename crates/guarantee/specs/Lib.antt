@@ -1,4 +1,6 @@
--- What is promised of the whole: lists of calls and what demand 3 says of them; the worked cases of document 01, "Slides for the bench".
+-- What is promised of the whole. Demands is the front page; Rows, Histories and Agreement have what it speaks of.
+pub mod Demands
+pub mod Rows
 pub mod Histories
 pub mod Agreement
 pub mod Cases

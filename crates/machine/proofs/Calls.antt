@@ -16,7 +16,7 @@ use Rattle.machine.specs.declared.FreshReply.{FreshReply}
 use Rattle.machine.specs.declared.StepReply.{StepReply}
 use Rattle.machine.specs.declared.RunReply.{RunReply}
 use Rattle.machine.specs.Answers.{sumOf, rightLengths, fitting, freshOf, stepOf, runOf, freshReply, stepReply, runReply, freshSays, stepSays, runSays, Returned, returned, freshCall, stepCall, runCall, FreshAnswer, StepAnswer, RunAnswer, stepCounts, runCounts}
-use Rattle.stm.specs.Events.{fromWrites, fromReads, fromTable, Event, idle, pushed, summed, forked, begun, looked, wrote, committed, sentBack, tally, countsOf, eventNumber}
+use Rattle.stm.specs.Events.{fromWrites, fromReads, fromTable, Event, idle, pushed, summed, forked, begun, looked, wrote, committed, sentBack, Counts, uncounted, tally, countsOf, eventNumber}
 use Rattle.stm.proofs.Counts.{event-of}
 use Rattle.machine.proofs.Numbers.{never}
 use Rattle.machine.proofs.FitTests.{fits-exactly}
@@ -300,6 +300,42 @@ step-reports r i = by (r .event)
 
 pub run-reports : (r : Ran) → runCounts (runReply (done r)) ≡ countsOf (r .events)
 run-reports r = refl
+
+-- of a whole call: a refused one reports none
+abbrev pub counting : {A : Type 0} → (A → Counts) → Outcome A → Counts
+counting f (refused number place) = uncounted
+counting f (done a) = f a
+
+pub step-call-counts : (code : List ℕ) (s : State) (i : ℕ) → stepCounts (stepCall code s i .reply) ≡ counting (λ (r : Stepped). countsOf (record { thread = i; event = r .event } ∷ [])) (stepOf code s i)
+unfolding stepCall stepOf
+step-call-counts code s i = by (readCode code) refl
+  where
+    result : Outcome Stepped → Type 0
+    result o = stepCounts (returned (λ (r : Stepped). r .state) stepReply s o .reply) ≡ counting (λ (r : Stepped). countsOf (record { thread = i; event = r .event } ∷ [])) o
+
+    by : (o : Outcome Job) → readCode code ≡ o → result (onward o (λ j. fitting code s (done (pick (sumOf j) code s i))))
+    by (refused n p) e = eleventh (λ m q. stepCounts (stepReply (refused m q)) ≡ uncounted) code n p e refl
+    by (done j) e = go (not (fits code s))
+      where
+        go : (b : Bool) → result (refuse b 12 0 (done (pick (sumOf j) code s i)))
+        go true = refl
+        go false = step-reports (pick (sumOf j) code s i) i
+
+pub run-call-counts : (code : List ℕ) (s : State) (is : List ℕ) → runCounts (runCall code s is .reply) ≡ counting (λ (r : Ran). countsOf (r .events)) (runOf code s is)
+unfolding runCall runOf
+run-call-counts code s is = by (readCode code) refl
+  where
+    result : Outcome Ran → Type 0
+    result o = runCounts (returned (λ (r : Ran). r .state) runReply s o .reply) ≡ counting (λ (r : Ran). countsOf (r .events)) o
+
+    by : (o : Outcome Job) → readCode code ≡ o → result (onward o (λ j. fitting code s (refuse (ltb 32768 (length is)) 13 0 (done (run (sumOf j) code s is)))))
+    by (refused n p) e = eleventh (λ m q. runCounts (runReply (refused m q)) ≡ uncounted) code n p e refl
+    by (done j) e = go (not (fits code s)) (ltb 32768 (length is))
+      where
+        go : (b c : Bool) → result (refuse b 12 0 (refuse c 13 0 (done (run (sumOf j) code s is))))
+        go true c = refl
+        go false true = refl
+        go false false = refl
 
 -- the rule for sums of version 1 is wrapping
 pub version-1-wraps : (j : Job) → j .version ≡ 1 → sumOf j ≡ wrapping

@@ -88,6 +88,9 @@ together-none a = same-counts (omega arith) (omega arith) (omega arith) (omega a
 pub none-together : (a : Counts) → together a uncounted ≡ a
 none-together a = same-counts (omega arith) (omega arith) (omega arith) (omega arith)
 
+pub together-assoc : (a b c : Counts) → together (together a b) c ≡ together a (together b c)
+together-assoc a b c = same-counts (omega arith) (omega arith) (omega arith) (omega arith)
+
 -- the counts of a whole list are those of its parts together
 pub counts-append : (hs ks : List Happened) → countsOf (hs ++ ks) ≡ together (countsOf hs) (countsOf ks)
 unfolding countsOf

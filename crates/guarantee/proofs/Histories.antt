@@ -1,15 +1,16 @@
--- Demand 3, over every list of calls that run an accepted job's code by picks. Assumes nothing.
+-- What holds of every list of calls that run an accepted job's code by picks. Assumes nothing.
 use Prim.Native.Nat.{ℕ, zero, suc, _≤_, _<_}
-use mathlib.Core.Bool.{true, not}
+use mathlib.Core.Bool.{Bool, true, false, not}
 use mathlib.Core.Logic.{_↔_}
 use mathlib.Core.Path.{_≡_, refl, sym, ap, subst, _∙_}
 use mathlib.Core.List.{List, [], _∷_, _++_, append-nil, append-assoc}
 use native.Mathlib.Omega.{arith}
+use borrow.Author.Tests.{le-ltb, lt-ltb}
 use lib.Dec.{ltb}
 use lib.IntN.{ℤ, pos}
 use lib.ListN.{length, getD}
 use Rattle.thread.specs.Threads.{exists}
-use Rattle.guarantee.specs.Histories.{Call, step, run, codeOf, stateOf, picksOf, Lent, alone, comesTo, Session, History, none, turned-down, followed, scriptAfter, Ended, SameResult, Whole, IsOrder, SentBack, Demand3}
+use Rattle.guarantee.specs.Histories.{Call, step, run, codeOf, stateOf, picksOf, Lent, alone, comesTo, Session, History, none, turned-down, followed, scriptAfter, Ended, SameResult, callsOf, reportedBy, reported, CallLists, Whole, IsOrder, SentBack}
 use Rattle.guarantee.proofs.RoundTrip.{mapped-done}
 use Rattle.code.specs.Compile.{Code, ε, _⨾_, compileP}
 use Rattle.code.specs.Bytes.{compiled, IsCode}
@@ -18,16 +19,17 @@ use Rattle.code.proofs.Foreign.{there-and-back, code-bytes}
 use Rattle.thread.specs.declared.Thread.{Thread}
 use Rattle.machine.specs.Steps as steps
 use Rattle.machine.specs.Steps.{State, Stepped, numberOf, threadAt, pick, fresh, Ran}
-use Rattle.stm.specs.Events.{Happened, counted, isIdle, isCommit, backs, order, countsOf}
+use Rattle.stm.specs.Events.{Happened, counted, isIdle, isCommit, backs, order, countsOf, Counts, together}
 use Rattle.machine.specs.Fits.{Exists, Fits, Typed, Ranged}
 use Rattle.machine.specs.FitTest.{fits}
 use Rattle.machine.specs.Answers.{sumOf, fitting, stepOf, runOf}
 use Rattle.machine.proofs.Picks.{run-append}
 use Rattle.machine.proofs.FitTests.{fits-exactly}
+use Rattle.machine.proofs.Calls.{counting, step-call-counts, run-call-counts}
 use Rattle.script.specs.Tree.{Proc, ValP}
 use Rattle.script.specs.Count.{forks, threads, bound}
 use Rattle.script.specs.Bytes.{Bytes}
-use Rattle.script.specs.Outcome.{Outcome, done, refuse}
+use Rattle.script.specs.Outcome.{Outcome, refused, done, refuse, onward, mapped}
 use Rattle.script.specs.Reader.{Job, readJob}
 use Rattle.script.specs.Refusal.{IsJob}
 use Rattle.script.specs.Turns.{initial, turns, CanTake, Result}
@@ -45,7 +47,7 @@ use Rattle.stm.specs.Meaning.{Outside, Inside, processOf, values, meant, values
 use Rattle.stm.proofs.Sound.{start-linked, run-linked, meant-length, meant-at}
 use Rattle.stm.proofs.Complete.{Below, Realised, start-outside, complete}
 use Rattle.stm.proofs.Bound.{outside-proc, thread-count, steps-bound}
-use Rattle.stm.proofs.Counts.{steps-counted}
+use Rattle.stm.proofs.Counts.{steps-counted, counts-append, together-none, none-together, together-assoc}
 use Rattle.stm.proofs.SentBack as sent
 use Rattle.word.specs.Sum.{Rule}
 
@@ -373,12 +375,84 @@ module _ (job : List ℕ) (j : Job) (b : Bytes job) (accepted : readJob job ≡ 
           let x = shows-ended (threadAt (ran .state) i) n (subst (λ (y : Task registerCells). Shows (compiled j) (threadAt (ran .state) i) y) t (k .mirrors .shown i l)) in
           record { there = e; place = x .0; height = x .1 .0; result = x .1 .1 }
 
--- Demand 3: for every accepted job
-pub demand-3 : (job : List ℕ) (j : Job) → Bytes job → readJob job ≡ done j → Demand3 j
-demand-3 job j b accepted =
-    record {
-      whole = λ h. sound job j b accepted h;
-      orders = λ is can. every-order job j b accepted is can;
-      sent-back = λ h. sent-back job j b accepted h;
-      ends = λ h. bounded job j b accepted h;
-    }
+-- ---- which lists of calls there are
+no-bytes : Bytes []
+no-bytes = record { small = λ i l. absurd (omega arith) }
+
+counts-of : (c : Call) → reportedBy c ≡ counting (λ (r : Ran). countsOf (r .events)) (comesTo c)
+counts-of (step code s i) = step-call-counts code s i ∙ same (stepOf code s i)
+  where
+    same : (o : Outcome Stepped) → counting (λ (r : Stepped). countsOf (record { thread = i; event = r .event } ∷ [])) o ≡ counting (λ (r : Ran). countsOf (r .events)) (mapped (alone i) o)
+    same (refused n p) = refl
+    same (done r) = refl
+counts-of (run code s is) = run-call-counts code s is
+
+reported-append : (cs : List Call) (c : Call) → reported (cs ++ (c ∷ [])) ≡ together (reported cs) (reportedBy c)
+unfolding reported
+reported-append [] c = none-together (reportedBy c) ∙ sym (together-none (reportedBy c))
+reported-append (d ∷ cs) c = ap (together (reportedBy d)) (reported-append cs c) ∙ sym (together-assoc (reportedBy d) (reported cs) (reportedBy c))
+
+-- the counts that the calls of a list report add up to those of its events
+reports′ : {code : List ℕ} {now : Session} {events : List Happened} (h : History code now events) → reported (callsOf h) ≡ countsOf events
+unfolding callsOf reported countsOf
+reports′ none = refl
+reports′ (turned-down {events = events} h c l e) =
+    reported-append (callsOf h) c
+    ∙ (ap (together (reported (callsOf h))) (counts-of c ∙ ap (counting (λ (r : Ran). countsOf (r .events))) e)
+    ∙ (none-together (reported (callsOf h)) ∙ reports′ h))
+reports′ (followed {events = events} {r = r} h c l a b e) =
+    reported-append (callsOf h) c
+    ∙ (ap (together (reported (callsOf h))) (counts-of c ∙ ap (counting (λ (r : Ran). countsOf (r .events))) e)
+    ∙ (ap (λ (k : Counts). together k (countsOf (r .events))) (reports′ h) ∙ sym (counts-append events (r .events))))
+
+-- a step is a run call with a single pick
+step-is-run′ : (code : List ℕ) (s : State) (i : ℕ) → comesTo (step code s i) ≡ comesTo (run code s (i ∷ []))
+unfolding stepOf runOf steps.run
+step-is-run′ code s i = by (readCode code)
+  where
+    by : (o : Outcome Job) → mapped (alone i) (onward o (λ j. fitting code s (done (pick (sumOf j) code s i)))) ≡ onward o (λ j. fitting code s (refuse (ltb 32768 1) 13 0 (done (steps.run (sumOf j) code s (i ∷ [])))))
+    by (refused n p) = refl
+    by (done j) = go (not (fits code s))
+      where
+        go : (b : Bool) → mapped (alone i) (refuse b 12 0 (done (pick (sumOf j) code s i))) ≡ refuse b 12 0 (refuse (ltb 32768 1) 13 0 (done (steps.run (sumOf j) code s (i ∷ []))))
+        go true = refl
+        go false = refl
+
+module _ (job : List ℕ) (j : Job) (b : Bytes job) (accepted : readJob job ≡ done j) where
+  ready : fits (compiled j) (fresh (compiled j)) ≡ true
+  ready = fits-exactly (compiled j) (fresh (compiled j)) (fresh-typed (compiled j)) .1 (fresh-fits (compiled j))
+
+  ran-short : (is : List ℕ) → length is ≤ 32768 → comesTo (run (compiled j) (fresh (compiled j)) is) ≡ done (steps.run (sumOf j) (compiled j) (fresh (compiled j)) is)
+  unfolding runOf
+  ran-short is l = rw (read job j b accepted, ready, le-ltb 32768 (length is) l)
+
+  ran-long : (is : List ℕ) → 32768 < length is → comesTo (run (compiled j) (fresh (compiled j)) is) ≡ refused 13 0
+  unfolding runOf
+  ran-long is l = rw (read job j b accepted, ready, lt-ltb 32768 (length is) l)
+
+  foreign : comesTo (step [] (fresh (compiled j)) 0) ≡ refused 11 0
+  unfolding stepOf readCode
+  foreign = refl
+
+  -- a list with a refused step first, a refused run in between, and a run of any length that is taken
+  mixed′ : (is js : List ℕ) → Bytes is → Bytes js → length is ≤ 32768 → 32768 < length js → (now : Session) × ((events : List Happened) × ((h : History (compiled j) now events) × (callsOf h ≡ step [] (fresh (compiled j)) 0 ∷ run (compiled j) (fresh (compiled j)) js ∷ run (compiled j) (fresh (compiled j)) is ∷ [])))
+  unfolding callsOf
+  mixed′ is js x y l m = (_, (_, (followed (turned-down (turned-down none (step [] (fresh (compiled j)) 0) foreign-lent foreign) (run (compiled j) (fresh (compiled j)) js) (lent js y) (ran-long js m)) (run (compiled j) (fresh (compiled j)) is) (lent is x) refl refl (ran-short is l), refl)))
+    where
+      lent : (is : List ℕ) → Bytes is → Lent (run (compiled j) (fresh (compiled j)) is)
+      lent is x = record { code = code-bytes j (is-job job j b accepted .within .valued); state = fresh-typed (compiled j); ranges = fresh-ranged (is-code job j b accepted); picks = x }
+
+      foreign-lent : Lent (step [] (fresh (compiled j)) 0)
+      foreign-lent = record { code = no-bytes; state = fresh-typed (compiled j); ranges = fresh-ranged (is-code job j b accepted); picks = record { small = one-byte 0 (omega arith) } }
+
+  pub call-lists : CallLists j
+  call-lists =
+      record {
+        refused-anywhere = λ h c l e. turned-down h c l e;
+        taken-onward = λ h c l a d e. followed h c l a d e;
+        mixed = mixed′;
+        step-is-run = step-is-run′;
+        one-run = λ h. history-run job j b accepted h;
+        reports = λ h. reports′ h;
+        order-taken = λ h. order-taken job j b accepted h;
+      }

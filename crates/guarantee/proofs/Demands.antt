@@ -1,0 +1,59 @@
+-- The three demands hold. Assumes nothing.
+use Prim.Native.Nat.{ℕ}
+use mathlib.Core.Path.{_≡_, ap}
+use mathlib.Core.List.{List, _∷_}
+use Rattle.guarantee.specs.Demands.{Demand1, Demand2, Demand3}
+use Rattle.guarantee.proofs.Agreement.{agreement}
+use Rattle.guarantee.proofs.Histories.{sound, every-order, sent-back, bounded}
+use Rattle.guarantee.proofs.RoundTrip.{read-back-exactly, compile-then-back, back-then-compile}
+use Rattle.guarantee.proofs.Rows.{job-rows, compile-rows, back-rows}
+use Rattle.machine.proofs.Calls.{fresh-answers, step-answers, run-answers}
+use Rattle.script.specs.Bytes.{Bytes}
+use Rattle.script.specs.Outcome.{done}
+use Rattle.script.specs.Reader.{Job, readJob}
+use Rattle.script.specs.Turns.{Script, turn, idle, Turned, left, turns}
+use Rattle.script.proofs.Soups.{turn-steps, step-turns, turn-steps-same, step-turns-same}
+use Rattle.script.proofs.Transactions.{work-reached, work-only}
+use Rattle.word.specs.Sum.{Rule}
+
+pub demand-1 : Demand1
+demand-1 =
+    record {
+      job-reader = job-rows;
+      compiling = λ job before b d. compile-rows job before b d;
+      reading-back = λ code before b d. back-rows code before b d;
+      fresh = fresh-answers;
+      step = step-answers;
+      run = run-answers;
+    }
+
+-- an idle turn leaves the script as it was
+idle-turn′ : (sum : Rule) (s : Script) (i : ℕ) (is : List ℕ) → turn sum s i ≡ idle → turns sum s (i ∷ is) ≡ turns sum s is
+unfolding turns
+idle-turn′ sum s i is e = ap (λ (t : Turned). turns sum (left s t) is) e
+
+pub demand-2 : Demand2
+demand-2 =
+    record {
+      atomic-reached = λ sum t h. work-reached sum t h;
+      atomic-only = λ sum x. work-only sum x;
+      turn-is-step = turn-steps;
+      step-is-turn = λ sum s x. step-turns sum s x;
+      turn-is-step-same = turn-steps-same;
+      step-is-turn-same = λ sum s soup m x. step-turns-same sum s soup m x;
+      idle-turn = idle-turn′;
+      machine = agreement;
+      read-back-exactly = read-back-exactly;
+      compile-then-back = compile-then-back;
+      back-then-compile = back-then-compile;
+    }
+
+-- for every accepted job
+pub demand-3 : (job : List ℕ) (j : Job) → Bytes job → readJob job ≡ done j → Demand3 j
+demand-3 job j b accepted =
+    record {
+      whole = λ h. sound job j b accepted h;
+      orders = λ is can. every-order job j b accepted is can;
+      sent-back = λ h. sent-back job j b accepted h;
+      ends = λ h. bounded job j b accepted h;
+    }
