@@ -34,7 +34,8 @@ use Rattle.script.specs.Reader.{Job, readJob}
 use Rattle.script.specs.Refusal.{IsJob}
 use Rattle.script.specs.Turns.{initial, turns, CanTake, Result}
 use Rattle.script.proofs.Accepts.{accepted-is-job, passed}
-use Rattle.machine.specs.Stands.{Stands, stackFrom, registerCells}
+use Rattle.machine.specs.InnerStands.{registerCells}
+use Rattle.machine.specs.Stands.{Stands, stackFrom}
 use Rattle.machine.proofs.Codes.{stands-end, stands-inside}
 use Rattle.machine.proofs.Showings.{Shows, shut, open′}
 use Rattle.machine.proofs.Numbers.{below-exists, exists-below}
@@ -42,8 +43,8 @@ use Rattle.machine.proofs.Mirrors.{Mirrors}
 use Rattle.machine.proofs.Fresh.{fresh-typed, fresh-fits, fresh-mirrors}
 use Rattle.machine.proofs.Ranges.{wrapping-in-range, fresh-ranged, run-ranged}
 use Rattle.machine.proofs.Runs.{Run, run-keeps}
-use Rattle.stm.specs.Tasks.{Log, Task, outside, inside, System, taskAt, next, start, endOf, eventsOf}
-use Rattle.stm.specs.Meaning.{Outside, Inside, processOf, values, meant, valuesOf, Linked}
+use Rattle.stm.specs.InnerTasks.{Log, Task, outside, inside, System, taskAt, next, start, endOf, eventsOf}
+use Rattle.stm.specs.InnerMeaning.{Outside, Inside, processOf, values, meant, valuesOf, Linked}
 use Rattle.stm.proofs.Sound.{start-linked, run-linked, meant-length, meant-at}
 use Rattle.stm.proofs.Complete.{Below, Realised, start-outside, complete}
 use Rattle.stm.proofs.Bound.{outside-proc, thread-count, steps-bound}

@@ -58,8 +58,14 @@ pub record Session : Type 0 where
 -- one before it left." "A refused call, whatever it was lent, leaves that state as it was, and its picks do not count."
 pub data History (code : List ℕ) : Session → List Happened → Type 0 where
   none : History code (record { code = code; state = fresh code }) []
-  turned-down : {now : Session} {events : List Happened} {number place : ℕ} → History code now events → (c : Call) → Lent c → comesTo c ≡ refused number place → History code now events
-  followed : {now : Session} {events : List Happened} {r : Ran} → History code now events → (c : Call) → Lent c → codeOf c ≡ now .code → stateOf c ≡ now .state → comesTo c ≡ done r → History code (record { code = now .code; state = r .state }) (events ++ r .events)
+  turned-down :
+      {now : Session} {events : List Happened} {number place : ℕ} → History code now events → (c : Call) → Lent c →
+      comesTo c ≡ refused number place →
+      History code now events
+  followed :
+      {now : Session} {events : List Happened} {r : Ran} → History code now events → (c : Call) → Lent c → codeOf c ≡ now .code →
+      stateOf c ≡ now .state → comesTo c ≡ done r →
+      History code (record { code = now .code; state = r .state }) (events ++ r .events)
 
 -- the calls of a list, in their order
 unfoldable pub callsOf : {code : List ℕ} {now : Session} {events : List Happened} → History code now events → List Call
@@ -111,7 +117,9 @@ pub record IsOrder (j : Job) (is : List ℕ) : Type 0 where
 
 -- "no thread is sent back twice between neighbouring commits or after the last, nor at all before the first"
 pub record SentBack (events : List Happened) : Type 0 where
-  pub not-twice : (before between behind : List Happened) → events ≡ before ++ (between ++ behind) → counted isCommit between ≡ 0 → (i : ℕ) → backs i between ≤ 1
+  pub not-twice :
+      (before between behind : List Happened) → events ≡ before ++ (between ++ behind) → counted isCommit between ≡ 0 → (i : ℕ) →
+      backs i between ≤ 1
   pub none-first : (before behind : List Happened) → events ≡ before ++ behind → counted isCommit before ≡ 0 → (i : ℕ) → backs i before ≡ 0
 
 -- Which lists of calls there are.

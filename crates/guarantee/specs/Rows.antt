@@ -19,12 +19,22 @@ pub data JobAnswer (job : List ℕ) : Reading → Type 0 where
 
 -- compiling: 1 to 9, then 10, "output shorter than the result"; else the code stands at the output's start
 pub data CompileAnswer (job before : List ℕ) : Delivered → Type 0 where
-  refused : {number place : ℕ} → Refused job number place → CompileAnswer job before (record { answer = answer.Refused number place; output = before })
-  short-tray : {j : Job} → IsJob job j → length before < length (compiled j) → CompileAnswer job before (record { answer = answer.Refused 10 0; output = before })
-  written : {j : Job} → IsJob job j → length (compiled j) ≤ length before → CompileAnswer job before (record { answer = answer.Done (length (compiled j)); output = onto (compiled j) before })
+  refused :
+      {number place : ℕ} → Refused job number place →
+      CompileAnswer job before (record { answer = answer.Refused number place; output = before })
+  short-tray :
+      {j : Job} → IsJob job j → length before < length (compiled j) →
+      CompileAnswer job before (record { answer = answer.Refused 10 0; output = before })
+  written :
+      {j : Job} → IsJob job j → length (compiled j) ≤ length before →
+      CompileAnswer job before (record { answer = answer.Done (length (compiled j)); output = onto (compiled j) before })
 
 -- reading back: 11, "no accepted job compiles to it", then 10; else the job stands at the output's start
 pub data ReadBackAnswer (code before : List ℕ) : Delivered → Type 0 where
   foreign-code : Foreign code → ReadBackAnswer code before (record { answer = answer.Refused 11 0; output = before })
-  short-tray : {j : Job} → IsCode code j → length before < length (bytesOf j) → ReadBackAnswer code before (record { answer = answer.Refused 10 0; output = before })
-  written : {j : Job} → IsCode code j → length (bytesOf j) ≤ length before → ReadBackAnswer code before (record { answer = answer.Done (length (bytesOf j)); output = onto (bytesOf j) before })
+  short-tray :
+      {j : Job} → IsCode code j → length before < length (bytesOf j) →
+      ReadBackAnswer code before (record { answer = answer.Refused 10 0; output = before })
+  written :
+      {j : Job} → IsCode code j → length (bytesOf j) ≤ length before →
+      ReadBackAnswer code before (record { answer = answer.Done (length (bytesOf j)); output = onto (bytesOf j) before })

@@ -22,7 +22,8 @@ use Rattle.machine.specs.Steps.{State, Stepped, numberOf, threadAt, sett
 use Rattle.machine.specs.Fits.{Exists, Fits, Typed}
 use Rattle.machine.specs.Source.{SThread, StepM, StepsM, stop, then}
 use Rattle.machine.specs.Soup.{Carries, nobody, Soup, StandsFor, ruleOf, named, ByRule, load, PickOn}
-use Rattle.machine.specs.Stands.{stackFrom, opOf, Ready, registerCells}
+use Rattle.machine.specs.InnerStands.{registerCells, opOf, Ready}
+use Rattle.machine.specs.Stands.{stackFrom}
 use Rattle.machine.proofs.Numbers.{in-table}
 use Rattle.machine.proofs.Codes.{stands-end, ready-op, code-ready}
 use Rattle.machine.proofs.Showings.{Shows, shut, open′}
@@ -34,8 +35,8 @@ use Rattle.machine.proofs.Runs.{shows-of, mirror, room-for, pick-keeps,
 use Rattle.machine.proofs.Rules.{preempted, preempted-rule, named-same, renamed, peel, own}
 use Rattle.machine.proofs.Soups.{soup-of, pick-steps, step-picks}
 use Rattle.stm.specs.Events.{committed, sentBack, isIdle}
-use Rattle.stm.specs.Tasks.{Task, start}
-use Rattle.stm.specs.Meaning.{Outside}
+use Rattle.stm.specs.InnerTasks.{Task, start}
+use Rattle.stm.specs.InnerMeaning.{Outside}
 use Rattle.stm.proofs.Bound.{outside-proc}
 use Rattle.word.specs.Sum.{Rule}
 

@@ -22,7 +22,8 @@ use Rattle.machine.specs.Fits.{nextPlace, TypedThread}
 use Rattle.machine.specs.Source.{Log, empty, updated, SThread, Looked, lookedUp, lookUp, agrees, consistent, entered, overridden, StepM, ForkM, PushM, AddM, BeginM, ReadM, WriteM, Committed, Failed}
 use Rattle.script.specs.Turns.{Registers}
 use Rattle.machine.specs.Soup.{Carries, ruleOf, named}
-use Rattle.machine.specs.Stands.{ValuedI, ValuedC, stackFrom, opOf}
+use Rattle.machine.specs.InnerStands.{opOf}
+use Rattle.machine.specs.Stands.{ValuedI, ValuedC, stackFrom}
 use Rattle.machine.proofs.Codes.{stands-next, stands-child}
 use Rattle.machine.proofs.Showings.{stack-suc, stack-push, stack-add, stack-closed, log-none, log-with}
 use Rattle.machine.specs.Soup.{First}

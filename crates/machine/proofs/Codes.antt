@@ -20,7 +20,8 @@ use Rattle.script.specs.Reader.{Job}
 use Rattle.script.specs.Bytes.{bytes16, bytes32}
 use Rattle.script.specs.Outcome.{done}
 use Rattle.machine.specs.Fits.{nextPlace}
-use Rattle.machine.specs.Stands.{Stands, opOf, ValuedI, ValuedC, Ready}
+use Rattle.machine.specs.InnerStands.{opOf, Ready}
+use Rattle.machine.specs.Stands.{Stands, ValuedI, ValuedC}
 
 -- what follows an instruction's opcode and operand: a child's code
 abbrev childBytes : Instruction → List ℕ

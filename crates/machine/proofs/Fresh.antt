@@ -13,14 +13,15 @@ use Rattle.thread.specs.Threads.{blank, spawned, exists}
 use Rattle.machine.specs.Steps.{threadAt, fresh, Child}
 use Rattle.machine.specs.Fits.{Walked, unmoved, starts, In, here, there, Passed, Exists, Placed, Fits, TypedThread, Typed}
 use Rattle.machine.proofs.Walking.{walks-once}
-use Rattle.machine.specs.Stands.{stackFrom, registerCells}
+use Rattle.machine.specs.InnerStands.{registerCells}
+use Rattle.machine.specs.Stands.{stackFrom}
 use Rattle.machine.proofs.Codes.{code-ready}
 use Rattle.machine.proofs.Placings.{typed-spawned, placed-spawned}
 use Rattle.machine.proofs.Showings.{Shows, shut}
 use Rattle.machine.proofs.Mirrors.{Mirrors}
 use Rattle.machine.proofs.Numbers.{number-is, blank-absent}
-use Rattle.stm.specs.Tasks.{taskAt, start}
-use Rattle.stm.specs.Meaning.{Outside}
+use Rattle.stm.specs.InnerTasks.{taskAt, start}
+use Rattle.stm.specs.InnerMeaning.{Outside}
 
 -- a run of records of no thread
 pub no-record : (n i : ℕ) → getD (replicate n blank) i blank ≡ blank

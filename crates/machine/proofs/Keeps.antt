@@ -15,7 +15,7 @@ use Rattle.code.specs.Bytes.{IsCode}
 use Rattle.script.specs.Reader.{Job}
 use Rattle.thread.specs.declared.Thread.{Thread}
 use Rattle.thread.specs.Threads.{blank, spawned, exists}
-use Rattle.machine.specs.Stands.{registerCells}
+use Rattle.machine.specs.InnerStands.{registerCells}
 use Rattle.machine.specs.Steps.{State, Stepped, numberOf, threadAt, Child}
 use Rattle.machine.specs.Fits.{Walked, Walks, starts, In, here, there, ownCode, Passed, Placed, Exists, ThreadOf, Forked, OneThread, Fits, TypedThread, Typed}
 use Rattle.machine.proofs.Numbers.{before-end, never, exists-below, in-table}
@@ -23,8 +23,8 @@ use Rattle.machine.proofs.Walking.{walks-once}
 use Rattle.machine.proofs.Placings.{typed-spawned, placed-spawned}
 use Rattle.machine.proofs.Regions.{link-low, link-once, none-in, FirstOr, first, other, first-or, LastOnce, last-once, LinkOf, passed-link, no-more}
 use Rattle.machine.proofs.Simulates.{Born, nobody, child, Simulated}
-use Rattle.stm.specs.Tasks.{Did}
-use Rattle.stm.specs.Meaning.{Outside}
+use Rattle.stm.specs.InnerTasks.{Did}
+use Rattle.stm.specs.InnerMeaning.{Outside}
 use Rattle.stm.proofs.Bound.{forks-proc}
 
 -- the threads of a state that fits are those with lower numbers

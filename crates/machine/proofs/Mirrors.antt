@@ -18,14 +18,15 @@ use Rattle.thread.specs.Threads.{blank, spawned, exists}
 use Rattle.machine.specs.Steps.{State, Stepped, numberOf, threadAt, instruction, pick, Child, act, settle}
 use Rattle.stm.specs.Events.{idle}
 use Rattle.machine.specs.Fits.{Exists}
-use Rattle.machine.specs.Stands.{stackFrom, opOf, Ready, registerCells, tableOf}
+use Rattle.machine.specs.InnerStands.{registerCells, tableOf, opOf, Ready}
+use Rattle.machine.specs.Stands.{stackFrom}
 use Rattle.machine.proofs.Numbers.{next-absent, at-end, number-is, below-exists, exists-below, number-small}
 use Rattle.machine.proofs.Picks.{missing-idle, ended-idle, does}
 use Rattle.machine.proofs.Codes.{stands-end, stands-inside, ready-op}
 use Rattle.machine.proofs.Showings.{Shows, shut, open′}
 use Rattle.machine.proofs.Simulates.{Held, Born, nobody, child, Simulated, from-outside, from-inside}
-use Rattle.stm.specs.Tasks.{Task, outside, over, Did, System, taskAt, started, put, did, next, stepOutside, stepTask}
-use Rattle.stm.specs.Meaning.{Outside, Inside}
+use Rattle.stm.specs.InnerTasks.{Task, outside, over, Did, System, taskAt, started, put, did, next, stepOutside, stepTask}
+use Rattle.stm.specs.InnerMeaning.{Outside, Inside}
 use Rattle.word.specs.Sum.{Rule}
 
 pub no-inside : (k b : ℕ) → Inside ε k b → ⊥

@@ -17,11 +17,11 @@ use Rattle.script.specs.Reader.{Job}
 use Rattle.machine.specs.Steps.{State, threadAt, Child}
 use Rattle.machine.specs.Fits.{Walked, walkOp, nextPlace, Walks, starts, passes, In, here, there, ownCode, Exists, Forked, Fits, Typed}
 use Rattle.machine.proofs.Walking.{not-before}
-use Rattle.machine.specs.Stands.{opOf, Ready}
+use Rattle.machine.specs.InnerStands.{opOf, Ready}
 use Rattle.machine.proofs.Codes.{next-place, stands-end, ready-op, ready-next, ready-child, code-ready}
 use Rattle.machine.proofs.Shapes.{same-op, taking-less, taking-one}
 use Rattle.machine.proofs.Simulates.{Held}
-use Rattle.stm.specs.Meaning.{TakesOutside, TakesInside, Outside, Inside, forksIn, forksOf}
+use Rattle.stm.specs.InnerMeaning.{TakesOutside, TakesInside, Outside, Inside, forksIn, forksOf}
 
 -- ---- the FORKs of code
 -- the child code of a FORK at a place

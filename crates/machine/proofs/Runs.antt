@@ -13,7 +13,8 @@ use Rattle.thread.specs.Threads.{readLog, writeLog}
 use Rattle.machine.specs.Steps.{State, Stepped, numberOf, threadAt, pick, run}
 use Rattle.stm.specs.Events.{Event, idle, Happened}
 use Rattle.machine.specs.Fits.{Exists, Placed, Fits, Typed}
-use Rattle.machine.specs.Stands.{stackFrom, Ready, registerCells}
+use Rattle.machine.specs.InnerStands.{registerCells, Ready}
+use Rattle.machine.specs.Stands.{stackFrom}
 use Rattle.machine.proofs.Shapes.{Shape, out, open′ as shape-open, shape}
 use Rattle.machine.proofs.Showings.{Shows, shut, open′}
 use Rattle.machine.proofs.Simulates.{Held}
@@ -21,8 +22,8 @@ use Rattle.machine.proofs.Mirrors.{Mirrors, Picked, stood, went, works,
 use Rattle.machine.proofs.Numbers.{below-exists}
 use Rattle.machine.proofs.Regions.{held}
 use Rattle.machine.proofs.Keeps.{keeps, has-room}
-use Rattle.stm.specs.Tasks.{Task, outside, inside, over, Did, System, taskAt, did, next, endOf, eventsOf}
-use Rattle.stm.specs.Meaning.{Outside, Inside}
+use Rattle.stm.specs.InnerTasks.{Task, outside, inside, over, Did, System, taskAt, did, next, endOf, eventsOf}
+use Rattle.stm.specs.InnerMeaning.{Outside, Inside}
 use Rattle.stm.proofs.Sizes.{step-length}
 use Rattle.word.specs.Sum.{Rule}
 

@@ -9,9 +9,9 @@ use Rattle.code.specs.Reader.{Op, opAt}
 use Rattle.script.specs.Outcome.{Outcome, done}
 use Rattle.machine.specs.Fits.{Walked, notes, shut, undone, walkOp, nextPlace, Walks, starts, passes}
 use Rattle.machine.proofs.Walking.{not-before}
-use Rattle.machine.specs.Stands.{opOf, Ready}
+use Rattle.machine.specs.InnerStands.{opOf, Ready}
 use Rattle.machine.proofs.Codes.{stands-end, ready-op, ready-next}
-use Rattle.stm.specs.Meaning.{taking1, taking2, TakesOutside, TakesInside, Outside, Inside, behind}
+use Rattle.stm.specs.InnerMeaning.{taking1, taking2, TakesOutside, TakesInside, Outside, Inside, behind}
 
 pub taking-two : (P : ℕ → Type 0) (h : ℕ) → taking2 P h → 2 ≤ h
 taking-two P zero t = absurd t

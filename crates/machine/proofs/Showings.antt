@@ -14,11 +14,12 @@ use lib.Signed.{ltZ}
 use Rattle.code.specs.Compile.{Code, BEGIN, _⨾_}
 use Rattle.thread.specs.declared.Thread.{Thread}
 use Rattle.thread.specs.Threads.{begin, stale, firstStale, overlaid, logOf, readLog, writeLog}
-use Rattle.machine.specs.Stands.{stackFrom, Ready, registerCells}
+use Rattle.machine.specs.InnerStands.{registerCells, Ready}
+use Rattle.machine.specs.Stands.{stackFrom}
 use Rattle.machine.proofs.Placings.{closed-below}
-use Rattle.stm.specs.Tasks as tasks
-use Rattle.stm.specs.Tasks.{Task, outside, inside, logged, nothing, staleIn, entered, overwritten}
-use Rattle.stm.specs.Meaning.{Outside, Inside, behind}
+use Rattle.stm.specs.InnerTasks as tasks
+use Rattle.stm.specs.InnerTasks.{Task, outside, inside, logged, nothing, staleIn, entered, overwritten}
+use Rattle.stm.specs.InnerMeaning.{Outside, Inside, behind}
 use Rattle.word.specs.Registers as registers
 use Rattle.word.specs.Registers.{member, with}
 use Rattle.word.proofs.Sets.{member-none, member-same, member-other}

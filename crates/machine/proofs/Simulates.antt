@@ -20,13 +20,14 @@ use Rattle.stm.specs.Events.{Source, fromWrites, fromReads, fromTable, summed, 
 use Rattle.machine.specs.Steps.{State, Stepped, numberOf, committing, commit, instruction, Child, act, settle}
 use Rattle.machine.specs.Fits.{undone, walkOp, nextPlace, Walks, Placed, TypedThread}
 use Rattle.machine.proofs.Walking.{not-before}
-use Rattle.machine.specs.Stands.{stackFrom, opOf, Ready, registerCells, tableOf}
+use Rattle.machine.specs.InnerStands.{registerCells, tableOf, opOf, Ready}
+use Rattle.machine.specs.Stands.{stackFrom}
 use Rattle.machine.proofs.Codes.{stands-inside, ready-op, ready-next, ready-child, ready-takes}
 use Rattle.machine.proofs.Shapes.{taking-two, taking-less, Shape, out, open′ as shape-open, shape}
 use Rattle.machine.proofs.Placings.{typed-push, typed-add, typed-begin, typed-read, typed-write, typed-closed, placed-push, placed-add, placed-read, read-kids, placed-write, placed-begin, placed-commit, commit-kids, placed-back, back-kids}
 use Rattle.machine.proofs.Showings.{Shows, shut, open′, stack-suc, stack-set, stack-push, stack-add, stack-closed, log-none, log-with, first-same, overlaid-same}
-use Rattle.stm.specs.Tasks.{Log, outside, inside, Did, Found, logged, goes, found, foundIn, overwritten, commits, stepOutside, stepInside}
-use Rattle.stm.specs.Meaning.{TakesOutside, TakesInside, Outside, Inside, behind}
+use Rattle.stm.specs.InnerTasks.{Log, outside, inside, Did, Found, logged, goes, found, foundIn, overwritten, commits, stepOutside, stepInside}
+use Rattle.stm.specs.InnerMeaning.{TakesOutside, TakesInside, Outside, Inside, behind}
 use Rattle.word.specs.Registers.{member}
 use Rattle.word.specs.Sum.{Rule}
 

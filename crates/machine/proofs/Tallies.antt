@@ -6,13 +6,13 @@ use mathlib.Core.List.{List, [], _∷_}
 use Rattle.code.specs.Bytes.{IsCode}
 use Rattle.machine.specs.Steps.{State, Stepped, numberOf, pickAmong, pick, run}
 use Rattle.machine.specs.Fits.{Fits, Typed}
-use Rattle.machine.specs.Stands.{registerCells}
+use Rattle.machine.specs.InnerStands.{registerCells}
 use Rattle.machine.specs.InnerTally.{Progress, advanced, Tallied, turned, tallied}
 use Rattle.machine.proofs.Runs.{mirror, pick-keeps}
 use Rattle.machine.proofs.Agrees.{outer, step-fits}
 use Rattle.script.specs.Reader.{Job}
 use Rattle.stm.specs.Events.{Event, isFork, more, Counts, tally, countsOf, together, uncounted}
-use Rattle.stm.specs.Tasks.{System, did, next}
+use Rattle.stm.specs.InnerTasks.{System, did, next}
 use Rattle.stm.proofs.Sizes.{next-number}
 use Rattle.stm.proofs.Counts.{tally-behind, together-none, none-together}
 use Rattle.word.specs.Sum.{Rule}

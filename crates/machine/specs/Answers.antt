@@ -99,19 +99,29 @@ runCall code s is = returned (λ (r : Ran). r .state) runReply s (runOf code s i
 -- ---- the table's rows 11 to 13, each with the tests before it passed: what a call returns, memory and answer
 pub data FreshAnswer (code : List ℕ) (s : State) : Returned FreshReply → Type 0 where
   foreign-code : Foreign code → FreshAnswer code s (record { state = s; reply = freshReply (refused 11 0) })
-  foreign-state : {j : Job} → IsCode code j → ((length (s .threads) ≡ 16) × (length (s .registers) ≡ 64) → ⊥) → FreshAnswer code s (record { state = s; reply = freshReply (refused 12 0) })
-  laid-down : {j : Job} → IsCode code j → length (s .threads) ≡ 16 → length (s .registers) ≡ 64 → FreshAnswer code s (record { state = fresh code; reply = freshReply (done (fresh code)) })
+  foreign-state :
+      {j : Job} → IsCode code j → ((length (s .threads) ≡ 16) × (length (s .registers) ≡ 64) → ⊥) →
+      FreshAnswer code s (record { state = s; reply = freshReply (refused 12 0) })
+  laid-down :
+      {j : Job} → IsCode code j → length (s .threads) ≡ 16 → length (s .registers) ≡ 64 →
+      FreshAnswer code s (record { state = fresh code; reply = freshReply (done (fresh code)) })
 
 pub data StepAnswer (code : List ℕ) (s : State) (i : ℕ) : Returned StepReply → Type 0 where
   foreign-code : Foreign code → StepAnswer code s i (record { state = s; reply = stepReply (refused 11 0) })
   foreign-state : {j : Job} → IsCode code j → (Fits code s → ⊥) → StepAnswer code s i (record { state = s; reply = stepReply (refused 12 0) })
-  picked : {j : Job} → IsCode code j → Fits code s → StepAnswer code s i (record { state = pick (sumOf j) code s i .state; reply = stepReply (done (pick (sumOf j) code s i)) })
+  picked :
+      {j : Job} → IsCode code j → Fits code s →
+      StepAnswer code s i (record { state = pick (sumOf j) code s i .state; reply = stepReply (done (pick (sumOf j) code s i)) })
 
 pub data RunAnswer (code : List ℕ) (s : State) (is : List ℕ) : Returned RunReply → Type 0 where
   foreign-code : Foreign code → RunAnswer code s is (record { state = s; reply = runReply (refused 11 0) })
   foreign-state : {j : Job} → IsCode code j → (Fits code s → ⊥) → RunAnswer code s is (record { state = s; reply = runReply (refused 12 0) })
-  long-list : {j : Job} → IsCode code j → Fits code s → 32768 < length is → RunAnswer code s is (record { state = s; reply = runReply (refused 13 0) })
-  ran : {j : Job} → IsCode code j → Fits code s → length is ≤ 32768 → RunAnswer code s is (record { state = run (sumOf j) code s is .state; reply = runReply (done (run (sumOf j) code s is)) })
+  long-list :
+      {j : Job} → IsCode code j → Fits code s → 32768 < length is →
+      RunAnswer code s is (record { state = s; reply = runReply (refused 13 0) })
+  ran :
+      {j : Job} → IsCode code j → Fits code s → length is ≤ 32768 →
+      RunAnswer code s is (record { state = run (sumOf j) code s is .state; reply = runReply (done (run (sumOf j) code s is)) })
 
 -- ---- the counts that an answer reports; a refused call's picks do not count
 abbrev pub reporting : (refusal : ℕ) → Counts → Counts

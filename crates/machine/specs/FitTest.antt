@@ -1,4 +1,4 @@
--- The test that decides whether a state fits its code.
+-- The test that decides whether a state fits its code. Nobody has to believe it: `fits-exactly` says that it decides `Fits`.
 use Prim.Native.Nat.{ℕ, zero, suc}
 use mathlib.Core.Bool.{Bool, true, false, cond, not, _&&_, _||_}
 use mathlib.Core.List.{List, [], _∷_, _++_}
@@ -49,7 +49,9 @@ free marked ns = freeFrom 64 0 marked ns
 abbrev pub agreesWith : Thread → Option Walked → Bool
 agreesWith t none = false
 agreesWith t (some w) =
-    eqb (t .height) (w .height) && (eqb (t .begin) (w .begin) && (eqb (t .base) (w .base) && (not (eqb (w .begin) 0) || (eqb (t .reads) registers.none && eqb (t .writes) registers.none))))
+    eqb (t .height) (w .height)
+    && (eqb (t .begin) (w .begin)
+    && (eqb (t .base) (w .base) && (not (eqb (w .begin) 0) || (eqb (t .reads) registers.none && eqb (t .writes) registers.none))))
 
 -- a thread's record
 unfoldable pub placed : List ℕ → Thread → Bool
@@ -59,7 +61,15 @@ placed bytes t =
 -- a record of no thread
 unfoldable pub allZero : Thread → Bool
 allZero t =
-    eqb (t .start) 0 && (eqb (t .end) 0 && (eqb (t .place) 0 && (eqb (t .height) 0 && (eqb (t .begin) 0 && (eqb (t .base) 0 && (eqb (t .reads) 0 && (eqb (t .writes) 0 && (free (λ n. false) (t .cells) && (free (λ n. false) (t .readlog) && free (λ n. false) (t .writelog))))))))))
+    eqb (t .start) 0
+    && (eqb (t .end) 0
+    && (eqb (t .place) 0
+    && (eqb (t .height) 0
+    && (eqb (t .begin) 0
+    && (eqb (t .base) 0
+    && (eqb (t .reads) 0
+    && (eqb (t .writes) 0
+    && (free (λ n. false) (t .cells) && (free (λ n. false) (t .readlog) && free (λ n. false) (t .writelog))))))))))
 
 -- threads first, each placed; then records of no thread only
 unfoldable pub noneBehind : List Thread → Bool
@@ -102,4 +112,8 @@ oneEach (c ∷ cs) ts = eqb (threadsOf c ts) 1 && oneEach cs ts
 
 unfoldable pub fits : List ℕ → State → Bool
 fits bytes s =
-    eqb (length (s .threads)) 16 && (eqb (length (s .registers)) 64 && (same (ownCode (threadAt s 0)) (record { start = 5; end = length bytes }) && (inFront bytes (s .threads) && (allAmong (passedBy bytes (s .threads)) (drop 1 (s .threads)) && oneEach (passedBy bytes (s .threads)) (s .threads)))))
+    eqb (length (s .threads)) 16
+    && (eqb (length (s .registers)) 64
+    && (same (ownCode (threadAt s 0)) (record { start = 5; end = length bytes })
+    && (inFront bytes (s .threads)
+    && (allAmong (passedBy bytes (s .threads)) (drop 1 (s .threads)) && oneEach (passedBy bytes (s .threads)) (s .threads)))))

@@ -66,7 +66,9 @@ nextPlace (code.fork size) q = q + 3 + size
 -- the places of a thread's own code, from its start on, and what the instructions before each leave
 pub data Walks (bytes : List ℕ) (start end : ℕ) : (place : ℕ) → Walked → Type 0 where
   starts : Walks bytes start end start unmoved
-  passes : {place : ℕ} {w : Walked} {op : Op} → Walks bytes start end place w → place < end → opAt (drop place bytes) ≡ done op → Walks bytes start end (nextPlace op place) (walkOp op place w)
+  passes :
+      {place : ℕ} {w : Walked} {op : Op} → Walks bytes start end place w → place < end → opAt (drop place bytes) ≡ done op →
+      Walks bytes start end (nextPlace op place) (walkOp op place w)
 
 -- one of a list
 pub data In (x : Child) : List Child → Type 0 where

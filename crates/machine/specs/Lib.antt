@@ -6,4 +6,5 @@ pub mod FitTest
 pub mod Answers
 pub mod Source
 pub mod Stands
+pub mod InnerStands
 pub mod Soup

@@ -32,6 +32,10 @@ pub record SThread : Type 0 where
   pub reads : Log
   pub writes : Log
 
+-- `(c, σ, f, r, w)`
+abbrev pub thread : Code → List ℤ → Code → Log → Log → SThread
+thread c σ f r w = record { code = c; stack = σ; again = f; reads = r; writes = w }
+
 -- READ: the value, and the read log after it
 pub record Looked : Type 0 where
   pub value : ℤ
@@ -63,17 +67,38 @@ unfoldable pub overridden : (left v : ℕ) → Registers → Log → Registers
 overridden zero v h w = h
 overridden (suc left) v h w = overridden left (suc v) (entered (w v) v h) w
 
--- ⟨h, s⟩ ↦M ⟨h′, s′⟩, rule by rule
+-- ⟨h, s⟩ ↦M ⟨h′, s′⟩, rule by rule, in the source's order; COMMIT is two constructors, one for each case
 pub data StepM (sum : Rule) : Registers → List SThread → Registers → List SThread → Type 0 where
-  Preempt : {h h′ : Registers} {t : SThread} {s s′ : List SThread} → StepM sum h s h′ s′ → StepM sum h (t ∷ s) h′ (t ∷ s′)
-  ForkM : {h : Registers} {c′ c f : Code} {σ : List ℤ} {r w : Log} {s : List SThread} → StepM sum h (record { code = FORK c′ ⨾ c; stack = σ; again = f; reads = r; writes = w } ∷ s) h (record { code = c; stack = pos 0 ∷ σ; again = f; reads = r; writes = w } ∷ record { code = c′; stack = []; again = ε; reads = empty; writes = empty } ∷ s)
-  PushM : {h : Registers} {n : ℤ} {c f : Code} {σ : List ℤ} {r w : Log} {s : List SThread} → StepM sum h (record { code = PUSH n ⨾ c; stack = σ; again = f; reads = r; writes = w } ∷ s) h (record { code = c; stack = n ∷ σ; again = f; reads = r; writes = w } ∷ s)
-  AddM : {h : Registers} {m n : ℤ} {c f : Code} {σ : List ℤ} {r w : Log} {s : List SThread} → StepM sum h (record { code = ADD ⨾ c; stack = n ∷ m ∷ σ; again = f; reads = r; writes = w } ∷ s) h (record { code = c; stack = sum m n ∷ σ; again = f; reads = r; writes = w } ∷ s)
-  BeginM : {h : Registers} {c f : Code} {σ : List ℤ} {r w : Log} {s : List SThread} → StepM sum h (record { code = BEGIN ⨾ c; stack = σ; again = f; reads = r; writes = w } ∷ s) h (record { code = c; stack = σ; again = BEGIN ⨾ c; reads = empty; writes = empty } ∷ s)
-  ReadM : {h : Registers} {v : ℕ} {c f : Code} {σ : List ℤ} {r w : Log} {s : List SThread} → StepM sum h (record { code = READ v ⨾ c; stack = σ; again = f; reads = r; writes = w } ∷ s) h (record { code = c; stack = lookUp h v r w .value ∷ σ; again = f; reads = lookUp h v r w .reads; writes = w } ∷ s)
-  WriteM : {h : Registers} {v : ℕ} {n : ℤ} {c f : Code} {σ : List ℤ} {r w : Log} {s : List SThread} → StepM sum h (record { code = WRITE v ⨾ c; stack = n ∷ σ; again = f; reads = r; writes = w } ∷ s) h (record { code = c; stack = n ∷ σ; again = f; reads = r; writes = updated w v n } ∷ s)
-  Committed : {h : Registers} {n : ℤ} {c f : Code} {σ : List ℤ} {r w : Log} {s : List SThread} → consistent 64 0 r h ≡ true → StepM sum h (record { code = COMMIT ⨾ c; stack = n ∷ σ; again = f; reads = r; writes = w } ∷ s) (overridden 64 0 h w) (record { code = c; stack = n ∷ σ; again = f; reads = r; writes = w } ∷ s)
-  Failed : {h : Registers} {n : ℤ} {c f : Code} {σ : List ℤ} {r w : Log} {s : List SThread} → consistent 64 0 r h ≡ false → StepM sum h (record { code = COMMIT ⨾ c; stack = n ∷ σ; again = f; reads = r; writes = w } ∷ s) h (record { code = f; stack = σ; again = f; reads = r; writes = w } ∷ s)
+  Preempt :
+      {h h′ : Registers} {t : SThread} {s s′ : List SThread} →
+      StepM sum h s h′ s′ →
+      StepM sum h (t ∷ s) h′ (t ∷ s′)
+  ForkM :
+      {h : Registers} {c′ c f : Code} {σ : List ℤ} {r w : Log} {s : List SThread} →
+      StepM sum h (thread (FORK c′ ⨾ c) σ f r w ∷ s) h (thread c (pos 0 ∷ σ) f r w ∷ thread c′ [] ε empty empty ∷ s)
+  PushM :
+      {h : Registers} {n : ℤ} {c f : Code} {σ : List ℤ} {r w : Log} {s : List SThread} →
+      StepM sum h (thread (PUSH n ⨾ c) σ f r w ∷ s) h (thread c (n ∷ σ) f r w ∷ s)
+  AddM :
+      {h : Registers} {m n : ℤ} {c f : Code} {σ : List ℤ} {r w : Log} {s : List SThread} →
+      StepM sum h (thread (ADD ⨾ c) (n ∷ m ∷ σ) f r w ∷ s) h (thread c (sum m n ∷ σ) f r w ∷ s)
+  BeginM :
+      {h : Registers} {c f : Code} {σ : List ℤ} {r w : Log} {s : List SThread} →
+      StepM sum h (thread (BEGIN ⨾ c) σ f r w ∷ s) h (thread c σ (BEGIN ⨾ c) empty empty ∷ s)
+  ReadM :
+      {h : Registers} {v : ℕ} {c f : Code} {σ : List ℤ} {r w : Log} {s : List SThread} →
+      StepM sum h (thread (READ v ⨾ c) σ f r w ∷ s) h (thread c (lookUp h v r w .value ∷ σ) f (lookUp h v r w .reads) w ∷ s)
+  WriteM :
+      {h : Registers} {v : ℕ} {n : ℤ} {c f : Code} {σ : List ℤ} {r w : Log} {s : List SThread} →
+      StepM sum h (thread (WRITE v ⨾ c) (n ∷ σ) f r w ∷ s) h (thread c (n ∷ σ) f r (updated w v n) ∷ s)
+  Committed :
+      {h : Registers} {n : ℤ} {c f : Code} {σ : List ℤ} {r w : Log} {s : List SThread} →
+      consistent 64 0 r h ≡ true →
+      StepM sum h (thread (COMMIT ⨾ c) (n ∷ σ) f r w ∷ s) (overridden 64 0 h w) (thread c (n ∷ σ) f r w ∷ s)
+  Failed :
+      {h : Registers} {n : ℤ} {c f : Code} {σ : List ℤ} {r w : Log} {s : List SThread} →
+      consistent 64 0 r h ≡ false →
+      StepM sum h (thread (COMMIT ⨾ c) (n ∷ σ) f r w ∷ s) h (thread f σ f r w ∷ s)
 
 -- ↦M*, any number of steps
 pub data StepsM (sum : Rule) : Registers → List SThread → Registers → List SThread → Type 0 where

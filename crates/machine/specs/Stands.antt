@@ -1,25 +1,12 @@
--- How a thread's record stands for a task that carries its code.
-use Prim.Native.Nat.{ℕ, zero, suc, _+_, _<_, _≤_}
+-- How the source's threads stand in a state: their code in the bytes, their stack in the cells.
+use Prim.Native.Nat.{ℕ, zero, suc, _+_, _<_}
 use mathlib.Core.Path.{_≡_}
 use mathlib.Core.List.{List, [], _∷_, _++_}
 use lib.IntN.{ℤ, pos}
 use lib.ListN.{length, getD}
 use Rattle.code.specs.Compile.{Instruction, Code, PUSH, ADD, READ, WRITE, BEGIN, COMMIT, FORK, ε, _⨾_}
 use Rattle.code.specs.Bytes.{instructionsBytes}
-use Rattle.code.specs.Counts.{RunsIn}
-use Rattle.code.specs.Reader.{Op}
-use Rattle.code.specs.Reader as code
-use Rattle.machine.specs.Steps.{State}
-use Rattle.stm.specs.Cells.{Cells, byValue}
 use Rattle.word.specs.Sum.{InRange}
-
--- a register's cell, and when a logged one is stale: document 01's, by value
-abbrev pub registerCells : Cells
-registerCells = byValue
-
--- the table of a state, as such cells
-abbrev pub tableOf : State → List (registerCells .Cell)
-tableOf s = s .registers
 
 -- the code c stands in the bytes from a place up to an end
 pub record Stands (bytes : List ℕ) (place end : ℕ) (c : Code) : Type 0 where
@@ -33,16 +20,6 @@ pub record Stands (bytes : List ℕ) (place end : ℕ) (c : Code) : Type 0 where
 unfoldable pub stackFrom : (cells : List ℤ) (base count : ℕ) → List ℤ
 stackFrom cells base zero = []
 stackFrom cells base (suc k) = getD cells (k + base) (pos 0) ∷ stackFrom cells base k
-
--- an instruction as it stands in the bytes
-abbrev pub opOf : Instruction → Op
-opOf (PUSH n) = code.push n
-opOf ADD = code.add
-opOf (READ v) = code.read v
-opOf (WRITE v) = code.write v
-opOf BEGIN = code.begin
-opOf COMMIT = code.commit
-opOf (FORK k) = code.fork (length (instructionsBytes k))
 
 -- operands in range, in each FORK's child too
 unfoldable mutual
@@ -58,10 +35,3 @@ unfoldable mutual
   pub ValuedC : Code → Type 0
   ValuedC ε = Unit {0}
   ValuedC (i ⨾ c) = ValuedI i × ValuedC c
-
--- code that is there to be run from a stack of this height
-pub record Ready (bytes : List ℕ) (place end : ℕ) (c : Code) (height : ℕ) : Type 0 where
-  pub stands : Stands bytes place end c
-  pub runs : RunsIn 64 c height
-  pub valued : ValuedC c
-  pub low : height ≤ 64

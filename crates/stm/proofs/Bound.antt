@@ -10,9 +10,9 @@ use lib.Dec.{ltb}
 use lib.IntN.{ℤ}
 use lib.ListN.{length, getD, set, length-set, length-append}
 use lib.Seq.{getD-set-same}
-use Rattle.stm.specs.Cells.{Cells}
-use Rattle.stm.specs.Tasks.{Log, Task, outside, inside, over, Did, firstStale, overwritten, commits, stays, goes, stepOutside, stepInside, stepTask, System, taskAt, started, did, next, endOf, eventsOf, start}
-use Rattle.stm.specs.Meaning.{TakesOutside, TakesInside, Outside, Inside, behind, beginsIn, begins, forksIn, forksOf, toCome, commitsToCome, forksToCome, dirty, total}
+use Rattle.stm.specs.InnerCells.{Cells}
+use Rattle.stm.specs.InnerTasks.{Log, Task, outside, inside, over, Did, firstStale, overwritten, commits, stays, goes, stepOutside, stepInside, stepTask, System, taskAt, started, did, next, endOf, eventsOf, start}
+use Rattle.stm.specs.InnerMeaning.{TakesOutside, TakesInside, Outside, Inside, behind, beginsIn, begins, forksIn, forksOf, toCome, commitsToCome, forksToCome, dirty, total}
 use Rattle.stm.proofs.Codes.{proc-runs}
 use Rattle.stm.proofs.SentBack.{Staleness, staleness, at-next, never, no}
 use Rattle.code.specs.Compile.{Code, PUSH, ADD, READ, WRITE, BEGIN, COMMIT, FORK, ε, _⨾_, compileT, compileP}

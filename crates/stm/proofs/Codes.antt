@@ -5,7 +5,7 @@ use mathlib.Core.List.{List, [], _∷_}
 use native.Mathlib.Omega.{arith}
 use lib.IntN.{ℤ, pos}
 use lib.ListN.{length}
-use Rattle.stm.specs.Meaning.{summedP, summedT, writtenT, topmost, processOf, atomicOf, values, taking2, Outside, Inside, finish, behind}
+use Rattle.stm.specs.InnerMeaning.{summedP, summedT, writtenT, topmost, processOf, atomicOf, values, taking2, Outside, Inside, finish, behind}
 use Rattle.code.specs.Compile.{Code, PUSH, ADD, READ, WRITE, BEGIN, COMMIT, FORK, ε, _⨾_, compileT, compileP}
 use Rattle.script.specs.Tree.{Tran, ValT, AddT, Read, Write, Proc, ValP, AddP, Atomic, Fork}
 use Rattle.script.specs.Limits.{ValuedT, ValuedP}

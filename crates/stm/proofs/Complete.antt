@@ -10,9 +10,9 @@ use lib.Dec.{eqb, ltb}
 use lib.IntN.{ℤ, pos}
 use lib.ListN.{length, getD, set, length-set, length-append, List·getD-append, List·getD-eq-default}
 use lib.Seq.{getD-set-same, getD-set-other}
-use Rattle.stm.specs.Cells.{Cells}
-use Rattle.stm.specs.Tasks.{Log, nothing, logged, Task, outside, inside, over, Did, cellAt, foundIn, found, staleIn, firstStale, overwritten, goes, stepOutside, stepInside, stepTask, System, taskAt, started, did, next, endOf, eventsOf, start}
-use Rattle.stm.specs.Meaning.{processOf, Outside, Inside, Good, Linked}
+use Rattle.stm.specs.InnerCells.{Cells}
+use Rattle.stm.specs.InnerTasks.{Log, nothing, logged, Task, outside, inside, over, Did, cellAt, foundIn, found, staleIn, firstStale, overwritten, goes, stepOutside, stepInside, stepTask, System, taskAt, started, did, next, endOf, eventsOf, start}
+use Rattle.stm.specs.InnerMeaning.{processOf, Outside, Inside, Good, Linked}
 use Rattle.stm.proofs.Logs.{logged-same, logged-other, none-found}
 use Rattle.stm.proofs.Sound.{meant-length, meant-at, turns-one, run-linked}
 use Rattle.code.specs.Compile.{Code, PUSH, ADD, READ, WRITE, BEGIN, COMMIT, FORK, ε, _⨾_, compileP}

@@ -10,9 +10,9 @@ use lib.Dec.{eqb}
 use lib.IntN.{ℤ, pos}
 use lib.ListN.{length, getD, set, replicate, length-set}
 use lib.Seq.{getD-set-same, getD-set-other, ext-getD}
-use Rattle.stm.specs.Cells.{Cells}
-use Rattle.stm.specs.Tasks.{Log, nothing, logged, cellAt, staleIn, firstStale, entered, overwritten}
-use Rattle.stm.specs.Meaning.{valuesOf, enter, overlay}
+use Rattle.stm.specs.InnerCells.{Cells}
+use Rattle.stm.specs.InnerTasks.{Log, nothing, logged, cellAt, staleIn, firstStale, entered, overwritten}
+use Rattle.stm.specs.InnerMeaning.{valuesOf, enter, overlay}
 use Rattle.script.specs.Turns.{Registers}
 
 -- ---- logs

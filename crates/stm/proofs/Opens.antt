@@ -9,9 +9,9 @@ use borrow.Author.Tests.{eqb-true, eqb-false, ltb-false}
 use lib.Dec.{eqb, ltb}
 use lib.IntN.{ℤ, pos}
 use lib.ListN.{length, getD}
-use Rattle.stm.specs.Cells.{Cells}
-use Rattle.stm.specs.Tasks.{Log, nothing, logged, Task, outside, inside, over, Did, cellAt, Found, foundIn, found, staleIn, firstStale, overwritten, goes, stepOutside, stepInside, stepTask, started}
-use Rattle.stm.specs.Meaning.{processOf, values, meant, meantAll, valuesOf, Outside, Inside, finish, overlay, behind, Agrees, Open, Known, Good}
+use Rattle.stm.specs.InnerCells.{Cells}
+use Rattle.stm.specs.InnerTasks.{Log, nothing, logged, Task, outside, inside, over, Did, cellAt, Found, foundIn, found, staleIn, firstStale, overwritten, goes, stepOutside, stepInside, stepTask, started}
+use Rattle.stm.specs.InnerMeaning.{processOf, values, meant, meantAll, valuesOf, Outside, Inside, finish, overlay, behind, Agrees, Open, Known, Good}
 use Rattle.stm.proofs.Codes.{tranOf, tran-whole, workAll, tran-finish, due, outside-moves}
 use Rattle.stm.proofs.Logs.{logged-same, logged-other, seen, overlay-nothing, overlay-at, overlay-logged, value-at, values-length, values-overwritten, overwritten-length, overwritten-past, none-stale}
 use Rattle.code.specs.Compile.{Code, PUSH, ADD, READ, WRITE, BEGIN, COMMIT, FORK, ε, _⨾_}

@@ -9,9 +9,9 @@ use borrow.Author.Tests.{eqb-true}
 use lib.Dec.{eqb, ltb}
 use lib.IntN.{ℤ}
 use lib.ListN.{getD, set}
-use Rattle.stm.specs.Cells.{Cells}
-use Rattle.stm.specs.Tasks.{Log, nothing, logged, Task, outside, inside, over, Did, cellAt, foundIn, found, staleIn, firstStale, overwritten, commits, stepOutside, stepInside, stepTask, System, taskAt, started, did, next, eventsOf, start}
-use Rattle.stm.specs.Meaning.{dirty}
+use Rattle.stm.specs.InnerCells.{Cells}
+use Rattle.stm.specs.InnerTasks.{Log, nothing, logged, Task, outside, inside, over, Did, cellAt, foundIn, found, staleIn, firstStale, overwritten, commits, stepOutside, stepInside, stepTask, System, taskAt, started, did, next, eventsOf, start}
+use Rattle.stm.specs.InnerMeaning.{dirty}
 use Rattle.code.specs.Compile.{Code, PUSH, ADD, READ, WRITE, BEGIN, COMMIT, FORK, ε, _⨾_}
 use Rattle.stm.specs.Events.{Event, committed, sentBack, counted, isCommit, isBack, backs}
 use Rattle.word.specs.Sum.{Rule}

@@ -9,8 +9,8 @@ use lib.IntN.{ℤ}
 use lib.ListN.{length, set, length-set, length-append}
 use Rattle.code.specs.Compile.{Code, PUSH, ADD, READ, WRITE, BEGIN, COMMIT, FORK, ε, _⨾_}
 use Rattle.stm.specs.Events.{Event, sentBack, committed, isFork, more}
-use Rattle.stm.specs.Cells.{Cells}
-use Rattle.stm.specs.Tasks.{Log, Task, outside, inside, Did, firstStale, overwritten, commits, stepOutside, stepInside, stepTask, System, taskAt, started, did, next}
+use Rattle.stm.specs.InnerCells.{Cells}
+use Rattle.stm.specs.InnerTasks.{Log, Task, outside, inside, Did, firstStale, overwritten, commits, stepOutside, stepInside, stepTask, System, taskAt, started, did, next}
 use Rattle.stm.proofs.Logs.{overwritten-length}
 use Rattle.word.specs.Sum.{Rule}
 

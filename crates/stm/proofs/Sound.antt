@@ -9,9 +9,9 @@ use lib.IntN.{ℤ, pos}
 use lib.ListN.{length, getD, set, replicate, List·getD-eq-default}
 use borrow.Author.Tests.{ltb-false}
 use lib.Seq.{set-getD}
-use Rattle.stm.specs.Cells.{Cells}
-use Rattle.stm.specs.Tasks.{Log, Task, outside, inside, over, Did, System, taskAt, started, did, next, endOf, eventsOf, start}
-use Rattle.stm.specs.Meaning.{processOf, meant, meantAll, valuesOf, Outside, Known, Good, Linked}
+use Rattle.stm.specs.InnerCells.{Cells}
+use Rattle.stm.specs.InnerTasks.{Log, Task, outside, inside, over, Did, System, taskAt, started, did, next, endOf, eventsOf, start}
+use Rattle.stm.specs.InnerMeaning.{processOf, meant, meantAll, valuesOf, Outside, Known, Good, Linked}
 use Rattle.stm.proofs.Codes.{proc-means, proc-runs}
 use Rattle.stm.proofs.Logs.{values-blank}
 use Rattle.stm.proofs.Opens.{Scripted, quiet, taken, Fine, task-fine}

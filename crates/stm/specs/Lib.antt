@@ -1,5 +1,5 @@
--- The machine with logs, on threads that carry their code, for any rule for sums and any staleness.
+-- Events is what a pick does and what is counted of it. The rest is a machine that only the proofs speak of.
 pub mod Events
-pub mod Cells
-pub mod Tasks
-pub mod Meaning
+pub mod InnerCells
+pub mod InnerTasks
+pub mod InnerMeaning

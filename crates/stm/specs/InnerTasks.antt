@@ -1,4 +1,5 @@
--- Tasks: threads that carry their code, and one step of a task. The stack inside a transaction is kept apart from the one below it.
+-- For the proofs, nobody has to believe it: threads that carry their code, and one step of such a task. The stack inside a transaction is
+-- kept apart from the one below it.
 use Prim.Native.Nat.{ℕ, zero, suc}
 use mathlib.Core.Bool.{Bool, true, false, cond}
 use mathlib.Core.List.{List, [], _∷_, _++_}
@@ -6,7 +7,7 @@ use mathlib.Core.Option.{Option, none, some}
 use lib.Dec.{eqb, ltb}
 use lib.IntN.{ℤ, pos}
 use lib.ListN.{getD, set, replicate}
-use Rattle.stm.specs.Cells.{Cells}
+use Rattle.stm.specs.InnerCells.{Cells}
 use Rattle.code.specs.Compile.{Code, PUSH, ADD, READ, WRITE, BEGIN, COMMIT, FORK, ε, _⨾_}
 use Rattle.stm.specs.Events.{Source, fromWrites, fromReads, fromTable, Event, idle, pushed, summed, forked, begun, looked, wrote, committed, sentBack, Happened}
 use Rattle.word.specs.Sum.{Rule}

@@ -1,4 +1,4 @@
--- What a task stands for in the script, which tasks are well formed, and what is counted in them.
+-- For the proofs, nobody has to believe it: what a task stands for in the script, which tasks are well formed, and what is counted in them.
 use Prim.Native.Nat.{ℕ, zero, suc, _+_, _<_}
 use mathlib.Core.Path.{_≡_}
 use mathlib.Core.Bool.{Bool, false}
@@ -7,8 +7,8 @@ use mathlib.Core.Option.{Option, none, some}
 use lib.Dec.{ltb}
 use lib.IntN.{ℤ, pos}
 use lib.ListN.{length, getD, set}
-use Rattle.stm.specs.Cells.{Cells}
-use Rattle.stm.specs.Tasks.{Log, Task, outside, inside, System, taskAt, firstStale, cellAt}
+use Rattle.stm.specs.InnerCells.{Cells}
+use Rattle.stm.specs.InnerTasks.{Log, Task, outside, inside, System, taskAt, firstStale, cellAt}
 use Rattle.code.specs.Compile.{Instruction, Code, PUSH, ADD, READ, WRITE, BEGIN, COMMIT, FORK, ε, _⨾_}
 use Rattle.code.specs.Counts.{codeCount}
 use Rattle.script.specs.Tree.{Tran, ValT, AddT, Read, Write, Proc, ValP, AddP, Atomic, Fork}

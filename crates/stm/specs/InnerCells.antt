@@ -1,4 +1,4 @@
--- What a register's cell may be, and when a logged cell is stale.
+-- For the proofs, nobody has to believe it: what a register's cell may be, and when a logged cell is stale.
 use Prim.Native.Nat.{ℕ, _≤_}
 use mathlib.Core.Bool.{Bool, true, false, _||_}
 use mathlib.Core.Path.{_≡_, refl, ap}
