@@ -1,4 +1,3 @@
--- What is promised of the whole: lists of calls and what demand 3 says of them; the worked cases of document 01, "Slides for the bench".
+-- What is promised of the whole: lists of calls and what demand 3 says of them; demand 2's sentence.
 pub mod Histories
 pub mod Agreement
-pub mod Cases

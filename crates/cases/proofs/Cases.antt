@@ -1,6 +1,6 @@
 -- The table of worked cases holds, by computation. Assumes nothing.
 use mathlib.Core.Path.{refl}
-use Rattle.guarantee.specs.Cases.{Cases}
+use Rattle.cases.specs.Cases.{Cases}
 use Rattle.code.specs.Compile.{compileT, compileP}
 use Rattle.code.specs.Bytes.{instructionBytes, instructionsBytes, codeMark, codeBytes, compiled}
 use Rattle.code.specs.Reader.{operand as codeOperand, opOf, opAt, doOp, closed, readOps, within, marked as codeMarked, readCode}
