@@ -24,6 +24,8 @@ cases =
       seven-code = refl;
       seven-steps = refl;
       seven-done = record { there = refl; place = refl; height = refl; result = refl };
+      seven-run = refl;
+      seven-bound = refl;
       below-range = refl;
       low-read = refl;
       low-done = record { there = refl; place = refl; height = refl; result = refl };

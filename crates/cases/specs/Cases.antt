@@ -33,8 +33,8 @@ abbrev pub accepted : Proc → Outcome Job
 accepted p = done (record { version = 1; tree = p })
 
 -- the code of a process
-abbrev pub codeOf : Proc → List ℕ
-codeOf p = compiled (record { version = 1; tree = p })
+abbrev pub codeFor : Proc → List ℕ
+codeFor p = compiled (record { version = 1; tree = p })
 
 -- VALP 7
 abbrev pub seven : List ℕ
@@ -42,7 +42,7 @@ seven = 0x57 ∷ 0x53 ∷ 0x4A ∷ 0x00 ∷ 0x01 ∷ 0x00 ∷ 0x01 ∷ 0x01 ∷ 
 
 -- its code: PUSH at 5, end 10
 abbrev pub sevenCode : List ℕ
-sevenCode = codeOf (ValP (pos 7))
+sevenCode = codeFor (ValP (pos 7))
 
 -- −2147483648 + −1
 abbrev pub lowTree : Proc
@@ -50,14 +50,14 @@ lowTree = AddP (ValP (negsuc 2147483647)) (ValP (negsuc 0))
 
 -- its code: PUSH at 5, PUSH at 10, ADD at 15, end 16
 abbrev pub lowCode : List ℕ
-lowCode = codeOf lowTree
+lowCode = codeFor lowTree
 
 -- ATOMIC of ADDT (WRITE 0 (VALT 5)) (READ 0)
 abbrev pub ownWriteTree : Proc
 ownWriteTree = Atomic (AddT (Write 0 (ValT (pos 5))) (Read 0))
 
 abbrev pub ownWriteCode : List ℕ
-ownWriteCode = codeOf ownWriteTree
+ownWriteCode = codeFor ownWriteTree
 
 -- the whole case: two threads each add 1 to register 0
 abbrev pub increment : Proc
@@ -86,30 +86,30 @@ highTree = AddP (ValP (pos 5)) (AddP (Fork (Atomic (Write 0 (ValT (pos 1))))) (A
 
 -- its code: PUSH at 5, FORK at 10 with its child from 13, BEGIN at 22, READ at 23, COMMIT at 25, ADD at 26, ADD at 27, end 28
 abbrev pub highCode : List ℕ
-highCode = codeOf highTree
+highCode = codeFor highTree
 
 -- ATOMIC (READ 0): BEGIN at 5, READ at 6, COMMIT at 8, end 9
 abbrev pub lookCode : List ℕ
-lookCode = codeOf (Atomic (Read 0))
+lookCode = codeFor (Atomic (Read 0))
 
 -- ATOMIC (ADDT (READ 3) (READ 3)), which reads a register twice and writes none
 abbrev pub twiceCode : List ℕ
-twiceCode = codeOf (Atomic (AddT (Read 3) (Read 3)))
+twiceCode = codeFor (Atomic (AddT (Read 3) (Read 3)))
 
 -- ADDP (FORK (ATOMIC (WRITE 63 n))) (ATOMIC (READ 63))
 abbrev pub lastCode : ℤ → List ℕ
-lastCode n = codeOf (AddP (Fork (Atomic (Write 63 (ValT n)))) (Atomic (Read 63)))
+lastCode n = codeFor (AddP (Fork (Atomic (Write 63 (ValT n)))) (Atomic (Read 63)))
 
 -- ADDP (FORK (ATOMIC (WRITE 2 (WRITE 1 1)))) (ATOMIC (ADDT (READ 2) (READ 1))): registers 1 and 2 become stale
 abbrev pub staleCode : List ℕ
-staleCode = codeOf (AddP (Fork (Atomic (Write 2 (Write 1 (ValT (pos 1)))))) (Atomic (AddT (Read 2) (Read 1))))
+staleCode = codeFor (AddP (Fork (Atomic (Write 2 (Write 1 (ValT (pos 1)))))) (Atomic (AddT (Read 2) (Read 1))))
 
 -- 15 FORKs, each inside the one before; thread i has FORK at 5 + 3 i, thread 15 PUSH at 50, and the end of each is 55
 abbrev pub fiveForks : Proc → Proc
 fiveForks p = Fork (Fork (Fork (Fork (Fork p))))
 
 abbrev pub nestCode : List ℕ
-nestCode = codeOf (fiveForks (fiveForks (fiveForks (ValP (pos 1)))))
+nestCode = codeFor (fiveForks (fiveForks (fiveForks (ValP (pos 1)))))
 
 -- ---- runs
 -- so many picks of a thread
@@ -251,11 +251,14 @@ abbrev pub readSevenWroteFive : Thread → Thread
 readSevenWroteFive t = withWriteValue 0 (pos 5) (withWrite 0 (readSeven t))
 
 pub record Cases : Type 0 where
-  -- M: "job hex `57 53 4A 00 01 00 01 01 00 00 00 07` has code `57 53 43 00 01 01 00 00 00 07`, one step, result 7"
+  -- M: "job hex `57 53 4A 00 01 00 01 01 00 00 00 07` has code `57 53 43 00 01 01 00 00 00 07`, one step, result 7"; of three picks the
+  -- other two are idle
   pub seven-read : readJob seven ≡ accepted (ValP (pos 7))
   pub seven-code : compiled (record { version = 1; tree = ValP (pos 7) }) ≡ 0x57 ∷ 0x53 ∷ 0x43 ∷ 0x00 ∷ 0x01 ∷ 0x01 ∷ 0x00 ∷ 0x00 ∷ 0x00 ∷ 0x07 ∷ []
   pub seven-steps : steps (ran sevenCode (times 1 0)) ≡ 1
   pub seven-done : Ended (ran sevenCode (times 1 0) .state) 0 (pos 7)
+  pub seven-run : runCall sevenCode (fresh sevenCode) (times 3 0) .reply ≡ record { refusal = 0; place = 0; steps = 1; idle = 2; commits = 0; back = 0 }
+  pub seven-bound : bound (ValP (pos 7)) ≡ 1
   -- M: "−2147483648 + −1 is 2147483647"; as a job, and as a call
   pub below-range : wrapping (negsuc 2147483647) (negsuc 0) ≡ pos 2147483647
   pub low-read : readJob (header 3 (0x02 ∷ 0x01 ∷ 0x80 ∷ 0x00 ∷ 0x00 ∷ 0x00 ∷ 0x01 ∷ 0xFF ∷ 0xFF ∷ 0xFF ∷ 0xFF ∷ [])) ≡ accepted lowTree
@@ -433,12 +436,13 @@ pub record Cases : Type 0 where
   pub records-17 : fits sevenCode (sized 64 17) ≡ false
   pub registers-63 : fits sevenCode (sized 63 16) ≡ false
   pub registers-65 : fits sevenCode (sized 65 16) ≡ false
-  -- "thread 0 owns the whole code": an end before its last instruction and one behind it, a start at its second FORK
+  -- "thread 0 owns the whole code": an end before its last instruction and one behind it, a start at its second FORK, where it stands
   pub fits-fresh : fits wholeCode (fresh wholeCode) ≡ true
   pub root-end-early : fits wholeCode (changed (fresh wholeCode) 0 (withCode 5 35)) ≡ false
   pub root-end-late : fits wholeCode (changed (fresh wholeCode) 0 (withCode 5 37)) ≡ false
   pub root-start : fits wholeCode (putAt (fresh wholeCode) 0 (spawned 20 36)) ≡ false
-  -- "and each child its FORK's child code": an end before its COMMIT, the end of the other child, a start behind its BEGIN
+  -- "and each child its FORK's child code": an end before its COMMIT, the end of the other child, a start behind its BEGIN,
+  -- where it stands
   pub fits-forked : fits wholeCode bothForked ≡ true
   pub child-end-early : fits wholeCode (changed bothForked 1 (withCode 8 19)) ≡ false
   pub child-end-late : fits wholeCode (changed bothForked 1 (withCode 8 35)) ≡ false
