@@ -3,4 +3,3 @@ pub mod Demands
 pub mod Rows
 pub mod Histories
 pub mod Agreement
-pub mod Cases

@@ -1,1 +1,1 @@
-// What is promised of the whole: the table of worked cases, and the theorems over all layers. No function.
+// What is promised of the whole: the theorems over all layers. No function.

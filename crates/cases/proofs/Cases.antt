@@ -1,0 +1,246 @@
+-- The table of worked cases holds, by computation. Assumes nothing.
+use mathlib.Core.Path.{refl}
+use Rattle.cases.specs.Cases.{Cases}
+use Rattle.code.specs.Compile.{compileT, compileP}
+use Rattle.code.specs.Bytes.{instructionBytes, instructionsBytes, codeMark, codeBytes, compiled}
+use Rattle.code.specs.Reader.{operand as codeOperand, opOf, opAt, doOp, closed, readOps, within, marked as codeMarked, readCode}
+use Rattle.thread.specs.Threads.{blank, spawned, push, add, begin, sourceOf, read, write, closed as closedAt, stale, firstStale, overlaid}
+use Rattle.machine.specs.Fits.{walkOp, nextPlace}
+use Rattle.machine.specs.FitTest.{walk, walkTo, freeFrom, placed, allZero, noneBehind, inFront, passedBy, among, allAmong, threadsOf, oneEach, fits}
+use Rattle.machine.specs.Answers.{freshOf, stepOf, runOf, freshCall, stepCall, runCall}
+use Rattle.machine.specs.Steps.{numberOf, commit, act, settle, pickAmong, fresh, run}
+use Rattle.stm.specs.Events.{counted, order, backs, tally, countsOf, eventNumber, eventRegister, turnNumber, eventOf}
+use Rattle.word.specs.Registers.{none, member, with}
+use Rattle.script.specs.Bytes.{nodeBytes, bytes16, bytes32, bytesT, bytesP, jobMark, jobBytes}
+use Rattle.script.specs.Count.{nodesT, nodesP, depthT, depthP, forks, atomics, threads, instructions, longest, bound, codeT, codeP, codeLength}
+use Rattle.script.specs.Reader.{permitted, operand, nodeOf, nodeAt, grown, forkOf, readNodes, marked, taken, readJob}
+use Rattle.word.specs.Sum.{residue, signed, wrap, wrapping}
+
+pub cases : Cases
+unfolding wrapping wrap signed residue readJob readNodes nodeAt nodeOf permitted operand grown forkOf marked taken jobBytes jobMark bytesP bytesT nodeBytes bytes16 bytes32 nodesP nodesT forks atomics threads instructions longest bound codeT codeP codeLength compiled codeBytes codeMark compileP compileT instructionBytes instructionsBytes readCode readOps closed doOp opAt opOf codeOperand codeMarked within depthT depthP blank spawned push add begin sourceOf read write closedAt stale firstStale overlaid numberOf commit act settle pickAmong fresh run counted order backs none member with walkOp nextPlace walk walkTo freeFrom placed allZero noneBehind inFront passedBy among allAmong threadsOf oneEach fits freshOf stepOf runOf tally countsOf eventNumber eventRegister turnNumber eventOf freshCall stepCall runCall
+cases =
+    record {
+      seven-read = refl;
+      seven-code = refl;
+      seven-steps = refl;
+      seven-done = record { there = refl; place = refl; height = refl; result = refl };
+      seven-run = refl;
+      seven-bound = refl;
+      below-range = refl;
+      low-read = refl;
+      low-done = record { there = refl; place = refl; height = refl; result = refl };
+      low-run = refl;
+      low-left = record { there = refl; place = refl; height = refl; result = refl };
+      own-job = refl;
+      own-read = refl;
+      own-reads = refl;
+      own-added = refl;
+      own-still = refl;
+      own-done = record { there = refl; place = refl; height = refl; result = refl };
+      own-register = refl;
+      own-run = refl;
+      no-bytes = refl;
+      register-63 = refl;
+      register-64 = refl;
+      written-63 = refl;
+      written-64 = refl;
+      no-count = refl;
+      whole-length = refl;
+      whole-size = refl;
+      whole-bound = refl;
+      whole-job-size = refl;
+      whole-read = refl;
+      whole-code = refl;
+      none-there = refl;
+      none-open = refl;
+      none-run = refl;
+      none-left = refl;
+      above-range = refl;
+      count-used-up = refl;
+      no-byte-left = refl;
+      high-job = refl;
+      whole-written = refl;
+      whole-back = refl;
+      whole-steps = refl;
+      whole-idle = refl;
+      whole-commits = refl;
+      whole-back-count = refl;
+      whole-threads = refl;
+      whole-0 = record { there = refl; place = refl; height = refl; result = refl };
+      whole-1 = record { there = refl; place = refl; height = refl; result = refl };
+      whole-2 = record { there = refl; place = refl; height = refl; result = refl };
+      whole-registers = refl;
+      whole-order = refl;
+      backs-1 = refl;
+      backs-2 = refl;
+      backs-twice = refl;
+      high-back = refl;
+      high-place = refl;
+      high-height = refl;
+      high-cells = refl;
+      high-begin = refl;
+      high-base = refl;
+      high-reads = refl;
+      high-readlog = refl;
+      high-done = record { there = refl; place = refl; height = refl; result = refl };
+      push-record = refl;
+      sum-record = refl;
+      fork-parent = refl;
+      fork-child = refl;
+      fork-next = refl;
+      fork-number = refl;
+      begin-record = refl;
+      read-from-writes = refl;
+      read-from-reads = refl;
+      read-from-table = refl;
+      write-record = refl;
+      write-table = refl;
+      commit-record = refl;
+      commit-table = refl;
+      back-record = refl;
+      back-table = refl;
+      step-0-idle = refl;
+      step-1-push = refl;
+      step-2-sum-outside = refl;
+      step-2-sum-inside = refl;
+      step-3-fork = refl;
+      step-4-begin = refl;
+      step-5-from-writes = refl;
+      step-5-from-both = refl;
+      step-6-from-reads = refl;
+      step-7-from-table = refl;
+      step-8-write = refl;
+      step-9-commit = refl;
+      step-10-back = refl;
+      commit-unwritten = refl;
+      lowest-stale = refl;
+      last-stale = refl;
+      same-value = refl;
+      step-idle = refl;
+      step-back = refl;
+      idle-3 = refl;
+      idle-3-left = refl;
+      idle-15 = refl;
+      idle-15-left = refl;
+      idle-16 = refl;
+      idle-16-left = refl;
+      idle-200 = refl;
+      idle-200-left = refl;
+      idle-ended = refl;
+      idle-ended-left = refl;
+      idle-run = refl;
+      run-reply = refl;
+      run-left = refl;
+      run-whole = refl;
+      run-none = refl;
+      run-all-threads = refl;
+      full-list = refl;
+      run-13 = refl;
+      run-13-left = refl;
+      long-list = refl;
+      run-12 = refl;
+      run-12-left = refl;
+      run-11 = refl;
+      run-11-left = refl;
+      long-foreign = refl;
+      step-12 = refl;
+      step-12-left = refl;
+      step-12-other-job = refl;
+      step-11 = refl;
+      step-11-left = refl;
+      step-11-job = refl;
+      foreign-code = refl;
+      foreign-state = refl;
+      fresh-state = refl;
+      fresh-reply = refl;
+      fresh-left = refl;
+      fresh-over = refl;
+      laid-down = refl;
+      fresh-12 = refl;
+      fresh-12-left = refl;
+      fresh-12-records = refl;
+      fresh-12-registers = refl;
+      fresh-12-registers-65 = refl;
+      fresh-11 = refl;
+      fresh-11-left = refl;
+      foreign-fresh = refl;
+      foreign-table = refl;
+      fits-sized = refl;
+      records-15 = refl;
+      records-17 = refl;
+      registers-63 = refl;
+      registers-65 = refl;
+      fits-fresh = refl;
+      root-end-early = refl;
+      root-end-late = refl;
+      root-start = refl;
+      fits-forked = refl;
+      child-end-early = refl;
+      child-end-late = refl;
+      child-start = refl;
+      fits-one = refl;
+      in-child = refl;
+      missing-thread = refl;
+      two-threads = refl;
+      unforked = refl;
+      fits-nest-one = refl;
+      unforked-by-child = refl;
+      other-order = refl;
+      all-threads = refl;
+      fits-all-threads = refl;
+      last-missing = refl;
+      fits-inside = refl;
+      in-push = refl;
+      in-read = refl;
+      no-place = refl;
+      other-child = refl;
+      fits-ended = refl;
+      behind-end = refl;
+      fits-child-ended = refl;
+      behind-child-end = refl;
+      height-low = refl;
+      height-high = refl;
+      height-high-filled = refl;
+      height-ended = refl;
+      fits-begun = refl;
+      notes-missing = refl;
+      begin-before = refl;
+      base-before = refl;
+      begin-behind = refl;
+      base-behind = refl;
+      begin-wrong = refl;
+      begin-other = refl;
+      fits-high = refl;
+      base-low = refl;
+      base-high = refl;
+      read-before = refl;
+      write-before = refl;
+      read-behind = refl;
+      write-behind = refl;
+      marked-outside = refl;
+      gap = refl;
+      unmarked-read = refl;
+      unmarked-read-63 = refl;
+      unmarked-write = refl;
+      unmarked-write-63 = refl;
+      unmarked-read-outside = refl;
+      unmarked-write-outside = refl;
+      cell-above = refl;
+      cell-63 = refl;
+      unused-end = refl;
+      unused-place = refl;
+      unused-height = refl;
+      unused-cell = refl;
+      unused-begin = refl;
+      unused-base = refl;
+      unused-read = refl;
+      unused-read-value = refl;
+      unused-write = refl;
+      unused-write-value = refl;
+      unused-last = refl;
+      free-cells = refl;
+      free-registers = refl;
+      free-read = refl;
+      free-write = refl;
+      unnamed = refl;
+    }

@@ -1,0 +1,2 @@
+-- The worked cases of document 01: "Slides for the bench", its figures, and a state that fits or does not for each sentence on fitting.
+pub mod Cases
