@@ -1,6 +1,6 @@
 -- From the scan's answer to `readBackTo`. Assumes nothing.
 use Prim.Native.Nat.{ℕ, _≤_, _<_}
-use mathlib.Core.Path.{_≡_, refl, sym, ap, ap₂, _∙_}
+use mathlib.Core.Path.{_≡_, refl, sym, ap, _∙_}
 use mathlib.Core.List.{List, _++_}
 use native.Mathlib.Omega.{arith}
 use lib.ListN.{length, drop}
@@ -8,7 +8,6 @@ use borrow.Author.Tests.{lt-ltb, le-ltb}
 use Rattle.decompiler.specs.ReadBackTo.{bytesOf, readBackTo}
 use Rattle.decompiler.specs.Walk.{Ready}
 use Rattle.code.specs.Reader.{readCode}
-use Rattle.code.proofs.Foreign.{only-foreign}
 use Rattle.delivery.specs.declared.Answer.the-variants.{Done, Refused}
 use Rattle.delivery.specs.Delivered.{Delivered, settled, delivered}
 use Rattle.scan.specs.Answer.{told}
@@ -25,12 +24,12 @@ module _ (code before : List ℕ) where
   unfolding readBackTo
   is-reached o e = ap reached e
 
-  pub foreign-answer : scanned.Foreign ≡ told (readCode code) → readBackTo code before ≡ record { answer = Refused 11 0; output = before }
+  pub refused-answer : (number place : ℕ) → scanned.Refused number place ≡ told (readCode code) → readBackTo code before ≡ record { answer = Refused number place; output = before }
   unfolding delivered
-  foreign-answer e = go (readCode code) refl
+  refused-answer number place e = go (readCode code) refl
     where
-      go : (o : Outcome Job) → readCode code ≡ o → readBackTo code before ≡ record { answer = Refused 11 0; output = before }
-      go (refused n p) r = let h = only-foreign code n p r in is-reached (refused n p) r ∙ ap (λ (o : Outcome (List ℕ)). settled o before) (ap₂ refused (h .0) (h .1))
+      go : (o : Outcome Job) → readCode code ≡ o → readBackTo code before ≡ record { answer = Refused number place; output = before }
+      go (refused n p) r = let f = e ∙ ap told r in let h : number ≡ n = cc in let k : place ≡ p = cc in is-reached (refused n p) r ∙ rw (h, k)
       go (done j) r = absurd (let f = e ∙ ap told r in let z : _≡_ {A = ℕ} 0 1 = cc in omega arith)
 
   -- the job that the scan found

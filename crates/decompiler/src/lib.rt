@@ -290,7 +290,7 @@ pub fn read_back(code: &[u8], out: &mut [u8]) -> Answer
 {
     let scanned = scan::scan_code(code);
     match scanned {
-        Scanned::Foreign => Answer::Refused(11, 0),
+        Scanned::Refused(number, place) => Answer::Refused(number, place),
         Scanned::Job(_, nodes, size) => {
             if out.len() < size {
                 return Answer::Refused(10, 0);

@@ -13,8 +13,8 @@ ghost use Rattle.scan.specs.View.{Fit, Room, Settled, Small, addTo, bad,
 pub enum Scanned {
     // the job's version, its node count, and its length in bytes
     Job(u16, usize, usize),
-    // no accepted job compiles to this code
-    Foreign,
+    // document 01's number, and the place: 11 at 0, no accepted job compiles to this code
+    Refused(u8, usize),
 }
 
 // An instruction as it stands in the code; a FORK has its child's length.
@@ -422,21 +422,21 @@ pub fn scan_code(code: &[u8]) -> Scanned
 {
     let length = code.len();
     if length < 5 {
-        return Scanned::Foreign;
+        return Scanned::Refused(11, 0);
     }
     if length > 5005 {
-        return Scanned::Foreign;
+        return Scanned::Refused(11, 0);
     }
     if !marked(code[0], code[1], code[2]) {
-        return Scanned::Foreign;
+        return Scanned::Refused(11, 0);
     }
     let version = word::number16(code[3], code[4]);
     if version != 1 {
-        return Scanned::Foreign;
+        return Scanned::Refused(11, 0);
     }
     let s = instructions(code);
     if !s.good {
-        return Scanned::Foreign;
+        return Scanned::Refused(11, 0);
     }
     let nodes = s.nodes;
     let size = s.size;
