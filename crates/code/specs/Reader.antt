@@ -25,12 +25,12 @@ pub data Op : Type 0 where
   fork : (size : ℕ) → Op
 
 -- how many bytes an opcode's operand has
-unfoldable pub operand : ℕ → ℕ
-operand opcode = cond (eqb opcode 1) 4 (cond (eqb opcode 3 || eqb opcode 4) 1 (cond (eqb opcode 7) 2 0))
+unfoldable pub opcodeOperand : ℕ → ℕ
+opcodeOperand opcode = cond (eqb opcode 1) 4 (cond (eqb opcode 3 || eqb opcode 4) 1 (cond (eqb opcode 7) 2 0))
 
 -- the instruction of an opcode from 1 to 7, its operand at the front of what follows
-unfoldable pub opOf : ℕ → List ℕ → Op
-opOf opcode rest =
+unfoldable pub decoded : ℕ → List ℕ → Op
+decoded opcode rest =
     cond
     (eqb opcode 1)
     (push (signed (number32 rest)))
@@ -54,10 +54,10 @@ opAt (opcode ∷ rest) =
     11
     0
     (refuse
-    (ltb (length rest) (operand opcode))
+    (ltb (length rest) (opcodeOperand opcode))
     11
     0
-    (refuse (eqb (operand opcode) 1 && leb 64 (getD rest 0 0)) 11 0 (done (opOf opcode rest))))
+    (refuse (eqb (opcodeOperand opcode) 1 && leb 64 (getD rest 0 0)) 11 0 (done (decoded opcode rest))))
 
 -- the bytes of an instruction, its child's code not counted
 abbrev pub sizeOf : Op → ℕ
@@ -77,9 +77,9 @@ pub data Item : Type 0 where
   forked : (size : ℕ) → Item
 
 -- VALP outside a transaction, VALT inside
-abbrev pub value : Bool → ℤ → Item
-value true n = tran (ValT n)
-value false n = proc (ValP n)
+abbrev pub valueItem : Bool → ℤ → Item
+valueItem true n = tran (ValT n)
+valueItem false n = proc (ValP n)
 
 -- the sum of the two topmost parts, both processes or both transactions
 abbrev pub sumP : Proc → List Item → Outcome (List Item)
@@ -96,47 +96,47 @@ sumT b (tran a ∷ items) = done (tran (AddT a b) ∷ items)
 sumT b (begun ∷ items) = foreign
 sumT b (forked size ∷ items) = foreign
 
-abbrev pub sum : List Item → Outcome (List Item)
-sum [] = foreign
-sum (proc b ∷ items) = sumP b items
-sum (tran b ∷ items) = sumT b items
-sum (begun ∷ items) = foreign
-sum (forked size ∷ items) = foreign
+abbrev pub sumTop : List Item → Outcome (List Item)
+sumTop [] = foreign
+sumTop (proc b ∷ items) = sumP b items
+sumTop (tran b ∷ items) = sumT b items
+sumTop (begun ∷ items) = foreign
+sumTop (forked size ∷ items) = foreign
 
 -- WRITE of the topmost part, which is a transaction
-abbrev pub written : ℕ → List Item → Outcome (List Item)
-written v [] = foreign
-written v (proc p ∷ items) = foreign
-written v (tran t ∷ items) = done (tran (Write v t) ∷ items)
-written v (begun ∷ items) = foreign
-written v (forked size ∷ items) = foreign
+abbrev pub writeTop : ℕ → List Item → Outcome (List Item)
+writeTop v [] = foreign
+writeTop v (proc p ∷ items) = foreign
+writeTop v (tran t ∷ items) = done (tran (Write v t) ∷ items)
+writeTop v (begun ∷ items) = foreign
+writeTop v (forked size ∷ items) = foreign
 
 -- COMMIT: one transaction stands behind its BEGIN
-abbrev pub atomicOf : Tran → List Item → Outcome (List Item)
-atomicOf t [] = foreign
-atomicOf t (proc p ∷ items) = foreign
-atomicOf t (tran u ∷ items) = foreign
-atomicOf t (begun ∷ items) = done (proc (Atomic t) ∷ items)
-atomicOf t (forked size ∷ items) = foreign
+abbrev pub atomicWith : Tran → List Item → Outcome (List Item)
+atomicWith t [] = foreign
+atomicWith t (proc p ∷ items) = foreign
+atomicWith t (tran u ∷ items) = foreign
+atomicWith t (begun ∷ items) = done (proc (Atomic t) ∷ items)
+atomicWith t (forked size ∷ items) = foreign
 
-abbrev pub committed : List Item → Outcome (List Item)
-committed [] = foreign
-committed (proc p ∷ items) = foreign
-committed (tran t ∷ items) = atomicOf t items
-committed (begun ∷ items) = foreign
-committed (forked size ∷ items) = foreign
+abbrev pub commitTop : List Item → Outcome (List Item)
+commitTop [] = foreign
+commitTop (proc p ∷ items) = foreign
+commitTop (tran t ∷ items) = atomicWith t items
+commitTop (begun ∷ items) = foreign
+commitTop (forked size ∷ items) = foreign
 
 -- the end of a FORK's child: one process stands behind its FORK
-abbrev pub forkOf : Proc → List Item → Outcome (List Item)
-forkOf p [] = foreign
-forkOf p (proc q ∷ items) = foreign
-forkOf p (tran t ∷ items) = foreign
-forkOf p (begun ∷ items) = foreign
-forkOf p (forked size ∷ items) = done (proc (Fork p) ∷ items)
+abbrev pub forkWith : Proc → List Item → Outcome (List Item)
+forkWith p [] = foreign
+forkWith p (proc q ∷ items) = foreign
+forkWith p (tran t ∷ items) = foreign
+forkWith p (begun ∷ items) = foreign
+forkWith p (forked size ∷ items) = done (proc (Fork p) ∷ items)
 
 abbrev pub childEnded : List Item → Outcome (List Item)
 childEnded [] = foreign
-childEnded (proc p ∷ items) = forkOf p items
+childEnded (proc p ∷ items) = forkWith p items
 childEnded (tran t ∷ items) = foreign
 childEnded (begun ∷ items) = foreign
 childEnded (forked size ∷ items) = foreign
@@ -147,17 +147,17 @@ pub record Done : Type 0 where
   pub items : List Item
   pub inside : Bool
 
-abbrev pub stays : Bool → Outcome (List Item) → Outcome Done
-stays inside o = onward o (λ items. done (record { items = items; inside = inside }))
+abbrev pub doneWith : Bool → Outcome (List Item) → Outcome Done
+doneWith inside o = onward o (λ items. done (record { items = items; inside = inside }))
 
 unfoldable pub doOp : Op → (inside : Bool) → List Item → Outcome Done
-doOp (push n) inside items = stays inside (done (value inside n ∷ items))
-doOp add inside items = stays inside (sum items)
-doOp (read v) inside items = refuse (not inside) 11 0 (stays true (done (tran (Read v) ∷ items)))
-doOp (write v) inside items = refuse (not inside) 11 0 (stays true (written v items))
-doOp begin inside items = refuse inside 11 0 (stays true (done (begun ∷ items)))
-doOp commit inside items = refuse (not inside) 11 0 (stays false (committed items))
-doOp (fork size) inside items = refuse inside 11 0 (stays false (done (forked size ∷ items)))
+doOp (push n) inside items = doneWith inside (done (valueItem inside n ∷ items))
+doOp add inside items = doneWith inside (sumTop items)
+doOp (read v) inside items = refuse (not inside) 11 0 (doneWith true (done (tran (Read v) ∷ items)))
+doOp (write v) inside items = refuse (not inside) 11 0 (doneWith true (writeTop v items))
+doOp begin inside items = refuse inside 11 0 (doneWith true (done (begun ∷ items)))
+doOp commit inside items = refuse (not inside) 11 0 (doneWith false (commitTop items))
+doOp (fork size) inside items = refuse inside 11 0 (doneWith false (done (forked size ∷ items)))
 
 -- the ends of the open FORKs' children, the innermost first
 abbrev pub endsAfter : Op → (place : ℕ) → List ℕ → List ℕ
@@ -170,15 +170,15 @@ endsAfter commit place ends = ends
 endsAfter (fork size) place ends = (place + 3 + size) ∷ ends
 
 -- the children that end at this place, and what is then open and on the stack
-pub record Open : Type 0 where
+pub record OpenParts : Type 0 where
   pub ends : List ℕ
   pub items : List Item
 
-unfoldable pub closed : (place : ℕ) → List ℕ → List Item → Outcome Open
-closed place [] items = done (record { ends = []; items = items })
-closed place (end ∷ ends) items =
+unfoldable pub endedAt : (place : ℕ) → List ℕ → List Item → Outcome OpenParts
+endedAt place [] items = done (record { ends = []; items = items })
+endedAt place (end ∷ ends) items =
     elim (eqb place end) [
-      | true ↦ onward (childEnded items) (λ items′. closed place ends items′)
+      | true ↦ onward (childEnded items) (λ items′. endedAt place ends items′)
       | false ↦ done (record { ends = end ∷ ends; items = items })
     ]
 
@@ -194,7 +194,7 @@ lastOf (tran t ∷ items) = foreign
 lastOf (begun ∷ items) = foreign
 lastOf (forked size ∷ items) = foreign
 
-abbrev pub ended : Open → Outcome Proc
+abbrev pub ended : OpenParts → Outcome Proc
 ended open′ = elim (open′ .ends) [ [] ↦ lastOf (open′ .items) | end ∷ ends ↦ foreign ]
 
 -- the instructions from a place on, `bs` being the bytes there; `fuel` is more than their number
@@ -202,7 +202,7 @@ unfoldable pub readOps : (fuel : ℕ) (inside : Bool) (items : List Item) (ends 
 readOps zero inside items ends place bs = foreign
 readOps (suc fuel) inside items ends place bs =
     onward
-    (closed place ends items)
+    (endedAt place ends items)
     (λ now. elim (eqb (length bs) 0) [
       | true ↦ ended now
       | false ↦ onward
@@ -223,8 +223,8 @@ unfoldable pub within : Proc → Bool
 within p = leb (nodesP p) mostNodes && (leb (depthP p) mostDepth && leb (forks p) mostForks)
 
 -- the mark `WSC`
-unfoldable pub marked : List ℕ → Bool
-marked bs = eqb (getD bs 0 0) 0x57 && (eqb (getD bs 1 0) 0x53 && eqb (getD bs 2 0) 0x43)
+unfoldable pub codeMarked : List ℕ → Bool
+codeMarked bs = eqb (getD bs 0 0) 0x57 && (eqb (getD bs 1 0) 0x53 && eqb (getD bs 2 0) 0x43)
 
 -- the job that compiles to this code, or 11 at 0
 unfoldable pub readCode : List ℕ → Outcome Job
@@ -234,7 +234,7 @@ readCode bs =
     11
     0
     (refuse
-    (not (marked bs))
+    (not (codeMarked bs))
     11
     0
     (refuse

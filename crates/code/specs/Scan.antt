@@ -5,7 +5,7 @@ use mathlib.Core.Bool.{Bool, true, false, cond, not, _&&_}
 use mathlib.Core.List.{List, [], _∷_}
 use lib.Dec.{eqb, leb, ltb}
 use lib.ListN.{length, drop}
-use Rattle.code.specs.Reader.{foreign, Op, push, add, read, write, begin, commit, fork, opAt, sizeOf, endsAfter, marked}
+use Rattle.code.specs.Reader.{foreign, Op, push, add, read, write, begin, commit, fork, opAt, sizeOf, endsAfter, codeMarked}
 use Rattle.script.specs.Count.{nodesP}
 use Rattle.script.specs.Bytes.{jobBytes}
 use Rattle.script.specs.Limits.{mostNodes, mostDepth, mostForks}
@@ -14,14 +14,14 @@ use Rattle.script.specs.Reader.{Job, number16, taken}
 
 -- an item of the stack. Its kind is no node's kind: 0 for a BEGIN, 1 for a FORK, 2 for a process, 3 for a transaction; and the depth that its deepest node has at
 -- least in any tree that the code can become: its place on the stack, counted from 0 at the bottom, and its own depth
-pub record Mark : Type 0 where
+pub record ScanItem : Type 0 where
   pub kind : ℕ
   pub reach : ℕ
 
 -- how far the scan has come: the stack, the topmost first, whether a transaction is open, the ends of the open FORKs' children, the
 -- place in the code, the nodes and FORKs so far, and the bytes of the job so far
-pub record Scan : Type 0 where
-  pub marks : List Mark
+pub record ListScan : Type 0 where
+  pub stack : List ScanItem
   pub inside : Bool
   pub ends : List ℕ
   pub place : ℕ
@@ -29,20 +29,20 @@ pub record Scan : Type 0 where
   pub forks : ℕ
   pub size : ℕ
 
-unfoldable pub started : Scan
-started = record { marks = []; inside = false; ends = []; place = 5; nodes = 0; forks = 0; size = 7 }
+unfoldable pub scanStart : ListScan
+scanStart = record { stack = []; inside = false; ends = []; place = 5; nodes = 0; forks = 0; size = 7 }
 
 -- within the limits so far
-abbrev pub bounded : Scan → ℕ → Outcome Scan
+abbrev pub bounded : ListScan → ℕ → Outcome ListScan
 bounded s reach =
     refuse (not (leb reach mostDepth && (leb (s .nodes) mostNodes && leb (s .forks) mostForks))) 11 0 (done s)
 
 -- a new item on top: its node, so many bytes of the job, and as many FORKs
-abbrev pub topped : Scan → (kind : ℕ) (inside : Bool) (forks size : ℕ) → Outcome Scan
+abbrev pub topped : ListScan → (kind : ℕ) (inside : Bool) (forks size : ℕ) → Outcome ListScan
 topped s kind inside forks size =
     bounded
     (record {
-      marks = record { kind = kind; reach = suc (length (s .marks)) } ∷ s .marks;
+      stack = record { kind = kind; reach = suc (length (s .stack)) } ∷ s .stack;
       inside = inside;
       ends = s .ends;
       place = s .place;
@@ -50,14 +50,14 @@ topped s kind inside forks size =
       forks = s .forks + forks;
       size = s .size + size;
     })
-    (suc (length (s .marks)))
+    (suc (length (s .stack)))
 
 -- the topmost items become one, with a node and bytes of the job more
-abbrev pub merged : Scan → (kind reach : ℕ) → List Mark → (inside : Bool) (nodes size : ℕ) → Outcome Scan
+abbrev pub merged : ListScan → (kind reach : ℕ) → List ScanItem → (inside : Bool) (nodes size : ℕ) → Outcome ListScan
 merged s kind reach below inside nodes size =
     bounded
     (record {
-      marks = record { kind = kind; reach = reach } ∷ below;
+      stack = record { kind = kind; reach = reach } ∷ below;
       inside = inside;
       ends = s .ends;
       place = s .place;
@@ -67,22 +67,22 @@ merged s kind reach below inside nodes size =
     })
     reach
 
-abbrev pub twoTop : Scan → List Mark → (Mark → Mark → List Mark → Outcome Scan) → Outcome Scan
+abbrev pub twoTop : ListScan → List ScanItem → (ScanItem → ScanItem → List ScanItem → Outcome ListScan) → Outcome ListScan
 twoTop s [] f = foreign
 twoTop s (b ∷ []) f = foreign
 twoTop s (b ∷ a ∷ below) f = f b a below
 
-abbrev pub oneTop : Scan → List Mark → (Mark → List Mark → Outcome Scan) → Outcome Scan
+abbrev pub oneTop : ListScan → List ScanItem → (ScanItem → List ScanItem → Outcome ListScan) → Outcome ListScan
 oneTop s [] f = foreign
 oneTop s (a ∷ below) f = f a below
 
 -- an instruction, without its place
-unfoldable pub scanOp : Op → Scan → Outcome Scan
+unfoldable pub scanOp : Op → ListScan → Outcome ListScan
 scanOp (push n) s = topped s (cond (s .inside) 3 2) (s .inside) 0 5
 scanOp add s =
     twoTop
     s
-    (s .marks)
+    (s .stack)
     (λ b a below. refuse
     (not (leb 2 (a .kind) && eqb (b .kind) (a .kind)))
     11
@@ -92,7 +92,7 @@ scanOp (read v) s = refuse (not (s .inside)) 11 0 (topped s 3 true 0 2)
 scanOp (write v) s =
     oneTop
     s
-    (s .marks)
+    (s .stack)
     (λ a below. refuse
     (not (s .inside && eqb (a .kind) 3))
     11
@@ -102,7 +102,7 @@ scanOp begin s = refuse (s .inside) 11 0 (topped s 0 true 0 1)
 scanOp commit s =
     twoTop
     s
-    (s .marks)
+    (s .stack)
     (λ t b below. refuse
     (not (s .inside && (eqb (t .kind) 3 && eqb (b .kind) 0)))
     11
@@ -111,10 +111,10 @@ scanOp commit s =
 scanOp (fork size) s = refuse (s .inside) 11 0 (topped s 1 false 1 1)
 
 -- an instruction, and what is read next
-unfoldable pub moved : Op → Scan → Scan
-moved op s =
+unfoldable pub movedPast : Op → ListScan → ListScan
+movedPast op s =
     record {
-      marks = s .marks;
+      stack = s .stack;
       inside = s .inside;
       ends = endsAfter op (s .place) (s .ends);
       place = s .place + sizeOf op;
@@ -124,14 +124,14 @@ moved op s =
     }
 
 -- the children that end at this place
-unfoldable pub closes : List ℕ → Scan → Outcome Scan
+unfoldable pub closes : List ℕ → ListScan → Outcome ListScan
 closes [] s =
-    done (record { marks = s .marks; inside = s .inside; ends = []; place = s .place; nodes = s .nodes; forks = s .forks; size = s .size })
+    done (record { stack = s .stack; inside = s .inside; ends = []; place = s .place; nodes = s .nodes; forks = s .forks; size = s .size })
 closes (end ∷ ends) s =
     elim (eqb (s .place) end) [
       | true ↦ twoTop
           s
-          (s .marks)
+          (s .stack)
           (λ p f below. refuse
           (not (eqb (p .kind) 2 && eqb (f .kind) 1))
           11
@@ -139,7 +139,7 @@ closes (end ∷ ends) s =
           (closes
           ends
           (record {
-            marks = record { kind = 2; reach = p .reach } ∷ below;
+            stack = record { kind = 2; reach = p .reach } ∷ below;
             inside = s .inside;
             ends = ends;
             place = s .place;
@@ -148,7 +148,7 @@ closes (end ∷ ends) s =
             size = s .size;
           })))
       | false ↦ done (record {
-        marks = s .marks;
+        stack = s .stack;
         inside = s .inside;
         ends = end ∷ ends;
         place = s .place;
@@ -159,25 +159,25 @@ closes (end ∷ ends) s =
     ]
 
 -- the end of the code: no FORK is open, and one process is left
-unfoldable pub finished : Scan → Outcome Scan
+unfoldable pub finished : ListScan → Outcome ListScan
 finished s =
     elim (s .ends) [
       | [] ↦ oneTop
           s
-          (s .marks)
+          (s .stack)
           (λ p below. refuse (not (eqb (p .kind) 2 && eqb (length below) 0)) 11 0 (done s))
       | end ∷ ends ↦ foreign
     ]
 
 -- the instructions from the scan's place on, `bs` being the bytes there
-unfoldable pub scanOps : (fuel : ℕ) → Scan → List ℕ → Outcome Scan
+unfoldable pub scanOps : (fuel : ℕ) → ListScan → List ℕ → Outcome ListScan
 scanOps zero s bs = foreign
 scanOps (suc fuel) s bs =
     onward
     (closes (s .ends) s)
     (λ now. elim (eqb (length bs) 0) [
       | true ↦ finished now
-      | false ↦ onward (opAt bs) (λ op. onward (scanOp op now) (λ next. scanOps fuel (moved op next) (drop (sizeOf op) bs)))
+      | false ↦ onward (opAt bs) (λ op. onward (scanOp op now) (λ next. scanOps fuel (movedPast op next) (drop (sizeOf op) bs)))
     ])
 
 -- what reading back needs to know of the job before it writes its first byte: its version, its nodes, its bytes
@@ -196,7 +196,7 @@ scanCode bs =
     11
     0
     (refuse
-    (not (marked bs))
+    (not (codeMarked bs))
     11
     0
     (refuse
@@ -204,5 +204,5 @@ scanCode bs =
     11
     0
     (mapped
-    (λ (s : Scan). record { version = number16 bs 3; nodes = s .nodes; size = s .size })
-    (scanOps (suc (length bs)) started (drop 5 bs)))))
+    (λ (s : ListScan). record { version = number16 bs 3; nodes = s .nodes; size = s .size })
+    (scanOps (suc (length bs)) scanStart (drop 5 bs)))))

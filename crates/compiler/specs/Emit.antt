@@ -19,22 +19,22 @@ abbrev pub placed : ℕ → (ys xs : List ℕ) → List ℕ
 placed n ys xs = take n xs ++ (ys ++ drop (n + length ys) xs)
 
 -- what is put to the front of the output
-abbrev pub header : ℕ → List ℕ
-header version = codeMark ++ bytes16 version
+abbrev pub codeHeader : ℕ → List ℕ
+codeHeader version = codeMark ++ bytes16 version
 
-abbrev pub push : List ℕ → ℕ → List ℕ
-push job i = 1 ∷ getD job (i + 1) 0 ∷ getD job (i + 2) 0 ∷ getD job (i + 3) 0 ∷ getD job (i + 4) 0 ∷ []
+abbrev pub pushBytes : List ℕ → ℕ → List ℕ
+pushBytes job i = 1 ∷ getD job (i + 1) 0 ∷ getD job (i + 2) 0 ∷ getD job (i + 3) 0 ∷ getD job (i + 4) 0 ∷ []
 
-abbrev pub read : List ℕ → ℕ → List ℕ
-read job i = 3 ∷ getD job (i + 1) 0 ∷ []
+abbrev pub readBytes : List ℕ → ℕ → List ℕ
+readBytes job i = 3 ∷ getD job (i + 1) 0 ∷ []
 
-abbrev pub fork : ℕ → List ℕ
-fork size = 7 ∷ bytes16 size
+abbrev pub forkBytes : ℕ → List ℕ
+forkBytes size = 7 ∷ bytes16 size
 
 -- the bytes of a tree's code
-abbrev pub code : (s : Sort) → Tree s → List ℕ
-code process p = instructionsBytes (compileP p ε)
-code transaction t = instructionsBytes (compileT t ε)
+abbrev pub treeCode : (s : Sort) → Tree s → List ℕ
+treeCode process p = instructionsBytes (compileP p ε)
+treeCode transaction t = instructionsBytes (compileT t ε)
 
 -- the job has t at a place
 pub record Has (job : List ℕ) (i : ℕ) (s : Sort) (t : Tree s) : Type 0 where
@@ -42,14 +42,14 @@ pub record Has (job : List ℕ) (i : ℕ) (s : Sort) (t : Tree s) : Type 0 where
   pub text : drop i job ≡ bytes s t ++ rest
 
 -- a tree stands at a place, at most d deep, and its code fits n bytes
-pub record Ready (job : List ℕ) (i d n : ℕ) : Type 0 where
+pub record Emittable (job : List ℕ) (i d n : ℕ) : Type 0 where
   pub sort : Sort
   pub tree : Tree sort
   pub there : Has job i sort tree
   pub flat : depth sort tree ≤ d
-  pub room : length (code sort tree) ≤ n
+  pub room : length (treeCode sort tree) ≤ n
 
 -- the tree at a place is emitted
 pub record Emitted (i : ℕ) (r : Part) (before after : List ℕ) (s : Sort) (t : Tree s) : Type 0 where
-  pub answer : r ≡ part (i + length (bytes s t)) (length (code s t))
-  pub output : after ≡ onto (code s t) before
+  pub answer : r ≡ part (i + length (bytes s t)) (length (treeCode s t))
+  pub output : after ≡ onto (treeCode s t) before

@@ -6,7 +6,7 @@ ghost use mathlib.Core.Path.{_≡_};
 ghost use Rattle.compiler.specs.CompileTo.{compileTo};
 ghost use Rattle.decompiler.specs.ReadBackTo.{readBackTo};
 ghost use Rattle.delivery.specs.Delivered.{onto};
-ghost use Rattle.compiler.specs.Emit.{Emitted, Has, Ready, fork, header, part as answer, placed, push, read};
+ghost use Rattle.compiler.specs.Emit.{Emitted, Has, Emittable, forkBytes, codeHeader, part as answer, placed, pushBytes, readBytes};
 ghost use Rattle.script.specs.Tree.{Sort, Tree};
 use delivery::Answer;
 use job::Reading;
@@ -33,7 +33,7 @@ fn low(n: usize) -> u8
 // Mark and version of the code.
 fn put_header(out: &mut [u8], version: u16)
     requires { ⌜ 5 ≤ length (now out) ⌝ }
-    ensures { λ _. ⌜ now (out .exit) ≡ onto (header version) (now (out .entry)) ⌝ }
+    ensures { λ _. ⌜ now (out .exit) ≡ onto (codeHeader version) (now (out .entry)) ⌝ }
 {
     out[0] = 0x57;
     out[1] = 0x53;
@@ -45,7 +45,7 @@ fn put_header(out: &mut [u8], version: u16)
 // PUSH of the number whose four bytes are the operand of the node at a place.
 fn put_push(job: &[u8], at: usize, out: &mut [u8]) -> Part
     requires { ⌜ (at + 5 ≤ length (now job)) × (5 ≤ length (now out)) ⌝ }
-    ensures { λ r. ⌜ (r ≡ answer (at + 5) 5) × (now (out .exit) ≡ onto (push (now (job .entry)) at) (now (out .entry))) ⌝ }
+    ensures { λ r. ⌜ (r ≡ answer (at + 5) 5) × (now (out .exit) ≡ onto (pushBytes (now (job .entry)) at) (now (out .entry))) ⌝ }
 {
     out[0] = 1;
     out[1] = job[at + 1];
@@ -61,7 +61,7 @@ fn put_push(job: &[u8], at: usize, out: &mut [u8]) -> Part
 // READ of the register that is the operand of the node at a place.
 fn put_read(job: &[u8], at: usize, out: &mut [u8]) -> Part
     requires { ⌜ (at + 2 ≤ length (now job)) × (2 ≤ length (now out)) ⌝ }
-    ensures { λ r. ⌜ (r ≡ answer (at + 2) 2) × (now (out .exit) ≡ onto (read (now (job .entry)) at) (now (out .entry))) ⌝ }
+    ensures { λ r. ⌜ (r ≡ answer (at + 2) 2) × (now (out .exit) ≡ onto (readBytes (now (job .entry)) at) (now (out .entry))) ⌝ }
 {
     out[0] = 3;
     out[1] = job[at + 1];
@@ -115,7 +115,7 @@ fn put_atomic(out: &mut [u8], part: Part) -> Part
 // FORK and the length of its child's code, in front of that code.
 fn put_fork(out: &mut [u8], child: Part) -> Part
     requires { ⌜ child .size + 3 ≤ length (now out) ⌝ }
-    ensures { λ r. ⌜ (r ≡ answer (child .next) (child .size + 3)) × (now (out .exit) ≡ onto (fork (child .size)) (now (out .entry))) ⌝ }
+    ensures { λ r. ⌜ (r ≡ answer (child .next) (child .size + 3)) × (now (out .exit) ≡ onto (forkBytes (child .size)) (now (out .entry))) ⌝ }
 {
     let size = child.size;
     let end = size + 3;
@@ -131,7 +131,7 @@ fn put_fork(out: &mut [u8], child: Part) -> Part
 // Writes the code of the tree whose node stands at a place of the job to the front of `out`, each byte once. The rest of `out` is lent on
 // for the part that comes next, and for a FORK's child what starts behind its FORK. The tree is at most `depth` deep.
 fn emit(job: &[u8], at: usize, depth: u8, out: &mut [u8]) -> Part
-    requires { ⌜ Ready (now job) at depth (length (now out)) ⌝ }
+    requires { ⌜ Emittable (now job) at depth (length (now out)) ⌝ }
     ensures { λ r. ⌜ ((s : Sort) (t : Tree s) → Has (now (job .entry)) at s t → Emitted at r (now (out .entry)) (now (out .exit)) s t) ⌝ }
 {
     let kind = job[at];

@@ -6,7 +6,7 @@ use native.Mathlib.Omega.{arith}
 use lib.ListN.{length, drop}
 use borrow.Author.Tests.{lt-ltb, le-ltb}
 use Rattle.decompiler.specs.ReadBackTo.{bytesOf, readBackTo}
-use Rattle.decompiler.specs.Walk.{Ready}
+use Rattle.decompiler.specs.Walk.{Restorable}
 use Rattle.code.specs.Reader.{readCode}
 use Rattle.delivery.specs.declared.Answer.the-variants.{Done, Refused}
 use Rattle.delivery.specs.Delivered.{Delivered, settled, delivered}
@@ -33,25 +33,25 @@ module _ (code before : List ℕ) where
       go (done j) r = absurd (let f = e ∙ ap told r in let z : _≡_ {A = ℕ} 0 1 = cc in omega arith)
 
   -- the job that the scan found
-  pub record Found (nodes size : ℕ) : Type 0 where
+  pub record FoundJob (nodes size : ℕ) : Type 0 where
     pub job : Job
     pub read : readCode code ≡ done job
     pub count : nodes ≡ nodesP (job .tree)
     pub long : size ≡ length (bytesOf job)
 
-  pub found : (version nodes size : ℕ) → scanned.Job version nodes size ≡ told (readCode code) → Found nodes size
+  pub found : (version nodes size : ℕ) → scanned.Job version nodes size ≡ told (readCode code) → FoundJob nodes size
   found version nodes size e = go (readCode code) refl
     where
-      go : (o : Outcome Job) → readCode code ≡ o → Found nodes size
+      go : (o : Outcome Job) → readCode code ≡ o → FoundJob nodes size
       go (refused n p) r = absurd (let f = e ∙ ap told r in let z : _≡_ {A = ℕ} 0 1 = cc in omega arith)
       go (done j) r = let f = e ∙ ap told r in record { job = j; read = r; count = cc; long = cc }
 
-  module _ {nodes size : ℕ} (f : Found nodes size) where
+  module _ {nodes size : ℕ} (f : FoundJob nodes size) where
     pub short-answer : length before < size → readBackTo code before ≡ record { answer = Refused 10 0; output = before }
     unfolding delivered
     short-answer h = is-reached (done (f .job)) (f .read) ∙ rw (lt-ltb (length before) (length (bytesOf (f .job))) (rw (f .long) at h))
 
-    pub ready : size ≤ length before → Ready code nodes before
+    pub ready : size ≤ length before → Restorable code nodes before
     ready h = record { job = f .job; read = f .read; count = f .count; room = rw (f .long) at h }
 
     pub done-answer : (after : List ℕ) → size ≤ length before → ((j : Job) → readCode code ≡ done j → after ≡ bytesOf j ++ drop (length (bytesOf j)) before) → readBackTo code before ≡ record { answer = Done size; output = after }

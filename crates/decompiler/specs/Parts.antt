@@ -22,10 +22,10 @@ unfoldable pub inserted : (i e : ℕ) → List ℕ → List ℕ → List ℕ
 inserted i e bs xs = take i xs ++ (bs ++ (take (e - i) (drop i xs) ++ drop (e + length bs) xs))
 
 -- the header of the job that this code is of
-unfoldable pub header : List ℕ → ℕ → List ℕ
-header code nodes = jobMark ++ (getD code 3 0 ∷ getD code 4 0 ∷ bytes16 nodes)
+unfoldable pub jobHeader : List ℕ → ℕ → List ℕ
+jobHeader code nodes = jobMark ++ (getD code 3 0 ∷ getD code 4 0 ∷ bytes16 nodes)
 
 -- a process's kind byte, and the same node's as a transaction
-abbrev pub kindOf : Bool → ℕ → ℕ
-kindOf true kind = kind + 4
-kindOf false kind = kind
+abbrev pub kindIn : Bool → ℕ → ℕ
+kindIn true kind = kind + 4
+kindIn false kind = kind

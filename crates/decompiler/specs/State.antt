@@ -3,10 +3,10 @@ use Prim.Native.Nat.{ℕ, _+_, _-_, _≤_, _<_}
 use mathlib.Core.Bool.{Bool, _&&_}
 use lib.Dec.{eqb, ltb}
 use lib.ListN.{getD, set, replicate}
-use Rattle.decompiler.specs.declared.State.{State}
+use Rattle.decompiler.specs.declared.Pass.{Pass}
 
-unfoldable pub started : State
-started =
+unfoldable pub firstState : Pass
+firstState =
     record {
       starts = replicate 64 0;
       height = 0;
@@ -18,8 +18,8 @@ started =
     }
 
 -- a part is put on the stack
-unfoldable pub pushed : State → (read written : ℕ) → Bool → State
-pushed s read written inside =
+unfoldable pub partPushed : Pass → (read written : ℕ) → Bool → Pass
+partPushed s read written inside =
     record {
       starts = set (s .starts) (s .height) (s .size);
       height = s .height + 1;
@@ -31,8 +31,8 @@ pushed s read written inside =
     }
 
 -- the topmost part becomes part of the one below it
-unfoldable pub merged : State → (read written : ℕ) → Bool → State
-merged s read written inside =
+unfoldable pub partsMerged : Pass → (read written : ℕ) → Bool → Pass
+partsMerged s read written inside =
     record {
       starts = s .starts;
       height = s .height - 1;
@@ -44,8 +44,8 @@ merged s read written inside =
     }
 
 -- the topmost part grows
-unfoldable pub grown : State → (read written : ℕ) → State
-grown s read written =
+unfoldable pub partGrown : Pass → (read written : ℕ) → Pass
+partGrown s read written =
     record {
       starts = s .starts;
       height = s .height;
@@ -57,8 +57,8 @@ grown s read written =
     }
 
 -- a child begins
-unfoldable pub opened : State → ℕ → State
-opened s end =
+unfoldable pub childOpened : Pass → ℕ → Pass
+childOpened s end =
     record {
       starts = s .starts;
       height = s .height;
@@ -70,8 +70,8 @@ opened s end =
     }
 
 -- the innermost child has ended
-unfoldable pub shut : State → State
-shut s =
+unfoldable pub childShut : Pass → Pass
+childShut s =
     record {
       starts = s .starts;
       height = s .height - 1;
@@ -83,17 +83,17 @@ shut s =
     }
 
 -- it ends here
-unfoldable pub atEnd : State → Bool
+unfoldable pub atEnd : Pass → Bool
 atEnd s = ltb 0 (s .forked) && eqb (getD (s .ends) (s .forked - 1) 0) (s .place)
 
 -- there is room for a part that takes so many bytes of the code, of `code` bytes, and gives so many of the job, to `out` bytes
-pub record Room (s : State) (read written code out : ℕ) : Type 0 where
+pub record Room (s : Pass) (read written code out : ℕ) : Type 0 where
   pub low : s .height < 64
   pub early : s .place + read ≤ code
   pub short : s .size + written ≤ out
 
 -- the topmost parts, or the one, that start there can be moved on
-pub record Moves (s : State) (top read written code out : ℕ) : Type 0 where
+pub record CanMove (s : Pass) (top read written code out : ℕ) : Type 0 where
   pub some : top ≤ s .height
   pub low : s .height ≤ 64
   pub start : getD (s .starts) (s .height - top) 0 ≤ s .size

@@ -4,7 +4,7 @@ use mathlib.Core.Path.{_≡_}
 use mathlib.Core.Bool.{Bool, true, false}
 use mathlib.Core.List.{List, [], _∷_, _++_}
 use lib.ListN.{length, drop, getD}
-use Rattle.decompiler.specs.declared.State.{State}
+use Rattle.decompiler.specs.declared.Pass.{Pass}
 use Rattle.decompiler.specs.Parts.{onto}
 use Rattle.code.specs.Reader.{Item, proc, tran, begun, forked, readOps, readCode}
 use Rattle.code.specs.Parts.{jobText, forksI}
@@ -25,26 +25,26 @@ Ends a [] = Unit {0}
 Ends a (e ∷ es) = (getD a (length es) 0 ≡ e) × Ends a es
 
 -- outside a transaction there are processes and FORKs; inside, its parts behind its BEGIN
-abbrev pub Outside : List Item → Type 0
-Outside [] = Unit {0}
-Outside (proc p ∷ s) = Outside s
-Outside (tran t ∷ s) = ⊥
-Outside (begun ∷ s) = ⊥
-Outside (forked n ∷ s) = Outside s
+abbrev pub OutsideItems : List Item → Type 0
+OutsideItems [] = Unit {0}
+OutsideItems (proc p ∷ s) = OutsideItems s
+OutsideItems (tran t ∷ s) = ⊥
+OutsideItems (begun ∷ s) = ⊥
+OutsideItems (forked n ∷ s) = OutsideItems s
 
-abbrev pub Inside : List Item → Type 0
-Inside [] = ⊥
-Inside (proc p ∷ s) = ⊥
-Inside (tran t ∷ s) = Inside s
-Inside (begun ∷ s) = Outside s
-Inside (forked n ∷ s) = ⊥
+abbrev pub InsideItems : List Item → Type 0
+InsideItems [] = ⊥
+InsideItems (proc p ∷ s) = ⊥
+InsideItems (tran t ∷ s) = InsideItems s
+InsideItems (begun ∷ s) = OutsideItems s
+InsideItems (forked n ∷ s) = ⊥
 
 abbrev pub Sorted : Bool → List Item → Type 0
-Sorted true s = Inside s
-Sorted false s = Outside s
+Sorted true s = InsideItems s
+Sorted false s = OutsideItems s
 
 -- what holds of the code, the job's header, the output as it was before, and the tree
-pub record Known (code head before : List ℕ) (p : Proc) : Type 0 where
+pub record Setting (code head before : List ℕ) (p : Proc) : Type 0 where
   pub bytes : Bytes code
   pub short : length code ≤ 65536
   pub seven : length head ≡ 7
@@ -53,8 +53,8 @@ pub record Known (code head before : List ℕ) (p : Proc) : Type 0 where
   pub room : 7 + length (bytesP p) ≤ length before
 
 -- how the state and the output stand to the stack that is read, the ends that are open, and what is still to be read
-pub record Stands (code head before : List ℕ) (p : Proc) (out : List ℕ) (s : State) (items : List Item) (open′ : List ℕ) (fuel : ℕ) : Type 0 where
-  pub known : Known code head before p
+pub record Follows (code head before : List ℕ) (p : Proc) (out : List ℕ) (s : Pass) (items : List Item) (open′ : List ℕ) (fuel : ℕ) : Type 0 where
+  pub known : Setting code head before p
   pub reads : readOps fuel (s .inside) items open′ (s .place) (drop (s .place) code) ≡ done p
   pub sorted : Sorted (s .inside) items
   pub high : s .height ≡ length items
@@ -67,23 +67,23 @@ pub record Stands (code head before : List ℕ) (p : Proc) (out : List ℕ) (s :
   pub wide : length (s .starts) ≡ 64
   pub narrow : length (s .ends) ≡ 15
 
-pub record Walk (code head before : List ℕ) (p : Proc) (out : List ℕ) (s : State) : Type 0 where
+pub record Walk (code head before : List ℕ) (p : Proc) (out : List ℕ) (s : Pass) : Type 0 where
   pub items : List Item
   pub open′ : List ℕ
   pub fuel : ℕ
-  pub stands : Stands code head before p out s items open′ fuel
+  pub stands : Follows code head before p out s items open′ fuel
 
 -- what is still to be read, and closed
-abbrev pub weight : List ℕ → State → ℕ
+abbrev pub weight : List ℕ → Pass → ℕ
 weight code s = 2 * (length code - s .place) + s .forked
 
 -- one turn of the pass
-pub record Walked (code head before : List ℕ) (p : Proc) (out : List ℕ) (s r : State) : Type 0 where
+pub record TurnTaken (code head before : List ℕ) (p : Proc) (out : List ℕ) (s r : Pass) : Type 0 where
   pub walk : Walk code head before p out r
   pub less : weight code r < weight code s
 
 -- a state from which a turn is due
-pub record Due (code out : List ℕ) (s : State) : Type 0 where
+pub record TurnDue (code out : List ℕ) (s : Pass) : Type 0 where
   pub head : List ℕ
   pub before : List ℕ
   pub tree : Proc
@@ -91,7 +91,7 @@ pub record Due (code out : List ℕ) (s : State) : Type 0 where
   pub more : s .place < length code
 
 -- the code is a job's, and the output has room for the job
-pub record Ready (code : List ℕ) (nodes : ℕ) (out : List ℕ) : Type 0 where
+pub record Restorable (code : List ℕ) (nodes : ℕ) (out : List ℕ) : Type 0 where
   pub job : Job
   pub read : readCode code ≡ done job
   pub count : nodes ≡ nodesP (job .tree)

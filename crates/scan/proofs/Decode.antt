@@ -12,20 +12,20 @@ use borrow.Author.Tests.{lt-ltb, le-ltb, le-leb, lt-leb}
 use Rattle.scan.specs.declared.Op.{Op}
 use Rattle.scan.specs.declared.Op.the-variants as op
 use Rattle.scan.specs.View.{erased}
-use Rattle.code.specs.Reader.{operand, opOf, opAt}
+use Rattle.code.specs.Reader.{opcodeOperand, decoded, opAt}
 use Rattle.script.specs.Outcome.{Outcome, refused, done, refuse}
 
 -- how many bytes are there behind an opcode with an operand
-pub of-read : (k n : ℕ) → k ≡ 3 → operand k ≤ n → 1 ≤ n
-unfolding operand
+pub of-read : (k n : ℕ) → k ≡ 3 → opcodeOperand k ≤ n → 1 ≤ n
+unfolding opcodeOperand
 of-read k n e h = rw e at h
 
-pub of-write : (k n : ℕ) → k ≡ 4 → operand k ≤ n → 1 ≤ n
-unfolding operand
+pub of-write : (k n : ℕ) → k ≡ 4 → opcodeOperand k ≤ n → 1 ≤ n
+unfolding opcodeOperand
 of-write k n e h = rw e at h
 
-pub of-fork : (k n : ℕ) → k ≡ 7 → operand k ≤ n → 2 ≤ n
-unfolding operand
+pub of-fork : (k n : ℕ) → k ≡ 7 → opcodeOperand k ≤ n → 2 ≤ n
+unfolding opcodeOperand
 of-fork k n e h = rw e at h
 
 -- an opcode that is none of 1 to 7
@@ -61,9 +61,9 @@ module _ (code : List ℕ) (place : ℕ) where
     byte : (i : ℕ) → getD rest i 0 ≡ getD code (place + (i + 1)) 0
     byte i = let e : suc place + i ≡ place + (i + 1) = omega arith in getD-drop (suc place) code i 0 ∙ ap (λ (n : ℕ). getD code n 0) e
 
-    pub cut : length code - place - 1 < operand opcode → op.Foreign ≡ found
+    pub cut : length code - place - 1 < opcodeOperand opcode → op.Foreign ≡ found
     unfolding opAt
-    cut l = rw (drop-cons code place 0 h, behind, lt-ltb (length code - place - 1) (operand opcode) l) (either (not (leb 1 opcode && leb opcode 7)))
+    cut l = rw (drop-cons code place 0 h, behind, lt-ltb (length code - place - 1) (opcodeOperand opcode) l) (either (not (leb 1 opcode && leb opcode 7)))
       where
         either : (b : Bool) → op.Foreign ≡ erased (refuse b 11 0 (refused 11 0))
         either true = refl
@@ -81,42 +81,42 @@ module _ (code : List ℕ) (place : ℕ) where
             high (yes m) = rw (drop-cons code place 0 h, lt-leb opcode 7 m, and-false (leb 1 opcode))
             high (no m) = absurd (n (omega arith) (omega arith))
 
-    module _ (whole : operand opcode ≤ length code - place - 1) where
-      long : {k : ℕ} → opcode ≡ k → operand k ≤ length rest
+    module _ (whole : opcodeOperand opcode ≤ length code - place - 1) where
+      long : {k : ℕ} → opcode ≡ k → opcodeOperand k ≤ length rest
       long e = rw behind (rw e at whole)
 
       pub is-push : opcode ≡ 1 → op.Push ≡ found
-      unfolding opAt operand opOf
+      unfolding opAt opcodeOperand decoded
       is-push e = rw (drop-cons code place 0 h, e, le-ltb (length rest) 4 (long e))
 
       pub is-add : opcode ≡ 2 → op.Add ≡ found
-      unfolding opAt operand opOf
+      unfolding opAt opcodeOperand decoded
       is-add e = rw (drop-cons code place 0 h, e, le-ltb (length rest) 0 (omega arith))
 
       pub is-read : opcode ≡ 3 → getD code (place + 1) 0 < 64 → op.Read ≡ found
-      unfolding opAt operand opOf
+      unfolding opAt opcodeOperand decoded
       is-read e v = rw (drop-cons code place 0 h, e, le-ltb (length rest) 1 (long e), byte 0, lt-leb 64 (getD code (place + 1) 0) v)
 
       pub bad-read : opcode ≡ 3 → 64 ≤ getD code (place + 1) 0 → op.Foreign ≡ found
-      unfolding opAt operand opOf
+      unfolding opAt opcodeOperand decoded
       bad-read e v = rw (drop-cons code place 0 h, e, le-ltb (length rest) 1 (long e), byte 0, le-leb 64 (getD code (place + 1) 0) v)
 
       pub is-write : opcode ≡ 4 → getD code (place + 1) 0 < 64 → op.Write ≡ found
-      unfolding opAt operand opOf
+      unfolding opAt opcodeOperand decoded
       is-write e v = rw (drop-cons code place 0 h, e, le-ltb (length rest) 1 (long e), byte 0, lt-leb 64 (getD code (place + 1) 0) v)
 
       pub bad-write : opcode ≡ 4 → 64 ≤ getD code (place + 1) 0 → op.Foreign ≡ found
-      unfolding opAt operand opOf
+      unfolding opAt opcodeOperand decoded
       bad-write e v = rw (drop-cons code place 0 h, e, le-ltb (length rest) 1 (long e), byte 0, le-leb 64 (getD code (place + 1) 0) v)
 
       pub is-begin : opcode ≡ 5 → op.Begin ≡ found
-      unfolding opAt operand opOf
+      unfolding opAt opcodeOperand decoded
       is-begin e = rw (drop-cons code place 0 h, e, le-ltb (length rest) 0 (omega arith))
 
       pub is-commit : opcode ≡ 6 → op.Commit ≡ found
-      unfolding opAt operand opOf
+      unfolding opAt opcodeOperand decoded
       is-commit e = rw (drop-cons code place 0 h, e, le-ltb (length rest) 0 (omega arith))
 
       pub is-fork : opcode ≡ 7 → op.Fork (getD code (place + 1) 0 * 256 + getD code (place + 2) 0) ≡ found
-      unfolding opAt operand opOf
+      unfolding opAt opcodeOperand decoded
       is-fork e = rw (drop-cons code place 0 h, e, le-ltb (length rest) 2 (long e), byte 0, byte 1)

@@ -12,8 +12,8 @@ use Rattle.scan.specs.declared.Scanned.the-variants as scanned
 use Rattle.scan.specs.Answer.{told}
 use Rattle.scan.specs.View.{view, ifGood, viewed}
 use Rattle.code.specs.Bytes.{IsCode}
-use Rattle.code.specs.Reader.{foreign, marked, readCode}
-use Rattle.code.specs.Scan.{started, scanOps, Summary, summary, scanCode}
+use Rattle.code.specs.Reader.{foreign, codeMarked, readCode}
+use Rattle.code.specs.Scan.{scanStart, scanOps, Summary, summary, scanCode}
 use Rattle.code.specs.Scan as list
 use Rattle.code.proofs.Flat.{code-length}
 use Rattle.code.proofs.Foreign.{only-foreign}
@@ -67,28 +67,28 @@ module _ (code : List ℕ) (bytes : Bytes code) where
           far j few m = omega (arith, code-small (j .tree))
 
   module _ (long : 5 ≤ length code) where
-    pub bad-mark : marked code ≡ false → scanned.Refused 11 0 ≡ told (readCode code)
+    pub bad-mark : codeMarked code ≡ false → scanned.Refused 11 0 ≡ told (readCode code)
     unfolding readCode
     bad-mark e = rw (le-ltb (length code) 5 long, e)
 
-    module _ (mark : marked code ≡ true) where
+    module _ (mark : codeMarked code ≡ true) where
       pub bad-version : (number16 code 3 ≡ 1 → ⊥) → scanned.Refused 11 0 ≡ told (readCode code)
       unfolding readCode taken
       bad-version n = rw (le-ltb (length code) 5 long, mark, ne-eqb (number16 code 3) 1 n)
 
-      module _ (version : number16 code 3 ≡ 1) (s : Scan) (v : viewed s ≡ scanOps (suc (length (drop 5 code))) started (drop 5 code)) where
-        whole : mapped (λ (t : list.Scan). record { version = number16 code 3; nodes = t .nodes; size = t .size }) (viewed s) ≡ scanCode code
+      module _ (version : number16 code 3 ≡ 1) (s : Scan) (v : viewed s ≡ scanOps (suc (length (drop 5 code))) scanStart (drop 5 code)) where
+        whole : mapped (λ (t : list.ListScan). record { version = number16 code 3; nodes = t .nodes; size = t .size }) (viewed s) ≡ scanCode code
         unfolding scanCode taken
         whole =
-            let f : scanOps (suc (length (drop 5 code))) started (drop 5 code) ≡ scanOps (suc (length code)) started (drop 5 code) = scan-fuel (suc (length (drop 5 code))) (suc (length code)) started (drop 5 code) (omega arith) (omega (arith, length-drop 5 code)) in
-            rw (le-ltb (length code) 5 long, mark, eq-eqb (number16 code 3) 1 version) (ap (mapped (λ (t : list.Scan). record { version = number16 code 3; nodes = t .nodes; size = t .size })) (v ∙ f))
+            let f : scanOps (suc (length (drop 5 code))) scanStart (drop 5 code) ≡ scanOps (suc (length code)) scanStart (drop 5 code) = scan-fuel (suc (length (drop 5 code))) (suc (length code)) scanStart (drop 5 code) (omega arith) (omega (arith, length-drop 5 code)) in
+            rw (le-ltb (length code) 5 long, mark, eq-eqb (number16 code 3) 1 version) (ap (mapped (λ (t : list.ListScan). record { version = number16 code 3; nodes = t .nodes; size = t .size })) (v ∙ f))
 
         pub is-foreign : s .good ≡ false → scanned.Refused 11 0 ≡ told (readCode code)
         is-foreign b =
             let w : viewed s ≡ foreign = ap (λ (t : Bool). ifGood t (view s)) b in
-            ap (λ (o : Outcome list.Scan). summed (mapped (λ (t : list.Scan). record { version = number16 code 3; nodes = t .nodes; size = t .size }) o)) (sym w) ∙ (ap summed whole ∙ told-is code)
+            ap (λ (o : Outcome list.ListScan). summed (mapped (λ (t : list.ListScan). record { version = number16 code 3; nodes = t .nodes; size = t .size }) o)) (sym w) ∙ (ap summed whole ∙ told-is code)
 
         pub is-job : s .good ≡ true → scanned.Job (number16 code 3) (s .nodes) (s .size) ≡ told (readCode code)
         is-job b =
             let w : viewed s ≡ done (view s) = ap (λ (t : Bool). ifGood t (view s)) b in
-            ap (λ (o : Outcome list.Scan). summed (mapped (λ (t : list.Scan). record { version = number16 code 3; nodes = t .nodes; size = t .size }) o)) (sym w) ∙ (ap summed whole ∙ told-is code)
+            ap (λ (o : Outcome list.ListScan). summed (mapped (λ (t : list.ListScan). record { version = number16 code 3; nodes = t .nodes; size = t .size }) o)) (sym w) ∙ (ap summed whole ∙ told-is code)

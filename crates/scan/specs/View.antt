@@ -10,23 +10,23 @@ use Rattle.scan.specs.declared.Op.the-variants as op
 use Rattle.scan.specs.declared.Scan.{Scan}
 use Rattle.code.specs.Reader.{foreign, push, add, read, write, begin, commit, fork}
 use Rattle.code.specs.Reader as code
-use Rattle.code.specs.Scan.{Mark}
+use Rattle.code.specs.Scan.{ScanItem}
 use Rattle.code.specs.Scan as list
 use Rattle.script.specs.Outcome.{Outcome, refused, done}
 
 -- the stack, the topmost item first, and the ends of the open FORKs' children, the innermost first
-unfoldable pub marksOf : List ℕ → List ℕ → ℕ → List Mark
-marksOf kinds reaches zero = []
-marksOf kinds reaches (suc n) = record { kind = getD kinds n 0; reach = getD reaches n 0 } ∷ marksOf kinds reaches n
+unfoldable pub stackOf : List ℕ → List ℕ → ℕ → List ScanItem
+stackOf kinds reaches zero = []
+stackOf kinds reaches (suc n) = record { kind = getD kinds n 0; reach = getD reaches n 0 } ∷ stackOf kinds reaches n
 
 unfoldable pub endsOf : List ℕ → ℕ → List ℕ
 endsOf ends zero = []
 endsOf ends (suc n) = getD ends n 0 ∷ endsOf ends n
 
-abbrev pub view : Scan → list.Scan
+abbrev pub view : Scan → list.ListScan
 view s =
     record {
-      marks = marksOf (s .kinds) (s .reaches) (s .height);
+      stack = stackOf (s .kinds) (s .reaches) (s .height);
       inside = s .inside;
       ends = endsOf (s .ends) (s .forked);
       place = s .place;
@@ -35,11 +35,11 @@ view s =
       size = s .size;
     }
 
-abbrev pub ifGood : Bool → list.Scan → Outcome list.Scan
+abbrev pub ifGood : Bool → list.ListScan → Outcome list.ListScan
 ifGood true s = done s
 ifGood false s = foreign
 
-abbrev pub viewed : Scan → Outcome list.Scan
+abbrev pub viewed : Scan → Outcome list.ListScan
 viewed s = ifGood (s .good) (view s)
 
 -- ---- an instruction without its number or register
@@ -58,20 +58,20 @@ erased (refused number place) = op.Foreign
 erased (done o) = erase o
 
 -- a FORK's length is one of 16 bits
-abbrev pub Small : Op → Type 0
-Small op.Push = Unit {0}
-Small op.Add = Unit {0}
-Small op.Read = Unit {0}
-Small op.Write = Unit {0}
-Small op.Begin = Unit {0}
-Small op.Commit = Unit {0}
-Small (op.Fork size) = size ≤ 65535
-Small op.Foreign = Unit {0}
+abbrev pub ShortFork : Op → Type 0
+ShortFork op.Push = Unit {0}
+ShortFork op.Add = Unit {0}
+ShortFork op.Read = Unit {0}
+ShortFork op.Write = Unit {0}
+ShortFork op.Begin = Unit {0}
+ShortFork op.Commit = Unit {0}
+ShortFork (op.Fork size) = size ≤ 65535
+ShortFork op.Foreign = Unit {0}
 
 -- ---- what each function makes of a scan
 
 -- what holds of every scan that is good
-pub record Fit (s : Scan) : Type 0 where
+pub record GoodScan (s : Scan) : Type 0 where
   pub kinds : length (s .kinds) ≡ 64
   pub reaches : length (s .reaches) ≡ 64
   pub ends : length (s .ends) ≡ 15
@@ -83,11 +83,11 @@ pub record Fit (s : Scan) : Type 0 where
   pub early : s .place ≤ 5005
 
 -- there is room for an item, or its reach is too great
-abbrev pub Room : ℕ → ℕ → Type 0
-Room height reach = reach ≤ 64 → height < 64
+abbrev pub ItemRoom : ℕ → ℕ → Type 0
+ItemRoom height reach = reach ≤ 64 → height < 64
 
-unfoldable pub started : Scan
-started =
+unfoldable pub emptyScan : Scan
+emptyScan =
     record {
       kinds = replicate 64 0;
       reaches = replicate 64 0;
@@ -119,8 +119,8 @@ bad s =
     }
 
 -- the items from a height on become one
-unfoldable pub placed : Scan → (height kind reach : ℕ) → Bool → (nodes forks size : ℕ) → Scan
-placed s height kind reach inside nodes forks size =
+unfoldable pub itemPut : Scan → (height kind reach : ℕ) → Bool → (nodes forks size : ℕ) → Scan
+itemPut s height kind reach inside nodes forks size =
     record {
       kinds = set (s .kinds) height kind;
       reaches = set (s .reaches) height reach;
@@ -143,7 +143,7 @@ setTo s height kind reach inside nodes forks size =
     (cond
     (ltb 1000 (s .nodes + nodes))
     (bad s)
-    (cond (ltb 15 (s .forks + forks)) (bad s) (placed s height kind reach inside nodes forks size)))
+    (cond (ltb 15 (s .forks + forks)) (bad s) (itemPut s height kind reach inside nodes forks size)))
 
 unfoldable pub topTo : Scan → (kind : ℕ) → Bool → (forks size : ℕ) → Scan
 topTo s kind inside forks size = setTo s (s .height) kind (s .height + 1) inside 1 forks size
@@ -267,5 +267,5 @@ finishTo s =
 -- what `settle` makes of a scan: the children that end at its place are closed
 pub record Settled (s r : Scan) : Type 0 where
   pub same : viewed r ≡ list.closes (view s .ends) (view s)
-  pub fit : r .good ≡ true → Fit r
+  pub fit : r .good ≡ true → GoodScan r
   pub place : r .place ≡ s .place

@@ -12,7 +12,7 @@ use borrow.Author.Tests.{lt-ltb, le-ltb, le-leb, lt-leb, eq-eqb, ne-eqb, eqb-tru
 use Rattle.script.specs.Tree.{Sort}
 use Rattle.script.specs.Bytes.{Bytes, Node, nodeBytes, jobMark}
 use Rattle.script.specs.Outcome.{Outcome, refused, done, mapped}
-use Rattle.script.specs.Reader.{Due, Forest, number16, partsThen, grown, forkOf, readNodes, marked, taken, root, readJob}
+use Rattle.script.specs.Reader.{Due, Forest, number16, partsThen, grown, forkOf, readNodes, jobMarked, taken, root, readJob}
 use Rattle.script.specs.Refusal.{Long, Marked, Versioned, Counted, Reaches, start, next, Refused, cut-header, cut-node, cut-operand, mark, version, count, kind, register, depth, forks, used-up, nodes-over, bytes-over}
 use Rattle.script.proofs.Numbers.{bytes-drop}
 use Rattle.script.proofs.Nodes.{Sees, no-byte, bad-kind, too-deep, cut, bad-register, many-forks, good, node-sees, seen}
@@ -35,8 +35,8 @@ module _ (bs : List ℕ) where
   bytes-are b (next {rest = rest} node r v h g) = bytes-behind (nodeBytes node) rest (bytes-are b r)
 
 -- the header's tests, as equations of what the reader tests
-mark-yes : (bs : List ℕ) → 3 ≤ length bs → marked bs ≡ true → take 3 bs ≡ jobMark
-unfolding marked jobMark
+mark-yes : (bs : List ℕ) → 3 ≤ length bs → jobMarked bs ≡ true → take 3 bs ≡ jobMark
+unfolding jobMarked jobMark
 mark-yes [] h e = absurd (omega arith)
 mark-yes (a ∷ []) h e = absurd (omega arith)
 mark-yes (a ∷ b ∷ []) h e = absurd (omega arith)
@@ -45,8 +45,8 @@ mark-yes (a ∷ b ∷ c ∷ bs) h e =
     let m′ = both (eqb b 83) _ (m .1) in
     rw (eqb-true a 87 (m .0), eqb-true b 83 (m′ .0), eqb-true c 74 (m′ .1))
 
-mark-back : (bs : List ℕ) → take 3 bs ≡ jobMark → marked bs ≡ true
-unfolding marked jobMark
+mark-back : (bs : List ℕ) → take 3 bs ≡ jobMark → jobMarked bs ≡ true
+unfolding jobMarked jobMark
 mark-back [] e = absurd (let z : _≡_ {A = ℕ} 0 1 = cc in omega arith)
 mark-back (a ∷ []) e = absurd (let z : _≡_ {A = ℕ} 0 1 = cc in omega arith)
 mark-back (a ∷ b ∷ []) e = absurd (let z : _≡_ {A = ℕ} 0 1 = cc in omega arith)
@@ -93,9 +93,9 @@ refused-is-read {bs} (cut-operand {place = p} {rest = rest} a q h l) =
     let e : p + suc (length rest) ≡ length bs = place-is bs (a .2) in
     stopped (a .2) (cut q h l) ∙ ap (refused 1) e
 refused-is-read {bs} (mark l n) =
-    rw (le-ltb (length bs) 7 (l .long), no-mark (marked bs) refl)
+    rw (le-ltb (length bs) 7 (l .long), no-mark (jobMarked bs) refl)
   where
-    no-mark : (b : Bool) → marked bs ≡ b → marked bs ≡ false
+    no-mark : (b : Bool) → jobMarked bs ≡ b → jobMarked bs ≡ false
     no-mark true e = absurd (n (mark-yes bs (omega (arith, l .long)) e))
     no-mark false e = e
 refused-is-read {bs} (version m n) =
@@ -136,13 +136,13 @@ header bs = long (decLt (length bs) 7)
     versioned m (yes e) = counted (record { before = m; version = e }) (decLt (number16 bs 5) 1) (decLt 1000 (number16 bs 5))
     versioned m (no n) = turned-down (version m n)
 
-    with-mark : Long bs → (t : Bool) → marked bs ≡ t → Header bs
+    with-mark : Long bs → (t : Bool) → jobMarked bs ≡ t → Header bs
     with-mark l true e = versioned (record { before = l; mark = mark-yes bs (omega (arith, l .long)) e }) (ℕ-discrete (number16 bs 3) 1)
     with-mark l false e = turned-down (mark l (λ m. let f = mark-back bs m in absurd (let z : _≡_ {A = ℕ} 0 1 = cc in omega arith)))
 
     long : Dec (length bs < 7) → Header bs
     long (yes h) = turned-down (cut-header h)
-    long (no h) = with-mark (record { long = omega arith }) (marked bs) refl
+    long (no h) = with-mark (record { long = omega arith }) (jobMarked bs) refl
 
 mapped-refused : {A B : Type 0} {k q : ℕ} (g : A → B) (o : Outcome A) → mapped g o ≡ refused k q → o ≡ refused k q
 mapped-refused g (refused n p) e = cc

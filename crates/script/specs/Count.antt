@@ -147,6 +147,6 @@ abbrev pub forksIn : (s : Sort) → Tree s → ℕ
 forksIn process p = forks p
 forksIn transaction t = 0
 
-abbrev pub code : (s : Sort) → Tree s → ℕ
-code process p = codeP p
-code transaction t = codeT t
+abbrev pub codeSize : (s : Sort) → Tree s → ℕ
+codeSize process p = codeP p
+codeSize transaction t = codeT t

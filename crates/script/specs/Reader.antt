@@ -116,8 +116,8 @@ pub record Job : Type 0 where
   pub tree : Proc
 
 -- whether the mark is `WSJ`
-unfoldable pub marked : List ℕ → Bool
-marked bs = eqb (getD bs 0 0) 0x57 && (eqb (getD bs 1 0) 0x53 && eqb (getD bs 2 0) 0x4A)
+unfoldable pub jobMarked : List ℕ → Bool
+jobMarked bs = eqb (getD bs 0 0) 0x57 && (eqb (getD bs 1 0) 0x53 && eqb (getD bs 2 0) 0x4A)
 
 -- the versions taken
 unfoldable pub taken : ℕ → Bool
@@ -136,7 +136,7 @@ unfoldable pub readJob : List ℕ → Outcome Job
 readJob bs =
     tests
     (test (ltb (length bs) 7) 1 (length bs)
-    ∷ test (not (marked bs)) 2 0
+    ∷ test (not (jobMarked bs)) 2 0
     ∷ test (not (taken (number16 bs 3))) 3 3
     ∷ test (not (leb 1 (number16 bs 5) && leb (number16 bs 5) mostNodes)) 4 5
     ∷ [])

@@ -3,8 +3,8 @@ use Prim.Native.Nat.{_+_, _*_}
 use mathlib.Core.Path.{ap, _∙_}
 use native.Mathlib.Omega.{arith}
 use lib.ListN.{getD}
-use Rattle.decompiler.specs.declared.State.{State}
-use Rattle.decompiler.specs.State.{pushed, opened}
+use Rattle.decompiler.specs.declared.Pass.{Pass}
+use Rattle.decompiler.specs.State.{partPushed, childOpened}
 use Rattle.decompiler.proofs.Lists.{put-one}
 use borrow.Author.Needs.{needs}
 use Rattle.decompiler.proofs.fork.Statement.{statement}
@@ -47,14 +47,14 @@ add-open-2 : tie.Need-add-open-2
 add-open-2 c = omega (arith, c .before .before .shared-slice-known2 .given (c .before .before .before .before .before .args .s .place + 1), c .before .shared-slice-known3 .given (c .before .before .before .before .before .args .s .place + 2))
 
 open-requires : tie.Need-open-requires
-unfolding pushed
+unfolding partPushed
 open-requires c κs = rw (c .push .ensures) (c .before .before .before .before .before .pre .1)
 
 same-length : tie.Need-same-length
 same-length c = search needs
 
 returns : tie.Need-returns
-returns c = (c .«open» .ensures ∙ ap (λ (s : State). opened s (c .before .before .before .before .before .before .args .s .place + 3 + (getD (c .before .before .before .before .before .before .args .code .now) (c .before .before .before .before .before .before .args .s .place + 1) 0 * 256 + getD (c .before .before .before .before .before .before .args .code .now) (c .before .before .before .before .before .before .args .s .place + 2) 0))) (c .before .push .ensures), put-one (c .before .before .before .before .before .before .args .s .size) 4 (c .before .before .before .before .before .before .args .out .now) (omega arith))
+returns c = (c .«open» .ensures ∙ ap (λ (s : Pass). childOpened s (c .before .before .before .before .before .before .args .s .place + 3 + (getD (c .before .before .before .before .before .before .args .code .now) (c .before .before .before .before .before .before .args .s .place + 1) 0 * 256 + getD (c .before .before .before .before .before .before .args .code .now) (c .before .before .before .before .before .before .args .s .place + 2) 0))) (c .before .push .ensures), put-one (c .before .before .before .before .before .before .args .s .size) 4 (c .before .before .before .before .before .before .args .out .now) (omega arith))
 
 pub fork-spec : {M : Type 1} → statement M
 fork-spec =

@@ -2,7 +2,7 @@
 use Prim.Native.Nat.{_/_, _%_}
 use native.Mathlib.Omega.{arith}
 use lib.ListN.{getD, length-set}
-use Rattle.decompiler.specs.Parts.{header}
+use Rattle.decompiler.specs.Parts.{jobHeader}
 use Rattle.script.specs.Bytes.{jobMark, bytes16}
 use Rattle.decompiler.proofs.Lists.{put-seven}
 use borrow.Author.Needs.{needs}
@@ -46,7 +46,7 @@ same-length : tie.Need-same-length
 same-length c = search needs
 
 returns : tie.Need-returns
-unfolding header jobMark bytes16
+unfolding jobHeader jobMark bytes16
 returns c = put-seven 87 83 74 (getD (c .before .before .args .code .now) 3 0) (getD (c .before .before .args .code .now) 4 0) (c .before .before .args .nodes / 256 % 256) (c .before .before .args .nodes % 256) (c .before .before .args .out .now) (omega arith)
 
 pub put-header-spec : {M : Type 1} → statement M

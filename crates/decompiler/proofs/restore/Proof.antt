@@ -8,7 +8,7 @@ use mir.Val.{Fits}
 use Rattle.decompiler.specs.Parts.{onto}
 use Rattle.decompiler.specs.Walk.{weight}
 use Rattle.script.specs.Bytes.{Bytes}
-use Rattle.decompiler.proofs.Whole.{Inv, header-fits, inv-start, inv-length, inv-end}
+use Rattle.decompiler.proofs.Whole.{PassInv, header-fits, inv-start, inv-length, inv-end}
 use Rattle.decompiler.proofs.restore.Statement.{statement}
 use Rattle.decompiler.proofs.restore.Tie as tie
 
@@ -16,7 +16,7 @@ bytes-of : (code : List ℕ) → ((i : ℕ) → Fits w8 (getD code i 0)) → Byt
 bytes-of code h = record { small = λ i l. omega (arith, h i) }
 
 abbrev Inv-loop : tie.InvT-loop
-Inv-loop code nodes out₀ s₀ out s = Inv code nodes out₀ out s
+Inv-loop code nodes out₀ s₀ out s = PassInv code nodes out₀ out s
 
 abbrev μ-loop : tie.MeasureT-loop
 μ-loop code nodes out₀ s₀ out s = weight code s

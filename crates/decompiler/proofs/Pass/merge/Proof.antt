@@ -1,9 +1,9 @@
--- `decompiler::State::merge` meets its contract. Assumes nothing.
+-- `decompiler::Pass::merge` meets its contract. Assumes nothing.
 use mathlib.Core.Path.{refl}
-use Rattle.decompiler.specs.State.{merged}
+use Rattle.decompiler.specs.State.{partsMerged}
 use borrow.Author.Needs.{needs}
-use Rattle.decompiler.proofs.State.merge.Statement.{statement}
-use Rattle.decompiler.proofs.State.merge.Tie as tie
+use Rattle.decompiler.proofs.Pass.merge.Statement.{statement}
+use Rattle.decompiler.proofs.Pass.merge.Tie as tie
 
 sub-self : tie.Need-sub-self
 sub-self c = search needs
@@ -15,7 +15,7 @@ add-self-2 : tie.Need-add-self-2
 add-self-2 c = search needs
 
 returns : tie.Need-returns
-unfolding merged
+unfolding partsMerged
 returns c = refl
 
 pub merge-spec : {M : Type 1} → statement M

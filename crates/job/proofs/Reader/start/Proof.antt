@@ -1,15 +1,15 @@
--- `job::Scan::start` meets its contract. Assumes nothing.
+-- `job::Reader::start` meets its contract. Assumes nothing.
 use mathlib.Core.Path.{refl}
-use Rattle.job.specs.Scan.{started}
+use Rattle.job.specs.Scan.{rootDue}
 use borrow.Author.Needs.{needs}
-use Rattle.job.proofs.Scan.start.Statement.{statement}
-use Rattle.job.proofs.Scan.start.Tie as tie
+use Rattle.job.proofs.Reader.start.Statement.{statement}
+use Rattle.job.proofs.Reader.start.Tie as tie
 
 array-write-due : tie.Need-array-write-due
 array-write-due c = search needs
 
 returns : tie.Need-returns
-unfolding started
+unfolding rootDue
 returns c = refl
 
 pub start-spec : {M : Type 1} → statement M

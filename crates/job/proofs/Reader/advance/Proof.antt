@@ -1,15 +1,15 @@
--- `job::Scan::advance` meets its contract: by the kind. Assumes nothing.
+-- `job::Reader::advance` meets its contract: by the kind. Assumes nothing.
 use Prim.Native.Nat.{ℕ}
 use mathlib.Core.Path.{ap}
 use native.Mathlib.Omega.{arith}
-use Rattle.job.specs.declared.Scan.{Scan}
-use Rattle.job.specs.Scan.{pushed}
+use Rattle.job.specs.declared.Reader.{Reader}
+use Rattle.job.specs.Scan.{duePushed}
 use Rattle.job.proofs.Advance.{code-small, is-addp, is-atomic, is-fork, is-addt, is-write, is-leaf}
 use borrow.Author.Needs.{needs}
-use Rattle.job.proofs.Scan.advance.Statement.{statement}
-use Rattle.job.proofs.Scan.advance.Tie as tie
+use Rattle.job.proofs.Reader.advance.Statement.{statement}
+use Rattle.job.proofs.Reader.advance.Tie as tie
 
-abbrev height : Scan → ℕ
+abbrev height : Reader → ℕ
 height s = s .height
 
 sub-top : tie.Need-sub-top
@@ -43,7 +43,7 @@ push-requires : tie.Need-push-requires
 push-requires c κs = search needs
 
 push-requires-2 : tie.Need-push-requires-2
-unfolding pushed
+unfolding duePushed
 push-requires-2 c κs = rw (ap height (c .push .ensures)) (omega arith)
 
 add-push : tie.Need-add-push
@@ -68,7 +68,7 @@ add-push-3 : tie.Need-add-push-3
 add-push-3 c = search needs
 
 push-requires-6 : tie.Need-push-requires-6
-unfolding pushed
+unfolding duePushed
 push-requires-6 c κs = rw (ap height (c .push5 .ensures)) (omega arith)
 
 add-push-4 : tie.Need-add-push-4

@@ -1,9 +1,9 @@
--- `job::Scan::push` meets its contract. Assumes nothing.
+-- `job::Reader::push` meets its contract. Assumes nothing.
 use mathlib.Core.Path.{refl}
-use Rattle.job.specs.Scan.{pushed}
+use Rattle.job.specs.Scan.{duePushed}
 use borrow.Author.Needs.{needs}
-use Rattle.job.proofs.Scan.push.Statement.{statement}
-use Rattle.job.proofs.Scan.push.Tie as tie
+use Rattle.job.proofs.Reader.push.Statement.{statement}
+use Rattle.job.proofs.Reader.push.Tie as tie
 
 element-write-self : tie.Need-element-write-self
 element-write-self c = search needs
@@ -12,7 +12,7 @@ add-self : tie.Need-add-self
 add-self c = search needs
 
 returns : tie.Need-returns
-unfolding pushed
+unfolding duePushed
 returns c = refl
 
 pub push-spec : {M : Type 1} → statement M

@@ -1,9 +1,9 @@
--- `decompiler::State::close` meets its contract. Assumes nothing.
+-- `decompiler::Pass::close` meets its contract. Assumes nothing.
 use mathlib.Core.Path.{refl}
-use Rattle.decompiler.specs.State.{shut}
+use Rattle.decompiler.specs.State.{childShut}
 use borrow.Author.Needs.{needs}
-use Rattle.decompiler.proofs.State.close.Statement.{statement}
-use Rattle.decompiler.proofs.State.close.Tie as tie
+use Rattle.decompiler.proofs.Pass.close.Statement.{statement}
+use Rattle.decompiler.proofs.Pass.close.Tie as tie
 
 sub-self : tie.Need-sub-self
 sub-self c = search needs
@@ -12,7 +12,7 @@ sub-self-2 : tie.Need-sub-self-2
 sub-self-2 c = search needs
 
 returns : tie.Need-returns
-unfolding shut
+unfolding childShut
 returns c = refl
 
 pub close-spec : {M : Type 1} → statement M

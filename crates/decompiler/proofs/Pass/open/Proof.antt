@@ -1,9 +1,9 @@
--- `decompiler::State::open` meets its contract. Assumes nothing.
+-- `decompiler::Pass::open` meets its contract. Assumes nothing.
 use mathlib.Core.Path.{refl}
-use Rattle.decompiler.specs.State.{opened}
+use Rattle.decompiler.specs.State.{childOpened}
 use borrow.Author.Needs.{needs}
-use Rattle.decompiler.proofs.State.open.Statement.{statement}
-use Rattle.decompiler.proofs.State.open.Tie as tie
+use Rattle.decompiler.proofs.Pass.open.Statement.{statement}
+use Rattle.decompiler.proofs.Pass.open.Tie as tie
 
 mul-self : tie.Need-mul-self
 mul-self c = search needs
@@ -15,7 +15,7 @@ add-self : tie.Need-add-self
 add-self c = search needs
 
 returns : tie.Need-returns
-unfolding opened
+unfolding childOpened
 returns c = refl
 
 pub open-spec : {M : Type 1} → statement M

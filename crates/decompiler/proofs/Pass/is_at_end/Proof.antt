@@ -1,10 +1,10 @@
--- `decompiler::State::is_at_end` meets its contract. Assumes nothing.
+-- `decompiler::Pass::is_at_end` meets its contract. Assumes nothing.
 use native.Mathlib.Omega.{arith}
 use borrow.Author.Tests.{le-ltb, lt-ltb}
 use Rattle.decompiler.specs.State.{atEnd}
 use borrow.Author.Needs.{needs}
-use Rattle.decompiler.proofs.State.is_at_end.Statement.{statement}
-use Rattle.decompiler.proofs.State.is_at_end.Tie as tie
+use Rattle.decompiler.proofs.Pass.is_at_end.Statement.{statement}
+use Rattle.decompiler.proofs.Pass.is_at_end.Tie as tie
 
 returns : tie.Need-returns
 unfolding atEnd

@@ -1,9 +1,9 @@
--- `decompiler::State::push` meets its contract. Assumes nothing.
+-- `decompiler::Pass::push` meets its contract. Assumes nothing.
 use mathlib.Core.Path.{refl}
-use Rattle.decompiler.specs.State.{pushed}
+use Rattle.decompiler.specs.State.{partPushed}
 use borrow.Author.Needs.{needs}
-use Rattle.decompiler.proofs.State.push.Statement.{statement}
-use Rattle.decompiler.proofs.State.push.Tie as tie
+use Rattle.decompiler.proofs.Pass.push.Statement.{statement}
+use Rattle.decompiler.proofs.Pass.push.Tie as tie
 
 mul-self : tie.Need-mul-self
 mul-self c = search needs
@@ -21,7 +21,7 @@ add-self-3 : tie.Need-add-self-3
 add-self-3 c = search needs
 
 returns : tie.Need-returns
-unfolding pushed
+unfolding partPushed
 returns c = refl
 
 pub push-spec : {M : Type 1} → statement M

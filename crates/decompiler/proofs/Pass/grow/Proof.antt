@@ -1,9 +1,9 @@
--- `decompiler::State::grow` meets its contract. Assumes nothing.
+-- `decompiler::Pass::grow` meets its contract. Assumes nothing.
 use mathlib.Core.Path.{refl}
-use Rattle.decompiler.specs.State.{grown}
+use Rattle.decompiler.specs.State.{partGrown}
 use borrow.Author.Needs.{needs}
-use Rattle.decompiler.proofs.State.grow.Statement.{statement}
-use Rattle.decompiler.proofs.State.grow.Tie as tie
+use Rattle.decompiler.proofs.Pass.grow.Statement.{statement}
+use Rattle.decompiler.proofs.Pass.grow.Tie as tie
 
 add-self : tie.Need-add-self
 add-self c = search needs
@@ -12,7 +12,7 @@ add-self-2 : tie.Need-add-self-2
 add-self-2 c = search needs
 
 returns : tie.Need-returns
-unfolding grown
+unfolding partGrown
 returns c = refl
 
 pub grow-spec : {M : Type 1} → statement M
