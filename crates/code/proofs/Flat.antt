@@ -10,7 +10,7 @@ use Rattle.code.specs.Bytes.{instructionBytes, instructionsBytes, codeMa
 use Rattle.script.specs.Tree.{Tran, ValT, AddT, Read, Write, Proc, ValP, AddP, Atomic, Fork}
 use Rattle.script.specs.Count.{codeT, codeP, codeLength}
 use Rattle.script.specs.Bytes.{bytes16, bytes32}
-use Rattle.script.specs.Reader.{Job}
+use Rattle.script.specs.Jobs.{Job}
 use Rattle.word.specs.Sum.{residue}
 
 unfoldable pub flatT : Tran → List ℕ

@@ -9,7 +9,8 @@ use native.Mathlib.Omega.{arith}
 use lib.Dec.{eqb, leb, ltb}
 use lib.ListN.{length, drop, getD}
 use Rattle.code.specs.Bytes.{codeMark, compiled, Foreign}
-use Rattle.code.specs.Reader.{Op, push, add, read, write, begin, commit, fork, opcodeOperand, decoded, opAt, sizeOf, Item, proc, tran, begun, forked, sumTop, writeTop, commitTop, childEnded, doneWith, doOp, endsAfter, endedAt, ended, readOps, within, codeMarked, readCode}
+use Rattle.code.specs.Ops.{Op, push, add, read, write, begin, commit, fork, opcodeOperand, decoded, opAt, sizeOf}
+use Rattle.code.specs.Reader.{Item, proc, tran, begun, forked, sumTop, writeTop, commitTop, childEnded, doneWith, doOp, endsAfter, endedAt, ended, readOps, within, codeMarked, readCode}
 use Rattle.code.proofs.Flat.{flatT, flatP, compiled-flat}
 use Rattle.code.proofs.ReadBack.{code-read, read-is-code}
 use Rattle.script.specs.Tree.{Tran, ValT, AddT, Read, Write, Proc, ValP, AddP, Atomic, Fork}
@@ -17,7 +18,8 @@ use Rattle.script.specs.Count.{nodesP}
 use Rattle.script.specs.Limits.{ValuedT, ValuedP, Within}
 use Rattle.script.specs.Bytes.{Bytes, bytes16, bytes32, nodeBytes, bytesT, bytesP, jobMark, jobBytes}
 use Rattle.script.specs.Outcome.{Outcome, refused, done, refuse, onward}
-use Rattle.script.specs.Reader.{Job, number16, taken}
+use Rattle.script.specs.Jobs.{Job, number16}
+use Rattle.script.specs.Reader.{taken}
 use Rattle.script.specs.Refusal.{Taken, IsJob}
 use Rattle.script.proofs.Numbers.{bytes-head, bytes-tail}
 use Rattle.script.proofs.Accepts.{accepted-is-job, job-is-accepted}

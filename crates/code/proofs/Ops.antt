@@ -8,7 +8,7 @@ use native.Mathlib.Omega.{arith}
 use lib.Dec.{ltb}
 use lib.ListN.{length}
 use borrow.Author.Tests.{le-ltb, le-leb, lt-leb}
-use Rattle.code.specs.Reader.{foreign, Op, push, add, read, write, begin, commit, fork, opcodeOperand, decoded, opAt, sizeOf}
+use Rattle.code.specs.Ops.{foreign, Op, push, add, read, write, begin, commit, fork, opcodeOperand, decoded, opAt, sizeOf}
 use Rattle.script.specs.Bytes.{Bytes, bytes16, bytes32}
 use Rattle.script.specs.Outcome.{done}
 use Rattle.script.proofs.Numbers.{number16-bytes16, number-read, bytes16-number16, small32, number-written, bytes-head, bytes-tail}

@@ -10,7 +10,8 @@ use lib.ListN.{length, length-append}
 use lib.Seq.{drop-at}
 use borrow.Author.Tests.{le-ltb, le-leb, eq-eqb, ne-eqb, eqb-true, leb-true, not-false}
 use Rattle.code.specs.Bytes.{codeMark, compiled, IsCode}
-use Rattle.code.specs.Reader.{Op, push, add, read, write, begin, commit, fork, sizeOf, Item, proc, tran, begun, forked, valueItem, sumTop, writeTop, commitTop, childEnded, Done, doneWith, doOp, endsAfter, OpenParts, endedAt, ended, readOps, within, codeMarked, readCode}
+use Rattle.code.specs.Ops.{Op, push, add, read, write, begin, commit, fork, sizeOf}
+use Rattle.code.specs.Reader.{Item, proc, tran, begun, forked, valueItem, sumTop, writeTop, commitTop, childEnded, Done, doneWith, doOp, endsAfter, OpenParts, endedAt, ended, readOps, within, codeMarked, readCode}
 use Rattle.code.proofs.Flat.{flatT, flatP, compiled-flat, flat-lengthP}
 use Rattle.code.proofs.Ops.{opBytes, ValuedO, op-length, op-reads, Sees, good, bad, seen}
 use Rattle.script.specs.Tree.{Tran, ValT, AddT, Read, Write, Proc, ValP, AddP, Atomic, Fork}
@@ -18,7 +19,8 @@ use Rattle.script.specs.Count.{nodesT, nodesP, depthP, forks, atomics, instruct
 use Rattle.script.specs.Limits.{ValuedT, ValuedP, Within}
 use Rattle.script.specs.Bytes.{Bytes, bytes16, bytes32}
 use Rattle.script.specs.Outcome.{Outcome, refused, done, onward}
-use Rattle.script.specs.Reader.{Job, taken}
+use Rattle.script.specs.Jobs.{Job}
+use Rattle.script.specs.Reader.{taken}
 use Rattle.script.specs.Refusal.{Taken}
 use Rattle.script.proofs.Numbers.{bytes16-number16, bytes-drop, bytes-head, bytes-tail}
 use Rattle.script.proofs.Reading.{bytes-behind}

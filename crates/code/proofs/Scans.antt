@@ -8,17 +8,19 @@ use native.Mathlib.Omega.{arith}
 use lib.Dec.{eqb, leb, ltb, eqb·suc-zero}
 use lib.ListN.{length, drop}
 use borrow.Author.Tests.{le-leb, leb-true}
-use Rattle.code.specs.Reader.{Op, opAt, sizeOf, Item, proc, tran, begun, forked, Done, doOp, endsAfter, OpenParts, ended, readOps, within, codeMarked, readCode}
-use Rattle.code.specs.Scan.{ListScan, scanStart, scanOp, movedPast, finished, scanOps, Summary, summary, scanCode}
+use Rattle.code.specs.Ops.{Op, opAt, sizeOf}
+use Rattle.code.specs.Reader.{Item, proc, tran, begun, forked, Done, doOp, endsAfter, OpenParts, ended, readOps, within, codeMarked, readCode}
+use Rattle.code.specs.InnerScan.{ListScan, scanStart, scanOp, movedPast, finished, scanOps, Summary, summary, scanCode}
 use Rattle.code.proofs.ReadBack.{within-yes, within-back}
 use Rattle.code.proofs.Foreign.{Eleven, ops-eleven}
-use Rattle.code.specs.Parts.{jobText, nodesI, forksI}
+use Rattle.code.specs.InnerParts.{jobText, nodesI, forksI}
 use Rattle.code.proofs.Texts.{topmost, peak, stackOf, stateOf, Step, Both, fails, goes, op-both, Closing, stops, keeps, closing-both, readsOn, readsNext, ops-grown}
 use Rattle.script.specs.Tree.{Proc}
 use Rattle.script.specs.Count.{nodesP, forks}
 use Rattle.script.specs.Bytes.{bytes16, bytesP, jobMark, jobBytes}
 use Rattle.script.specs.Outcome.{Outcome, refused, done, refuse, onward, mapped}
-use Rattle.script.specs.Reader.{number16, taken}
+use Rattle.script.specs.Jobs.{number16}
+use Rattle.script.specs.Reader.{taken}
 use Rattle.script.proofs.Accepts.{both}
 
 -- a stack within the limits

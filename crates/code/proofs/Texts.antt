@@ -8,9 +8,10 @@ use native.Mathlib.Omega.{arith}
 use lib.Dec.{eqb, eqb·suc-zero}
 use lib.IntN.{ℤ}
 use lib.ListN.{length, drop, length-append}
-use Rattle.code.specs.Reader.{foreign, Op, push, add, read, write, begin, commit, fork, opAt, sizeOf, Item, proc, tran, begun, forked, Done, doOp, endsAfter, OpenParts, endedAt, ended, readOps}
-use Rattle.code.specs.Parts.{itemKind, itemDepth, itemNodes, itemForks, itemBytes, jobText, nodesI, forksI}
-use Rattle.code.specs.Scan.{ScanItem, ListScan, bounded, topped, merged, scanOp, closes}
+use Rattle.code.specs.Ops.{foreign, Op, push, add, read, write, begin, commit, fork, opAt, sizeOf}
+use Rattle.code.specs.Reader.{Item, proc, tran, begun, forked, Done, doOp, endsAfter, OpenParts, endedAt, ended, readOps}
+use Rattle.code.specs.InnerParts.{itemKind, itemDepth, itemNodes, itemForks, itemBytes, jobText, nodesI, forksI}
+use Rattle.code.specs.InnerScan.{ScanItem, ListScan, bounded, topped, merged, scanOp, closes}
 use Rattle.code.proofs.ReadBack.{onward-from, never, same, ended-sound}
 use Rattle.script.specs.Tree.{Tran, ValT, AddT, Read, Write, Proc, ValP, AddP, Atomic, Fork}
 use Rattle.script.specs.Count.{nodesT, nodesP, depthT, depthP, forks}

@@ -7,7 +7,8 @@ use Rattle.code.specs.Compile.{Instruction, Code, PUSH, ADD, READ, WRITE
 use Rattle.script.specs.Limits.{Within}
 use Rattle.script.specs.Bytes.{Bytes, bytes16, bytes32}
 use Rattle.script.specs.Outcome.{done}
-use Rattle.script.specs.Reader.{Job, readJob}
+use Rattle.script.specs.Jobs.{Job}
+use Rattle.script.specs.Reader.{readJob}
 use Rattle.script.specs.Refusal.{Taken}
 use Rattle.word.specs.Sum.{residue}
 

@@ -1,73 +1,18 @@
--- Reading code back: going forward over the code, with a stack of finished parts and a stack of FORK ends.
+-- Reading code back: going forward over the code, with a stack of finished parts and a stack of FORK ends. Nobody has to believe
+-- it: `foreign-exactly` (proofs/Foreign), `code-read` and `read-is-code` (proofs/ReadBack) determine it.
 use Prim.Native.Nat.{ℕ, zero, suc, _+_}
-use mathlib.Core.Bool.{Bool, true, false, cond, not, _&&_, _||_}
+use mathlib.Core.Bool.{Bool, true, false, not, _&&_}
 use mathlib.Core.List.{List, [], _∷_}
 use lib.Dec.{eqb, leb, ltb}
 use lib.IntN.{ℤ}
 use lib.ListN.{length, drop, getD}
+use Rattle.code.specs.Ops.{foreign, Op, push, add, read, write, begin, commit, fork, opAt, sizeOf}
 use Rattle.script.specs.Tree.{Tran, ValT, AddT, Read, Write, Proc, ValP, AddP, Atomic, Fork}
 use Rattle.script.specs.Count.{nodesP, depthP, forks}
 use Rattle.script.specs.Limits.{mostNodes, mostDepth, mostForks}
-use Rattle.script.specs.Outcome.{Outcome, refused, done, refuse, onward}
-use Rattle.script.specs.Reader.{Job, number16, number32, taken}
-use Rattle.word.specs.Sum.{signed}
-
--- 11, always at 0
-abbrev pub foreign : {A : Type 0} → Outcome A
-foreign = refused 11 0
-
--- an instruction as it stands in the bytes: a FORK has its child's length, and the child behind it
-pub data Op : Type 0 where
-  push : ℤ → Op
-  add : Op
-  read write : ℕ → Op
-  begin commit : Op
-  fork : (size : ℕ) → Op
-
--- how many bytes an opcode's operand has
-unfoldable pub opcodeOperand : ℕ → ℕ
-opcodeOperand opcode = cond (eqb opcode 1) 4 (cond (eqb opcode 3 || eqb opcode 4) 1 (cond (eqb opcode 7) 2 0))
-
--- the instruction of an opcode from 1 to 7, its operand at the front of what follows
-unfoldable pub decoded : ℕ → List ℕ → Op
-decoded opcode rest =
-    cond
-    (eqb opcode 1)
-    (push (signed (number32 rest)))
-    (cond
-    (eqb opcode 2)
-    add
-    (cond
-    (eqb opcode 3)
-    (read (getD rest 0 0))
-    (cond
-    (eqb opcode 4)
-    (write (getD rest 0 0))
-    (cond (eqb opcode 5) begin (cond (eqb opcode 6) commit (fork (number16 rest 0)))))))
-
--- an instruction: foreign are an unknown opcode, a cut operand, and a register of 64 or more
-unfoldable pub opAt : List ℕ → Outcome Op
-opAt [] = foreign
-opAt (opcode ∷ rest) =
-    refuse
-    (not (leb 1 opcode && leb opcode 7))
-    11
-    0
-    (refuse
-    (ltb (length rest) (opcodeOperand opcode))
-    11
-    0
-    (refuse (eqb (opcodeOperand opcode) 1 && leb 64 (getD rest 0 0)) 11 0 (done (decoded opcode rest))))
-
--- the bytes of an instruction, its child's code not counted
-abbrev pub sizeOf : Op → ℕ
-sizeOf (push n) = 5
-sizeOf add = 1
-sizeOf (read v) = 2
-sizeOf (write v) = 2
-sizeOf begin = 1
-sizeOf commit = 1
-sizeOf (fork size) = 3
+use Rattle.script.specs.Jobs.{Job, number16}
+use Rattle.script.specs.Outcome.{Outcome, done, refuse, onward}
+use Rattle.script.specs.Reader.{taken}
 
 -- what stands on the stack: finished parts, a BEGIN whose COMMIT is to come, and a FORK whose child's end is to come
 pub data Item : Type 0 where
@@ -141,8 +86,8 @@ childEnded (tran t ∷ items) = foreign
 childEnded (begun ∷ items) = foreign
 childEnded (forked size ∷ items) = foreign
 
--- the stack with this instruction done, and whether a transaction is then open: "READ or WRITE outside a transaction, FORK or BEGIN inside
--- one, COMMIT without one" are foreign
+-- the stack with this instruction done, and whether a transaction is then open. Foreign are READ or WRITE outside a transaction,
+-- FORK or BEGIN inside one, and COMMIT without one
 pub record Done : Type 0 where
   pub items : List Item
   pub inside : Bool
@@ -182,7 +127,7 @@ endedAt place (end ∷ ends) items =
       | false ↦ done (record { ends = end ∷ ends; items = items })
     ]
 
--- the end of the code: no FORK is open, and one process is left; "none or two values left over" are foreign
+-- the end of the code: no FORK is open, and one process is left
 abbrev pub oneLeft : Proc → List Item → Outcome Proc
 oneLeft p [] = done p
 oneLeft p (item ∷ items) = foreign
@@ -218,7 +163,7 @@ readOps (suc fuel) inside items ends place bs =
           (drop (sizeOf op) bs)))
     ])
 
--- "Node count 1 to 1,000; depth at most 64; at most 15 FORKs"
+-- "Node count 1 to 1,000; depth at most 64, the root having depth 1; at most 15 FORKs"
 unfoldable pub within : Proc → Bool
 within p = leb (nodesP p) mostNodes && (leb (depthP p) mostDepth && leb (forks p) mostForks)
 

@@ -6,7 +6,7 @@ use native.Mathlib.Omega.{arith}
 use lib.ListN.{length, drop, getD, length-append, length-drop, length-take}
 use Rattle.compiler.specs.declared.Part.{Part}
 use Rattle.delivery.specs.Delivered.{onto}
-use Rattle.compiler.specs.Emit.{Emitted, Has, Emittable, treeCode, forkBytes, part, placed, pushBytes, readBytes}
+use Rattle.compiler.specs.InnerEmit.{Emitted, Has, Emittable, treeCode, forkBytes, part, placed, pushBytes, readBytes}
 use Rattle.compiler.proofs.Lists.{rest, rest-length, back, lent, placed-onto, onto-placed, onto-length}
 use Rattle.compiler.proofs.Nodes.{PushAt, ReadAt, OneAt, TwoAt, AtomicAt, ForkAt, WriteAt}
 use Rattle.script.specs.Tree.{Sort, Tree}

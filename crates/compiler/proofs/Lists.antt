@@ -7,7 +7,7 @@ use native.Mathlib.Omega.{arith}
 use lib.ListN.{length, drop, take, set, length-append, length-drop, length-take}
 use lib.Seq.{drop-drop, drop-at, take-at, drop-length, take-all, length-take-le, set-split, sets-eq}
 use Rattle.delivery.specs.Delivered.{onto}
-use Rattle.compiler.specs.Emit.{placed}
+use Rattle.compiler.specs.InnerEmit.{placed}
 
 pub onto-length : (xs ys : List ℕ) → length xs ≤ length ys → length (onto xs ys) ≡ length ys
 onto-length xs ys h = simp (length-append, length-drop) (omega arith)

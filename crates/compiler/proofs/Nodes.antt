@@ -11,7 +11,7 @@ use lib.Dec.{eqb}
 use lib.ListN.{length, drop, getD, length-append}
 use lib.Seq.{drop-drop, drop-at, drop-nil}
 use borrow.Author.Tests.{ne-eqb}
-use Rattle.compiler.specs.Emit.{Has, treeCode, forkBytes, pushBytes, readBytes}
+use Rattle.compiler.specs.InnerEmit.{Has, treeCode, forkBytes, pushBytes, readBytes}
 use Rattle.code.specs.Compile.{ε}
 use Rattle.code.specs.Bytes.{instructionsBytes}
 use Rattle.code.proofs.Flat.{flatT, flatP, flat-tran, flat-proc}

@@ -11,7 +11,7 @@ use Rattle.delivery.specs.declared.Answer.the-variants.{Done, Refused}
 use Rattle.compiler.specs.declared.Part.{Part}
 use Rattle.compiler.specs.CompileTo.{compileTo}
 use Rattle.delivery.specs.Delivered.{onto, delivered}
-use Rattle.compiler.specs.Emit.{Emitted, Has, Emittable, treeCode, codeHeader}
+use Rattle.compiler.specs.InnerEmit.{Emitted, Has, Emittable, treeCode, codeHeader}
 use Rattle.compiler.proofs.Lists.{rest, rest-length, back, lent, placed-onto, onto-length}
 use Rattle.code.specs.Bytes.{codeMark, codeBytes, compiled}
 use Rattle.code.proofs.Flat.{code-length}
@@ -22,7 +22,8 @@ use Rattle.script.specs.Tree.{process}
 use Rattle.script.specs.Count.{codeLength}
 use Rattle.script.specs.Bytes.{Bytes, bytes16, bytesP, jobMark, jobBytes}
 use Rattle.script.specs.Outcome.{Outcome, refused, done}
-use Rattle.script.specs.Reader.{Job, readJob}
+use Rattle.script.specs.Jobs.{Job}
+use Rattle.script.specs.Reader.{readJob}
 use Rattle.script.proofs.Accepts.{accepted-is-job}
 
 pub bytes-of : (job : List ℕ) → ((i : ℕ) → Fits w8 (getD job i 0)) → Bytes job

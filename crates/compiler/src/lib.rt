@@ -6,7 +6,7 @@ ghost use mathlib.Core.Path.{_≡_};
 ghost use Rattle.compiler.specs.CompileTo.{compileTo};
 ghost use Rattle.decompiler.specs.ReadBackTo.{readBackTo};
 ghost use Rattle.delivery.specs.Delivered.{onto};
-ghost use Rattle.compiler.specs.Emit.{Emitted, Has, Emittable, forkBytes, codeHeader, part as answer, placed, pushBytes, readBytes};
+ghost use Rattle.compiler.specs.InnerEmit.{Emitted, Has, Emittable, forkBytes, codeHeader, part as answer, placed, pushBytes, readBytes};
 ghost use Rattle.script.specs.Tree.{Sort, Tree};
 use delivery::Answer;
 use job::Reading;

@@ -6,7 +6,7 @@ use native.Mathlib.Omega.{arith}
 use lib.ListN.{length, drop}
 use borrow.Author.Tests.{lt-ltb, le-ltb}
 use Rattle.decompiler.specs.ReadBackTo.{bytesOf, readBackTo}
-use Rattle.decompiler.specs.Walk.{Restorable}
+use Rattle.decompiler.specs.InnerWalk.{Restorable}
 use Rattle.code.specs.Reader.{readCode}
 use Rattle.delivery.specs.declared.Answer.the-variants.{Done, Refused}
 use Rattle.delivery.specs.Delivered.{Delivered, settled, delivered}
@@ -14,7 +14,7 @@ use Rattle.scan.specs.Answer.{told}
 use Rattle.scan.specs.declared.Scanned.the-variants as scanned
 use Rattle.script.specs.Count.{nodesP}
 use Rattle.script.specs.Outcome.{Outcome, refused, done, mapped}
-use Rattle.script.specs.Reader.{Job}
+use Rattle.script.specs.Jobs.{Job}
 
 module _ (code before : List ℕ) where
   abbrev reached : Outcome Job → Delivered

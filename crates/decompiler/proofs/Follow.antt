@@ -8,12 +8,12 @@ use native.Mathlib.Omega.{arith}
 use lib.ListN.{length, drop, getD, set, length-append, length-set}
 use lib.Seq.{getD-set-same, getD-set-other}
 use Rattle.decompiler.specs.declared.Pass.{Pass}
-use Rattle.decompiler.specs.Parts.{onto, placed, inserted}
-use Rattle.decompiler.specs.State.{partPushed, partsMerged, partGrown, childOpened, childShut, Room, CanMove}
-use Rattle.decompiler.specs.Walk.{Starts, Ends, Sorted, Setting, Follows}
+use Rattle.decompiler.specs.InnerParts.{onto, placed, inserted}
+use Rattle.decompiler.specs.InnerState.{partPushed, partsMerged, partGrown, childOpened, childShut, Room, CanMove}
+use Rattle.decompiler.specs.InnerWalk.{Starts, Ends, Sorted, Setting, Follows}
 use Rattle.decompiler.proofs.Lists.{length-onto, placed-onto, inserted-onto}
 use Rattle.code.specs.Reader.{Item, forked, readOps}
-use Rattle.code.specs.Parts.{itemForks, itemBytes, jobText, forksI}
+use Rattle.code.specs.InnerParts.{itemForks, itemBytes, jobText, forksI}
 use Rattle.code.proofs.Texts.{ops-grown, height-grows}
 use Rattle.script.specs.Tree.{Proc}
 use Rattle.script.specs.Count.{forks}

@@ -5,7 +5,7 @@ use mathlib.Core.List.{List, [], _∷_, _++_, append-assoc}
 use native.Mathlib.Omega.{arith}
 use lib.ListN.{length, take, drop, getD, set, length-append, length-take, length-drop, take-append-drop, List·getD-append}
 use lib.Seq.{take-at, drop-at, drop-cons, drop-append-add, drop-drop, take-append-le, take-take, getD-take, length-take-le, sets, sets-eq}
-use Rattle.decompiler.specs.Parts.{onto, placed, shifted, inserted}
+use Rattle.decompiler.specs.InnerParts.{onto, placed, shifted, inserted}
 
 -- ---- a text at the front
 

@@ -8,12 +8,13 @@ use lib.Dec.{eqb, leb, ltb, eqb·suc-zero}
 use lib.ListN.{length, drop, getD}
 use lib.Seq.{drop-cons, drop-drop}
 use borrow.Author.Tests.{lt-ltb, ltb-true, ltb-false, leb-true, eq-eqb, ne-eqb, eqb-true, eqb-false, not-false}
-use Rattle.decompiler.specs.Parts.{kindIn}
-use Rattle.decompiler.specs.Walk.{Ends, OutsideItems, InsideItems, Sorted}
-use Rattle.code.specs.Reader.{Op, opcodeOperand, decoded, opAt, sizeOf, Item, proc, tran, begun, forked, sumTop, writeTop, commitTop, childEnded, Done, doneWith, doOp, endsAfter, OpenParts, endedAt, ended, readOps}
-use Rattle.code.specs.Scan.{ListScan}
+use Rattle.decompiler.specs.InnerParts.{kindIn}
+use Rattle.decompiler.specs.InnerWalk.{Ends, OutsideItems, InsideItems, Sorted}
+use Rattle.code.specs.Ops.{Op, opcodeOperand, decoded, opAt, sizeOf}
+use Rattle.code.specs.Reader.{Item, proc, tran, begun, forked, sumTop, writeTop, commitTop, childEnded, Done, doneWith, doOp, endsAfter, OpenParts, endedAt, ended, readOps}
+use Rattle.code.specs.InnerScan.{ListScan}
 use Rattle.code.proofs.ReadBack.{onward-from, never, same, ended-sound}
-use Rattle.code.specs.Parts.{itemBytes, jobText, forksI}
+use Rattle.code.specs.InnerParts.{itemBytes, jobText, forksI}
 use Rattle.code.proofs.Texts.{Both, fails, goes, op-both, readsOn, readsNext}
 use Rattle.script.specs.Tree.{Tran, AddT, Write, Proc, AddP, Atomic, Fork}
 use Rattle.script.specs.Count.{forks}

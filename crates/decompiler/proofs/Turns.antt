@@ -9,18 +9,19 @@ use lib.ListN.{length, drop, getD, length-drop}
 use lib.Seq.{getD-drop}
 use borrow.Author.Tests.{not-false}
 use Rattle.decompiler.specs.declared.Pass.{Pass}
-use Rattle.decompiler.specs.Parts.{onto, placed, inserted, kindIn}
-use Rattle.decompiler.specs.State.{partPushed, partsMerged, partGrown, childOpened, childShut, atEnd, Room, CanMove}
-use Rattle.decompiler.specs.Walk.{OutsideItems, InsideItems, Sorted, Follows, TurnTaken}
+use Rattle.decompiler.specs.InnerParts.{onto, placed, inserted, kindIn}
+use Rattle.decompiler.specs.InnerState.{partPushed, partsMerged, partGrown, childOpened, childShut, atEnd, Room, CanMove}
+use Rattle.decompiler.specs.InnerWalk.{OutsideItems, InsideItems, Sorted, Follows, TurnTaken}
 use Rattle.decompiler.proofs.Next.{none-ends, Ending, one-ends, Merges, child-merges, child-sorted, child-forks, merges-text, Closes, child-closes, FoundOp, next-found, stays-from, sum-merges, sum-sorted, commit-merges, commit-sorted, Writes, write-writes, forks-stay}
 use Rattle.decompiler.proofs.Follow.{StackRoom, small, push-stands, push-room, fork-stands, fork-room, merge-text, merge-stands, merge-moves, grow-stands, grow-moves, shut-stands}
-use Rattle.code.specs.Reader.{add, commit, opcodeOperand, decoded, Item, tran, begun, forked, valueItem, sumTop, writeTop, commitTop, Done, doneWith, doOp, readOps}
+use Rattle.code.specs.Ops.{add, commit, opcodeOperand, decoded}
+use Rattle.code.specs.Reader.{Item, tran, begun, forked, valueItem, sumTop, writeTop, commitTop, Done, doneWith, doOp, readOps}
 use Rattle.code.proofs.ReadBack.{same}
-use Rattle.code.specs.Parts.{itemBytes, jobText, forksI}
+use Rattle.code.specs.InnerParts.{itemBytes, jobText, forksI}
 use Rattle.script.specs.Tree.{Tran, Read, Write, Proc}
 use Rattle.script.specs.Bytes.{Bytes, nodeBytes, bytesT, bytesP}
 use Rattle.script.specs.Outcome.{done}
-use Rattle.script.specs.Reader.{number16, number32}
+use Rattle.script.specs.Jobs.{number16, number32}
 use Rattle.script.proofs.Accepts.{passed}
 use Rattle.script.proofs.Numbers.{number-written, bytes-drop}
 use Rattle.word.specs.Sum.{signed}

@@ -8,21 +8,22 @@ use lib.Dec.{ltb}
 use lib.ListN.{length, drop, getD, length-append, drop-of-length-le}
 use borrow.Author.Tests.{ltb-false, not-false}
 use Rattle.decompiler.specs.declared.Pass.{Pass}
-use Rattle.decompiler.specs.Parts.{onto, jobHeader}
-use Rattle.decompiler.specs.State.{firstState}
-use Rattle.decompiler.specs.Walk.{Walk, Restorable}
+use Rattle.decompiler.specs.InnerParts.{onto, jobHeader}
+use Rattle.decompiler.specs.InnerState.{firstState}
+use Rattle.decompiler.specs.InnerWalk.{Walk, Restorable}
 use Rattle.decompiler.proofs.Lists.{length-onto, onto-onto}
 use Rattle.decompiler.proofs.Next.{text-at-end}
 use Rattle.decompiler.proofs.Follow.{small, out-length}
 use Rattle.code.specs.Reader.{readOps, within, codeMarked, readCode}
 use Rattle.code.proofs.Flat.{code-length}
 use Rattle.code.proofs.ReadBack.{onward-from, same, within-back, read-is-code}
-use Rattle.code.specs.Parts.{jobText, forksI}
+use Rattle.code.specs.InnerParts.{jobText, forksI}
 use Rattle.script.specs.Tree.{Tran, ValT, AddT, Read, Write, Proc, ValP, AddP, Atomic, Fork}
 use Rattle.script.specs.Count.{nodesT, nodesP, depthP, forks, codeT, codeP, codeLength}
 use Rattle.script.specs.Bytes.{Bytes, bytes16, bytesP, jobMark, jobBytes}
 use Rattle.script.specs.Outcome.{done}
-use Rattle.script.specs.Reader.{Job, number16, taken}
+use Rattle.script.specs.Jobs.{Job, number16}
+use Rattle.script.specs.Reader.{taken}
 use Rattle.script.proofs.Accepts.{passed}
 use Rattle.script.proofs.Numbers.{bytes16-number16}
 

@@ -3,7 +3,8 @@ use mathlib.Core.Path.{refl}
 use Rattle.guarantee.specs.Cases.{Cases}
 use Rattle.code.specs.Compile.{compileT, compileP}
 use Rattle.code.specs.Bytes.{instructionBytes, instructionsBytes, codeMark, codeBytes, compiled}
-use Rattle.code.specs.Reader.{opcodeOperand, decoded, opAt, doOp, endedAt, readOps, within, codeMarked, readCode}
+use Rattle.code.specs.Ops.{opcodeOperand, decoded, opAt}
+use Rattle.code.specs.Reader.{doOp, endedAt, readOps, within, codeMarked, readCode}
 use Rattle.machine.specs.Threads.{blank, spawned, push, add, begin, sourceOf, read, write, closed as closedAt, stale, firstStale, overlaid}
 use Rattle.machine.specs.Fits.{walkOp, nextPlace}
 use Rattle.machine.specs.FitTest.{walk, walkTo, freeFrom, placed, allZero, noneBehind, inFront, passedBy, among, allAmong, threadsOf, oneEach, fits}
@@ -13,7 +14,8 @@ use Rattle.stm.specs.Events.{counted, order}
 use Rattle.word.specs.Registers.{none, member, with}
 use Rattle.script.specs.Bytes.{nodeBytes, bytes16, bytes32, bytesT, bytesP, jobMark, jobBytes}
 use Rattle.script.specs.Count.{nodesT, nodesP, depthT, depthP, forks, atomics, threads, instructions, longest, bound, codeT, codeP, codeLength}
-use Rattle.script.specs.Reader.{permitted, operand, nodeOf, nodeAt, grown, forkOf, readNodes, jobMarked, taken, readJob}
+use Rattle.script.specs.Jobs.{operand, forkOf}
+use Rattle.script.specs.Reader.{permitted, nodeOf, nodeAt, grown, readNodes, jobMarked, taken, readJob}
 use Rattle.word.specs.Sum.{residue, signed, wrap, wrapping}
 
 pub cases : Cases

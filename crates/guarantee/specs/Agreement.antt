@@ -13,7 +13,7 @@ use Rattle.machine.specs.Fits.{Fits, Typed}
 use Rattle.machine.specs.Answers.{sumOf}
 use Rattle.machine.specs.Source.{SThread, StepM, StepsM}
 use Rattle.machine.specs.Soup.{Soup, StandsFor, ruleOf, named, ByRule, load, StepOn}
-use Rattle.script.specs.Reader.{Job}
+use Rattle.script.specs.Jobs.{Job}
 use Rattle.script.specs.Turns.{Registers}
 use Rattle.stm.specs.Events.{Happened, isIdle}
 

@@ -6,8 +6,8 @@ use native.Mathlib.Omega.{arith}
 use lib.Dec.{eqb}
 use borrow.Author.Tests.{eq-eqb, ne-eqb}
 use Rattle.job.specs.declared.Reader.{Reader}
-use Rattle.job.specs.Scan.{codeOfKind, duePushed, partDepth, popped, advanced}
-use Rattle.script.specs.Reader.{operand}
+use Rattle.job.specs.InnerScan.{codeOfKind, duePushed, partDepth, popped, advanced}
+use Rattle.script.specs.Jobs.{operand}
 
 -- the state with the node on top read, as the code makes it of what it computed
 abbrev middle : Reader → (forks size more : ℕ) → Reader

@@ -8,7 +8,8 @@ use lib.ListN.{length, drop}
 use borrow.Author.Tests.{lt-ltb, le-ltb, eq-eqb, ne-eqb}
 use Rattle.job.specs.declared.Reading.the-variants.{Refused}
 use Rattle.job.specs.Answer.{answer}
-use Rattle.script.specs.Reader.{number16, readNodes, readJob, jobMarked, taken, root, whole}
+use Rattle.script.specs.Jobs.{number16, root}
+use Rattle.script.specs.Reader.{readNodes, readJob, jobMarked, taken, whole}
 
 module _ (job : List ℕ) where
   pub cut : length job < 7 → Refused 1 (length job) ≡ answer (readJob job)

@@ -10,10 +10,11 @@ use lib.Seq.{drop-cons, getD-drop}
 use borrow.Author.Tests.{lt-ltb, le-ltb, le-leb, lt-leb, eq-eqb, ne-eqb}
 use Rattle.job.specs.declared.Tested.{Tested}
 use Rattle.job.specs.declared.Tested.the-variants.{Kind, Refused}
-use Rattle.job.specs.Scan.{sortOf, kindByte, tested}
+use Rattle.job.specs.InnerScan.{sortOf, kindByte, tested}
 use Rattle.script.specs.Tree.{Sort, process, transaction}
 use Rattle.script.specs.Outcome.{Outcome, refused, done}
-use Rattle.script.specs.Reader.{permitted, operand, nodeOf, nodeAt}
+use Rattle.script.specs.Jobs.{operand}
+use Rattle.script.specs.Reader.{permitted, nodeOf, nodeAt}
 use Rattle.script.proofs.Nodes.{Kind as Kinds, valP, addP, atomic, fork, valT, addT, read, write, other, kind-of, permitted-no}
 
 -- the node of a permitted kind has that kind

@@ -15,12 +15,13 @@ use Rattle.job.specs.declared.Reading.{Reading}
 use Rattle.job.specs.declared.Reading.the-variants as reading
 use Rattle.job.specs.declared.Reader.{Reader}
 use Rattle.job.specs.Answer.{answer}
-use Rattle.job.specs.Scan.{sortOf, kindByte, tested, codeOfKind, rootDue, duePushed, partDepth, popped, advanced, CanAdvance, heldPart, dueOf}
+use Rattle.job.specs.InnerScan.{sortOf, kindByte, tested, codeOfKind, rootDue, duePushed, partDepth, popped, advanced, CanAdvance, heldPart, dueOf}
 use Rattle.script.specs.Tree.{Proc, Sort, process, transaction, Tree}
 use Rattle.script.specs.Count.{codeT, codeP, codeLength, codeSize}
 use Rattle.script.specs.Bytes.{Bytes, bytes32, Node, VALP, ADDP, ATOMIC, FORK, VALT, ADDT, READ, WRITE, nodeBytes}
 use Rattle.script.specs.Outcome.{Outcome, refused, done, mapped}
-use Rattle.script.specs.Reader.{Due, Forest, operand, nodeAt, partsThen, grown, forkOf, readNodes, Job, root, whole}
+use Rattle.script.specs.Jobs.{Due, operand, partsThen, forkOf, Job, root}
+use Rattle.script.specs.Reader.{Forest, nodeAt, grown, readNodes, whole}
 use Rattle.script.proofs.Nodes.{Sees, good, node-sees, seen}
 use Rattle.script.proofs.Numbers.{bytes-drop}
 

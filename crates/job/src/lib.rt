@@ -5,9 +5,9 @@ ghost use lib.ListN.{drop, length};
 ghost use mathlib.Core.Bool.{_&&_, _||_};
 ghost use mathlib.Core.Path.{_≡_};
 ghost use Rattle.job.specs.Answer.{answer};
-ghost use Rattle.job.specs.Scan.{CanAdvance, advanced, codeOfKind, tested, duePushed, sortOf, rootDue};
-ghost use Rattle.script.specs.Reader.{nodeAt, readJob, readNodes, root, whole};
-ghost use Rattle.script.specs.Reader.{operand as size, permitted as may};
+ghost use Rattle.job.specs.InnerScan.{CanAdvance, advanced, codeOfKind, tested, duePushed, sortOf, rootDue};
+ghost use Rattle.script.specs.Jobs.{root, operand as size};
+ghost use Rattle.script.specs.Reader.{nodeAt, readJob, readNodes, whole, permitted as may};
 
 // What reading a job comes to.
 pub enum Reading {

@@ -29,7 +29,7 @@ use Rattle.code.proofs.Foreign.{only-foreign, foreign-exactly}
 use Rattle.code.proofs.ReadBack.{read-is-code}
 use Rattle.script.specs.Bytes.{Bytes}
 use Rattle.script.specs.Outcome.{Outcome, refused, done, refuse, onward}
-use Rattle.script.specs.Reader.{Job}
+use Rattle.script.specs.Jobs.{Job}
 use Rattle.script.proofs.Accepts.{both}
 
 -- no code that is foreign is read, and it is refused with 11 at 0

@@ -7,7 +7,7 @@ use native.Mathlib.Omega.{arith}
 use lib.ListN.{length, getD, replicate}
 use Rattle.code.specs.Compile.{ε, compileP}
 use Rattle.code.specs.Bytes.{IsCode}
-use Rattle.script.specs.Reader.{Job}
+use Rattle.script.specs.Jobs.{Job}
 use Rattle.machine.specs.declared.Thread.{Thread}
 use Rattle.machine.specs.Threads.{blank, spawned}
 use Rattle.machine.specs.Steps.{exists, threadAt, fresh}

@@ -12,8 +12,8 @@ use Rattle.machine.specs.declared.Thread.{Thread}
 use Rattle.machine.specs.Steps.{State, Stepped, exists, threadAt, commit, instruction, doing, pick, Ran, run}
 use Rattle.machine.specs.Answers.{countsOf}
 use Rattle.stm.specs.Events.{Happened, counted, idle, isIdle, isCommit}
-use Rattle.code.specs.Reader.{Op, opAt}
-use Rattle.code.specs.Reader as code
+use Rattle.code.specs.Ops.{Op, opAt}
+use Rattle.code.specs.Ops as code
 use Rattle.script.specs.Outcome.{Outcome, refused, done}
 use Rattle.word.specs.Sum.{Rule}
 

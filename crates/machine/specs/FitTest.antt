@@ -10,7 +10,7 @@ use lib.Signed.{ltZ}
 use Rattle.machine.specs.declared.Thread.{Thread}
 use Rattle.machine.specs.Steps.{State, exists, threadAt}
 use Rattle.machine.specs.Fits.{Child, Walked, unmoved, walkOp, nextPlace, ownCode}
-use Rattle.code.specs.Reader.{Op, opAt}
+use Rattle.code.specs.Ops.{Op, opAt}
 use Rattle.script.specs.Outcome.{Outcome, refused, done}
 use Rattle.word.specs.Registers.{member}
 use Rattle.word.specs.Registers as registers

@@ -9,8 +9,8 @@ use lib.ListN.{length, getD}
 use Rattle.code.specs.Compile.{Instruction, Code, PUSH, ADD, READ, WRITE, BEGIN, COMMIT, FORK, ε, _⨾_}
 use Rattle.code.specs.Bytes.{instructionsBytes}
 use Rattle.code.specs.Counts.{RunsIn}
-use Rattle.code.specs.Reader.{Op}
-use Rattle.code.specs.Reader as code
+use Rattle.code.specs.Ops.{Op}
+use Rattle.code.specs.Ops as code
 use Rattle.word.specs.Registers.{member}
 use Rattle.word.specs.Sum.{InRange}
 

@@ -9,8 +9,8 @@ use lib.ListN.{length, drop, getD, set, replicate}
 use Rattle.machine.specs.declared.Thread.{Thread}
 use Rattle.machine.specs.Threads.{blank, spawned, push, add, begin, sourceOf, read, write, closed, firstStale, overlaid}
 use Rattle.stm.specs.Events.{Event, idle, pushed, summed, forked, begun, looked, wrote, committed, sentBack, Happened, isIdle}
-use Rattle.code.specs.Reader.{Op, opAt}
-use Rattle.code.specs.Reader as code
+use Rattle.code.specs.Ops.{Op, opAt}
+use Rattle.code.specs.Ops as code
 use Rattle.script.specs.Outcome.{Outcome, refused, done}
 use Rattle.word.specs.Sum.{Rule}
 

@@ -6,7 +6,7 @@ use native.Mathlib.Omega.{arith}
 use lib.ListN.{getD}
 use borrow.Author.Tests.{lt-ltb, le-ltb, eq-eqb, ne-eqb}
 use Rattle.scan.specs.declared.Scan.{Scan}
-use Rattle.scan.specs.View.{bad, itemPut, setTo, kindAt, reachAt, addTo, writeTo, commitTo, joined, closeTo, opened, forkTo, finishTo}
+use Rattle.scan.specs.InnerView.{bad, itemPut, setTo, kindAt, reachAt, addTo, writeTo, commitTo, joined, closeTo, opened, forkTo, finishTo}
 
 module _ (s : Scan) (h k r : ℕ) (i : Bool) (n f z : ℕ) where
   pub set-deep : 64 < r → bad s ≡ setTo s h k r i n f z

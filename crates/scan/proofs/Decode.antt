@@ -11,8 +11,8 @@ use lib.Seq.{drop-cons, getD-drop}
 use borrow.Author.Tests.{lt-ltb, le-ltb, le-leb, lt-leb}
 use Rattle.scan.specs.declared.Op.{Op}
 use Rattle.scan.specs.declared.Op.the-variants as op
-use Rattle.scan.specs.View.{erased}
-use Rattle.code.specs.Reader.{opcodeOperand, decoded, opAt}
+use Rattle.scan.specs.InnerView.{erased}
+use Rattle.code.specs.Ops.{opcodeOperand, decoded, opAt}
 use Rattle.script.specs.Outcome.{Outcome, refused, done, refuse}
 
 -- how many bytes are there behind an opcode with an operand

@@ -8,8 +8,8 @@ use native.Mathlib.Omega.{arith}
 use lib.ListN.{length, getD, set, length-set}
 use Rattle.scan.specs.declared.Op.the-variants as op
 use Rattle.scan.specs.declared.Scan.{Scan}
-use Rattle.scan.specs.View.{GoodScan, bad, itemPut, setTo, topTo, kindAt, reachAt, addTo, writeTo, commitTo, joined, closeTo, movedTo, opened, forkTo, erase, stepTo}
-use Rattle.code.specs.Reader.{Op, push, add, read, write, begin, commit, fork, sizeOf}
+use Rattle.scan.specs.InnerView.{GoodScan, bad, itemPut, setTo, topTo, kindAt, reachAt, addTo, writeTo, commitTo, joined, closeTo, movedTo, opened, forkTo, erase, stepTo}
+use Rattle.code.specs.Ops.{Op, push, add, read, write, begin, commit, fork, sizeOf}
 use Rattle.scan.proofs.Branches.{add-low, add-part, add-other, add-done, write-low, write-outside, write-other, write-done, commit-low, commit-outside, commit-above, commit-below, commit-done, close-low, close-above, close-below, close-done, fork-bad, fork-done, when-true, when-false}
 use Rattle.scan.proofs.Steps.{set-good, top-place, add-place, write-place, commit-place, top-forked, top-forks}
 

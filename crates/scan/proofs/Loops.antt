@@ -11,10 +11,10 @@ use lib.Seq.{drop-drop}
 use borrow.Author.Tests.{eq-eqb, ne-eqb, eqb-false}
 use Rattle.scan.specs.declared.Op.{Op as Instruction}
 use Rattle.scan.specs.declared.Scan.{Scan}
-use Rattle.scan.specs.View.{stackOf, endsOf, view, ifGood, viewed, GoodScan, emptyScan, joined, closeTo, erase, erased, ShortFork, stepTo, finishTo, kindAt, reachAt, Settled}
-use Rattle.code.specs.Reader.{foreign, Op, push, add, read, write, begin, commit, fork, opAt, sizeOf}
-use Rattle.code.specs.Scan.{ScanItem, twoTop, oneTop, scanOp, movedPast, closes, finished, scanOps}
-use Rattle.code.specs.Scan as list
+use Rattle.scan.specs.InnerView.{stackOf, endsOf, view, ifGood, viewed, GoodScan, emptyScan, joined, closeTo, erase, erased, ShortFork, stepTo, finishTo, kindAt, reachAt, Settled}
+use Rattle.code.specs.Ops.{foreign, Op, push, add, read, write, begin, commit, fork, opAt, sizeOf}
+use Rattle.code.specs.InnerScan.{ScanItem, twoTop, oneTop, scanOp, movedPast, closes, finished, scanOps}
+use Rattle.code.specs.InnerScan as list
 use Rattle.code.proofs.Ops.{opBytes, ValuedO, op-length, op-reads, Sees, good, bad, seen}
 use Rattle.code.proofs.Foreign.{Eleven, op-eleven}
 use Rattle.script.proofs.Numbers.{bytes-drop}

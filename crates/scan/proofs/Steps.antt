@@ -10,7 +10,7 @@ use Rattle.scan.specs.declared.Op.{Op}
 use Rattle.scan.specs.declared.Op.the-variants as op
 use Rattle.scan.specs.declared.Scan.{Scan}
 use Rattle.scan.proofs.Branches.{when-true, when-false}
-use Rattle.scan.specs.View.{bad, itemPut, setTo, topTo, kindAt, reachAt, addTo, writeTo, commitTo, joined, closeTo, movedTo, forkTo, stepTo}
+use Rattle.scan.specs.InnerView.{bad, itemPut, setTo, topTo, kindAt, reachAt, addTo, writeTo, commitTo, joined, closeTo, movedTo, forkTo, stepTo}
 
 -- a choice between scans at one place is at that place
 two : (b : Bool) (x y : Scan) (p : ℕ) → x .place ≡ p → y .place ≡ p → cond b x y .place ≡ p

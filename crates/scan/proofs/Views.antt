@@ -1,4 +1,4 @@
--- The scan's arrays follow the lists of code/specs/Scan.antt, instruction by instruction. Assumes nothing.
+-- The scan's arrays follow the lists of code/specs/InnerScan.antt, instruction by instruction. Assumes nothing.
 use Prim.Native.Nat.{ℕ, zero, suc, _+_, _*_, _-_, _≤_, _<_, max}
 use mathlib.Core.Path.{_≡_, refl, sym, ap, ap₂, subst, _∙_}
 use mathlib.Core.Bool.{Bool, true, false, cond, not, _&&_}
@@ -11,10 +11,11 @@ use lib.ListN.{length, getD, set, length-set}
 use lib.Seq.{getD-set-same, getD-set-other}
 use borrow.Author.Tests.{lt-ltb, le-ltb, le-leb, lt-leb, eq-eqb, ne-eqb}
 use Rattle.scan.specs.declared.Scan.{Scan}
-use Rattle.scan.specs.View.{stackOf, endsOf, view, ifGood, viewed, GoodScan, ItemRoom, bad, itemPut, setTo, topTo, kindAt, reachAt, addTo, writeTo, commitTo, joined, closeTo, movedTo, opened, forkTo, erase, stepTo, finishTo}
-use Rattle.code.specs.Reader.{foreign, Op, push, add, read, write, begin, commit, fork, sizeOf, endsAfter}
-use Rattle.code.specs.Scan.{ScanItem, bounded, topped, merged, twoTop, oneTop, scanOp, movedPast, closes, finished}
-use Rattle.code.specs.Scan as list
+use Rattle.scan.specs.InnerView.{stackOf, endsOf, view, ifGood, viewed, GoodScan, ItemRoom, bad, itemPut, setTo, topTo, kindAt, reachAt, addTo, writeTo, commitTo, joined, closeTo, movedTo, opened, forkTo, erase, stepTo, finishTo}
+use Rattle.code.specs.Ops.{foreign, Op, push, add, read, write, begin, commit, fork, sizeOf}
+use Rattle.code.specs.Reader.{endsAfter}
+use Rattle.code.specs.InnerScan.{ScanItem, bounded, topped, merged, twoTop, oneTop, scanOp, movedPast, closes, finished}
+use Rattle.code.specs.InnerScan as list
 use Rattle.script.specs.Outcome.{Outcome, refused, done, refuse, onward, mapped}
 use Rattle.scan.proofs.Branches.{add-low, add-part, add-other, add-done, write-low, write-outside, write-other, write-done, commit-low, commit-outside, commit-above, commit-below, commit-done, close-low, close-above, close-below, close-done, fork-bad, fork-done, when-true, when-false}
 use Rattle.scan.proofs.Steps.{set-good, top-few, top-forked, top-ends}

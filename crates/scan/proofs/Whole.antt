@@ -10,11 +10,12 @@ use Rattle.scan.specs.declared.Scan.{Scan}
 use Rattle.scan.specs.declared.Scanned.{Scanned}
 use Rattle.scan.specs.declared.Scanned.the-variants as scanned
 use Rattle.scan.specs.Answer.{told}
-use Rattle.scan.specs.View.{view, ifGood, viewed}
+use Rattle.scan.specs.InnerView.{view, ifGood, viewed}
 use Rattle.code.specs.Bytes.{IsCode}
-use Rattle.code.specs.Reader.{foreign, codeMarked, readCode}
-use Rattle.code.specs.Scan.{scanStart, scanOps, Summary, summary, scanCode}
-use Rattle.code.specs.Scan as list
+use Rattle.code.specs.Ops.{foreign}
+use Rattle.code.specs.Reader.{codeMarked, readCode}
+use Rattle.code.specs.InnerScan.{scanStart, scanOps, Summary, summary, scanCode}
+use Rattle.code.specs.InnerScan as list
 use Rattle.code.proofs.Flat.{code-length}
 use Rattle.code.proofs.Foreign.{only-foreign}
 use Rattle.code.proofs.ReadBack.{read-is-code, code-small}
@@ -22,7 +23,8 @@ use Rattle.code.proofs.Scans.{scan-is-read}
 use Rattle.script.specs.Bytes.{Bytes}
 use Rattle.script.specs.Count.{codeLength, nodesP}
 use Rattle.script.specs.Outcome.{Outcome, refused, done, mapped}
-use Rattle.script.specs.Reader.{Job, number16, taken}
+use Rattle.script.specs.Jobs.{Job, number16}
+use Rattle.script.specs.Reader.{taken}
 use Rattle.scan.proofs.Loops.{scan-fuel}
 
 -- the answer, from the summary

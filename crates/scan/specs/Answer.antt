@@ -5,7 +5,7 @@ use Rattle.scan.specs.declared.Scanned.the-variants as scanned
 use Rattle.script.specs.Bytes.{jobBytes}
 use Rattle.script.specs.Count.{nodesP}
 use Rattle.script.specs.Outcome.{Outcome, refused, done}
-use Rattle.script.specs.Reader.{Job}
+use Rattle.script.specs.Jobs.{Job}
 
 -- a refusal's number and place, or the version, the node count and the length of the job that compiles to the code
 abbrev pub told : Outcome Job → Scanned

@@ -4,10 +4,11 @@ ghost use lib.Dec.{eqb};
 ghost use lib.ListN.{drop, length};
 ghost use mathlib.Core.Bool.{_&&_, true};
 ghost use mathlib.Core.Path.{_≡_};
-ghost use Rattle.code.specs.Reader.{opAt, opcodeOperand, readCode};
+ghost use Rattle.code.specs.Ops.{opAt, opcodeOperand};
+ghost use Rattle.code.specs.Reader.{readCode};
 ghost use Rattle.scan.specs.Answer.{told};
-ghost use Rattle.code.specs.Scan.{scanOps, scanStart};
-ghost use Rattle.scan.specs.View.{GoodScan, ItemRoom, Settled, ShortFork, addTo, bad, closeTo, commitTo, erased, finishTo, forkTo, movedTo, setTo, emptyScan, stepTo, topTo, viewed, writeTo};
+ghost use Rattle.code.specs.InnerScan.{scanOps, scanStart};
+ghost use Rattle.scan.specs.InnerView.{GoodScan, ItemRoom, Settled, ShortFork, addTo, bad, closeTo, commitTo, erased, finishTo, forkTo, movedTo, setTo, emptyScan, stepTo, topTo, viewed, writeTo};
 
 // What scanning code comes to.
 pub enum Scanned {

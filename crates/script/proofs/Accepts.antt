@@ -12,7 +12,8 @@ use Rattle.script.specs.Count.{nodesP, forks}
 use Rattle.script.specs.Limits.{Within}
 use Rattle.script.specs.Bytes.{Bytes, bytes16, bytesP, jobMark, jobBytes}
 use Rattle.script.specs.Outcome.{Outcome, done, refuse, mapped}
-use Rattle.script.specs.Reader.{readNodes, Job, jobMarked, taken, root, readJob}
+use Rattle.script.specs.Jobs.{Job, root}
+use Rattle.script.specs.Reader.{readNodes, jobMarked, taken, readJob}
 use Rattle.script.specs.Refusal.{Taken, IsJob}
 use Rattle.script.proofs.Numbers.{bytes16-number16, bytes-head, bytes-tail, bytes-drop}
 use Rattle.script.proofs.Reading.{read-proc, read-sound, mapped-from}

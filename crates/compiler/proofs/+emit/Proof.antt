@@ -10,7 +10,7 @@ use borrow.Fn.Kinds.{In}
 use borrow.Fn.PlainCycle.{Measures, is, falls, and}
 use Rattle.script.specs.Tree.{Sort, Tree}
 use Rattle.script.specs.Bytes.{bytes16}
-use Rattle.compiler.specs.Emit.{Emitted, Has, treeCode, forkBytes as fork-code}
+use Rattle.compiler.specs.InnerEmit.{Emitted, Has, treeCode, forkBytes as fork-code}
 use Rattle.compiler.proofs.Lists.{rest-length, back}
 use Rattle.compiler.proofs.Nodes.{TwoAt, some, as-push, as-atomic, as-fork, as-read, as-write, as-two}
 use Rattle.compiler.proofs.Emits.{OnePart, child, TwoParts, children, moved, back-length, next-of, size-of, push-emitted, read-emitted, atomic-emitted, fork-emitted, write-emitted, sum-emitted}

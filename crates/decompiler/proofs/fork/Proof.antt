@@ -4,7 +4,7 @@ use mathlib.Core.Path.{ap, _∙_}
 use native.Mathlib.Omega.{arith}
 use lib.ListN.{getD}
 use Rattle.decompiler.specs.declared.Pass.{Pass}
-use Rattle.decompiler.specs.State.{partPushed, childOpened}
+use Rattle.decompiler.specs.InnerState.{partPushed, childOpened}
 use Rattle.decompiler.proofs.Lists.{put-one}
 use borrow.Author.Needs.{needs}
 use Rattle.decompiler.proofs.fork.Statement.{statement}

@@ -2,7 +2,7 @@
 use Prim.Native.Nat.{_/_, _%_}
 use native.Mathlib.Omega.{arith}
 use lib.ListN.{getD, length-set}
-use Rattle.decompiler.specs.Parts.{jobHeader}
+use Rattle.decompiler.specs.InnerParts.{jobHeader}
 use Rattle.script.specs.Bytes.{jobMark, bytes16}
 use Rattle.decompiler.proofs.Lists.{put-seven}
 use borrow.Author.Needs.{needs}

@@ -5,8 +5,8 @@ use native.Mathlib.Omega.{arith}
 use lib.ListN.{getD}
 use mir.Syntax.{w8}
 use mir.Val.{Fits}
-use Rattle.decompiler.specs.Parts.{onto}
-use Rattle.decompiler.specs.Walk.{weight}
+use Rattle.decompiler.specs.InnerParts.{onto}
+use Rattle.decompiler.specs.InnerWalk.{weight}
 use Rattle.script.specs.Bytes.{Bytes}
 use Rattle.decompiler.proofs.Whole.{PassInv, header-fits, inv-start, inv-length, inv-end}
 use Rattle.decompiler.proofs.restore.Statement.{statement}

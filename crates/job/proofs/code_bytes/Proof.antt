@@ -1,7 +1,7 @@
 -- `job::code_bytes` meets its contract. Assumes nothing.
 use mathlib.Core.Logic.{⊎-elim, inl, inr}
 use borrow.Author.Tests.{ne-eqb}
-use Rattle.job.specs.Scan.{codeOfKind}
+use Rattle.job.specs.InnerScan.{codeOfKind}
 use Rattle.job.proofs.code_bytes.Statement.{statement}
 use Rattle.job.proofs.code_bytes.Tie as tie
 

@@ -6,7 +6,7 @@ use native.Mathlib.Omega.{arith}
 use lib.ListN.{getD}
 use Rattle.script.proofs.Numbers.{bytes-of}
 use Rattle.job.specs.declared.Reader.{Reader}
-use Rattle.job.specs.Scan.{heldPart}
+use Rattle.job.specs.InnerScan.{heldPart}
 use Rattle.job.proofs.Advance.{one-less}
 use Rattle.job.proofs.Walk.{ReaderInv, inv-start, height-most, used-up, node-refused, node-ready, node-read, over, complete}
 use Rattle.job.proofs.nodes.Statement.{statement}

@@ -6,7 +6,7 @@ use native.Mathlib.Omega.{arith}
 use lib.ListN.{length, drop, getD}
 use borrow.Author.Tests.{not-true, not-false}
 use Rattle.scan.specs.declared.Scan.{Scan}
-use Rattle.scan.specs.View.{viewed, ShortFork}
+use Rattle.scan.specs.InnerView.{viewed, ShortFork}
 use Rattle.script.proofs.Numbers.{bytes-drop, bytes-of}
 use Rattle.scan.proofs.Fits.{good-of}
 use Rattle.scan.proofs.Loops.{ahead, Loop, loop-start, settle-bad, at-end, step-bad, step-good, further, op-small}

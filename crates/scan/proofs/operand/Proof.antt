@@ -4,7 +4,7 @@ use mathlib.Core.Path.{_≡_}
 use native.Mathlib.Decide.{ℕ-discrete}
 use native.Mathlib.Omega.{arith}
 use borrow.Author.Tests.{ne-eqb}
-use Rattle.code.specs.Reader.{opcodeOperand}
+use Rattle.code.specs.Ops.{opcodeOperand}
 use Rattle.scan.proofs.operand.Statement.{statement}
 use Rattle.scan.proofs.operand.Tie as tie
 

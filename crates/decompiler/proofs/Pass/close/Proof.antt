@@ -1,6 +1,6 @@
 -- `decompiler::Pass::close` meets its contract. Assumes nothing.
 use mathlib.Core.Path.{refl}
-use Rattle.decompiler.specs.State.{childShut}
+use Rattle.decompiler.specs.InnerState.{childShut}
 use borrow.Author.Needs.{needs}
 use Rattle.decompiler.proofs.Pass.close.Statement.{statement}
 use Rattle.decompiler.proofs.Pass.close.Tie as tie

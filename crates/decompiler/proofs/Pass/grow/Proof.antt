@@ -1,6 +1,6 @@
 -- `decompiler::Pass::grow` meets its contract. Assumes nothing.
 use mathlib.Core.Path.{refl}
-use Rattle.decompiler.specs.State.{partGrown}
+use Rattle.decompiler.specs.InnerState.{partGrown}
 use borrow.Author.Needs.{needs}
 use Rattle.decompiler.proofs.Pass.grow.Statement.{statement}
 use Rattle.decompiler.proofs.Pass.grow.Tie as tie

@@ -1,7 +1,7 @@
 -- `decompiler::Pass::is_at_end` meets its contract. Assumes nothing.
 use native.Mathlib.Omega.{arith}
 use borrow.Author.Tests.{le-ltb, lt-ltb}
-use Rattle.decompiler.specs.State.{atEnd}
+use Rattle.decompiler.specs.InnerState.{atEnd}
 use borrow.Author.Needs.{needs}
 use Rattle.decompiler.proofs.Pass.is_at_end.Statement.{statement}
 use Rattle.decompiler.proofs.Pass.is_at_end.Tie as tie

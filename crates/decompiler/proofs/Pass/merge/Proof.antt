@@ -1,6 +1,6 @@
 -- `decompiler::Pass::merge` meets its contract. Assumes nothing.
 use mathlib.Core.Path.{refl}
-use Rattle.decompiler.specs.State.{partsMerged}
+use Rattle.decompiler.specs.InnerState.{partsMerged}
 use borrow.Author.Needs.{needs}
 use Rattle.decompiler.proofs.Pass.merge.Statement.{statement}
 use Rattle.decompiler.proofs.Pass.merge.Tie as tie

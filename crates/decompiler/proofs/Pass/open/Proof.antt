@@ -1,6 +1,6 @@
 -- `decompiler::Pass::open` meets its contract. Assumes nothing.
 use mathlib.Core.Path.{refl}
-use Rattle.decompiler.specs.State.{childOpened}
+use Rattle.decompiler.specs.InnerState.{childOpened}
 use borrow.Author.Needs.{needs}
 use Rattle.decompiler.proofs.Pass.open.Statement.{statement}
 use Rattle.decompiler.proofs.Pass.open.Tie as tie

@@ -1,6 +1,6 @@
 -- `decompiler::Pass::push` meets its contract. Assumes nothing.
 use mathlib.Core.Path.{refl}
-use Rattle.decompiler.specs.State.{partPushed}
+use Rattle.decompiler.specs.InnerState.{partPushed}
 use borrow.Author.Needs.{needs}
 use Rattle.decompiler.proofs.Pass.push.Statement.{statement}
 use Rattle.decompiler.proofs.Pass.push.Tie as tie

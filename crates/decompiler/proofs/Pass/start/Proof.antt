@@ -1,6 +1,6 @@
 -- `decompiler::Pass::start` meets its contract. Assumes nothing.
 use mathlib.Core.Path.{refl}
-use Rattle.decompiler.specs.State.{firstState}
+use Rattle.decompiler.specs.InnerState.{firstState}
 use Rattle.decompiler.proofs.Pass.start.Statement.{statement}
 use Rattle.decompiler.proofs.Pass.start.Tie as tie
 

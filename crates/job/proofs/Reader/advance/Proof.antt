@@ -3,7 +3,7 @@ use Prim.Native.Nat.{ℕ}
 use mathlib.Core.Path.{ap}
 use native.Mathlib.Omega.{arith}
 use Rattle.job.specs.declared.Reader.{Reader}
-use Rattle.job.specs.Scan.{duePushed}
+use Rattle.job.specs.InnerScan.{duePushed}
 use Rattle.job.proofs.Advance.{code-small, is-addp, is-atomic, is-fork, is-addt, is-write, is-leaf}
 use borrow.Author.Needs.{needs}
 use Rattle.job.proofs.Reader.advance.Statement.{statement}

@@ -1,6 +1,6 @@
 -- `job::Reader::push` meets its contract. Assumes nothing.
 use mathlib.Core.Path.{refl}
-use Rattle.job.specs.Scan.{duePushed}
+use Rattle.job.specs.InnerScan.{duePushed}
 use borrow.Author.Needs.{needs}
 use Rattle.job.proofs.Reader.push.Statement.{statement}
 use Rattle.job.proofs.Reader.push.Tie as tie

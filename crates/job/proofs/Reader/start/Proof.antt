@@ -1,6 +1,6 @@
 -- `job::Reader::start` meets its contract. Assumes nothing.
 use mathlib.Core.Path.{refl}
-use Rattle.job.specs.Scan.{rootDue}
+use Rattle.job.specs.InnerScan.{rootDue}
 use borrow.Author.Needs.{needs}
 use Rattle.job.proofs.Reader.start.Statement.{statement}
 use Rattle.job.proofs.Reader.start.Tie as tie

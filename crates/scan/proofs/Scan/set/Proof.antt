@@ -1,7 +1,7 @@
 -- `scan::Scan::set` meets its contract. Assumes nothing.
 use mathlib.Core.Path.{_∙_}
 use native.Mathlib.Omega.{arith}
-use Rattle.scan.specs.View.{itemPut}
+use Rattle.scan.specs.InnerView.{itemPut}
 use Rattle.scan.proofs.Branches.{set-deep, set-many, set-forks, set-done}
 use borrow.Author.Needs.{needs}
 use Rattle.scan.proofs.Scan.set.Statement.{statement}

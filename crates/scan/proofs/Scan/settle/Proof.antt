@@ -6,7 +6,7 @@ use native.Mathlib.Omega.{arith}
 use lib.ListN.{getD}
 use borrow.Author.Tests.{not-true, not-false}
 use Rattle.scan.specs.declared.Scan.{Scan}
-use Rattle.scan.specs.View.{GoodScan, viewed, closeTo, Settled}
+use Rattle.scan.specs.InnerView.{GoodScan, viewed, closeTo, Settled}
 use Rattle.scan.proofs.Steps.{close-place}
 use Rattle.scan.proofs.Fits.{good-of, close-fit}
 use Rattle.scan.proofs.Loops.{remaining, none-open, not-here, close-bad, close-good, one-less, Closes}

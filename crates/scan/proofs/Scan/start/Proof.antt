@@ -1,6 +1,6 @@
 -- `scan::Scan::start` meets its contract. Assumes nothing.
 use mathlib.Core.Path.{refl}
-use Rattle.scan.specs.View.{emptyScan}
+use Rattle.scan.specs.InnerView.{emptyScan}
 use Rattle.scan.proofs.Scan.start.Statement.{statement}
 use Rattle.scan.proofs.Scan.start.Tie as tie
 

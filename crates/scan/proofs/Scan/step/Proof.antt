@@ -6,7 +6,7 @@ use native.Mathlib.Omega.{arith}
 use Rattle.scan.specs.declared.Op.{Op}
 use Rattle.scan.specs.declared.Op.the-variants as op
 use Rattle.scan.specs.declared.Scan.{Scan}
-use Rattle.scan.specs.View.{GoodScan, ShortFork, topTo, movedTo, forkTo}
+use Rattle.scan.specs.InnerView.{GoodScan, ShortFork, topTo, movedTo, forkTo}
 use Rattle.scan.proofs.Steps.{top-place, add-place, write-place, commit-place, top-few, top-forked, push-inside, push-outside, an-add, read-inside, read-outside, a-write, begin-inside, begin-outside, a-commit, fork-inside, fork-outside, a-foreign}
 use borrow.Author.Needs.{needs}
 use Rattle.scan.proofs.Scan.step.Statement.{statement}

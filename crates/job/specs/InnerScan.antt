@@ -1,4 +1,4 @@
--- What the reader's own functions do, for its proof: a step of `readNodes` on a small array of what is due.
+-- For the proof of `read_job` only: what its functions do, a step of `readNodes` on a small array of what is due.
 use Prim.Native.Nat.{ℕ, zero, suc, _+_, _-_, _%_, _≤_, _<_}
 use mathlib.Core.Bool.{Bool, true, false, cond, _||_}
 use mathlib.Core.List.{List, [], _∷_}
@@ -10,7 +10,7 @@ use Rattle.job.specs.declared.Reader.{Reader}
 use Rattle.script.specs.Tree.{Sort, process, transaction}
 use Rattle.script.specs.Bytes.{Node, VALP, ADDP, ATOMIC, FORK, VALT, ADDT, READ, WRITE}
 use Rattle.script.specs.Outcome.{Outcome, refused, done}
-use Rattle.script.specs.Reader.{Due, operand}
+use Rattle.script.specs.Jobs.{Due, operand}
 
 abbrev pub sortOf : Bool → Sort
 sortOf true = transaction

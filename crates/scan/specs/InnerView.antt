@@ -1,4 +1,4 @@
--- What the scan's own functions do, for its proof: the arrays stand for the lists of code/specs/Scan.antt.
+-- For the proof of `scan_code` only: what its functions do, the arrays standing for the lists of code/specs/InnerScan.antt.
 use Prim.Native.Nat.{ℕ, zero, suc, _+_, _*_, _-_, _≤_, _<_, max}
 use mathlib.Core.Bool.{Bool, true, false, cond}
 use mathlib.Core.Path.{_≡_}
@@ -8,10 +8,10 @@ use lib.ListN.{length, getD, set, replicate}
 use Rattle.scan.specs.declared.Op.{Op}
 use Rattle.scan.specs.declared.Op.the-variants as op
 use Rattle.scan.specs.declared.Scan.{Scan}
-use Rattle.code.specs.Reader.{foreign, push, add, read, write, begin, commit, fork}
-use Rattle.code.specs.Reader as code
-use Rattle.code.specs.Scan.{ScanItem}
-use Rattle.code.specs.Scan as list
+use Rattle.code.specs.Ops.{foreign, push, add, read, write, begin, commit, fork}
+use Rattle.code.specs.Ops as code
+use Rattle.code.specs.InnerScan.{ScanItem}
+use Rattle.code.specs.InnerScan as list
 use Rattle.script.specs.Outcome.{Outcome, refused, done}
 
 -- the stack, the topmost item first, and the ends of the open FORKs' children, the innermost first

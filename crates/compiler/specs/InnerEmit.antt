@@ -1,4 +1,4 @@
--- What the emitter's own functions do, for its proof.
+-- For the proof of `compile` only: what its functions do.
 use Prim.Native.Nat.{ℕ, _+_, _≤_}
 use mathlib.Core.Path.{_≡_}
 use mathlib.Core.List.{List, [], _∷_, _++_}

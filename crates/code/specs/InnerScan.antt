@@ -1,19 +1,22 @@
--- Reading code back without building its tree, as crate `scan` does it: of each finished part only what the limits need is kept.
+-- For the proof of `scan_code` only: reading code back without building its tree, of each finished part only what the limits need.
 -- `scan-is-read` (proofs/Scans.antt): it is `readCode`, and what it counts is what the tree has.
 use Prim.Native.Nat.{ℕ, zero, suc, _+_, max}
 use mathlib.Core.Bool.{Bool, true, false, cond, not, _&&_}
 use mathlib.Core.List.{List, [], _∷_}
 use lib.Dec.{eqb, leb, ltb}
 use lib.ListN.{length, drop}
-use Rattle.code.specs.Reader.{foreign, Op, push, add, read, write, begin, commit, fork, opAt, sizeOf, endsAfter, codeMarked}
+use Rattle.code.specs.Ops.{foreign, Op, push, add, read, write, begin, commit, fork, opAt, sizeOf}
+use Rattle.code.specs.Reader.{endsAfter, codeMarked}
 use Rattle.script.specs.Count.{nodesP}
 use Rattle.script.specs.Bytes.{jobBytes}
 use Rattle.script.specs.Limits.{mostNodes, mostDepth, mostForks}
 use Rattle.script.specs.Outcome.{Outcome, refused, done, refuse, onward, mapped}
-use Rattle.script.specs.Reader.{Job, number16, taken}
+use Rattle.script.specs.Jobs.{Job, number16}
+use Rattle.script.specs.Reader.{taken}
 
--- an item of the stack. Its kind is no node's kind: 0 for a BEGIN, 1 for a FORK, 2 for a process, 3 for a transaction; and the depth that its deepest node has at
--- least in any tree that the code can become: its place on the stack, counted from 0 at the bottom, and its own depth
+-- an item of the stack. Its kind is no node's kind: 0 for a BEGIN, 1 for a FORK, 2 for a process, 3 for a transaction; and the depth
+-- that its deepest node has at least in any tree that the code can become: its place on the stack, counted from 0 at the bottom, and
+-- its own depth
 pub record ScanItem : Type 0 where
   pub kind : ℕ
   pub reach : ℕ

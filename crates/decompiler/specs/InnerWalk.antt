@@ -1,18 +1,18 @@
--- How the pass follows `readOps`: what its state and its output are of the stack that is read.
+-- For the proof of `read_back` only: how the pass follows `readOps`, its state and its output the stack that is read.
 use Prim.Native.Nat.{ℕ, _+_, _*_, _-_, _≤_, _<_}
 use mathlib.Core.Path.{_≡_}
 use mathlib.Core.Bool.{Bool, true, false}
 use mathlib.Core.List.{List, [], _∷_, _++_}
 use lib.ListN.{length, drop, getD}
 use Rattle.decompiler.specs.declared.Pass.{Pass}
-use Rattle.decompiler.specs.Parts.{onto}
+use Rattle.decompiler.specs.InnerParts.{onto}
 use Rattle.code.specs.Reader.{Item, proc, tran, begun, forked, readOps, readCode}
-use Rattle.code.specs.Parts.{jobText, forksI}
+use Rattle.code.specs.InnerParts.{jobText, forksI}
 use Rattle.script.specs.Tree.{Proc}
 use Rattle.script.specs.Count.{nodesP, depthP, forks}
 use Rattle.script.specs.Bytes.{Bytes, bytesP, jobBytes}
 use Rattle.script.specs.Outcome.{done}
-use Rattle.script.specs.Reader.{Job}
+use Rattle.script.specs.Jobs.{Job}
 
 -- where each part starts in the job
 abbrev pub Starts : List ℕ → List Item → Type 0

@@ -1,4 +1,4 @@
--- What a part on the reader's stack holds of the job that the code becomes.
+-- For proofs only: what a part on the reader's stack holds of the job that the code becomes.
 use Prim.Native.Nat.{ℕ, _+_}
 use mathlib.Core.List.{List, [], _∷_, _++_}
 use Rattle.code.specs.Reader.{Item, proc, tran, begun, forked}

@@ -1,4 +1,4 @@
--- What the pass's own functions do to its state.
+-- For the proof of `read_back` only: what its functions do to the state of the pass.
 use Prim.Native.Nat.{ℕ, _+_, _-_, _≤_, _<_}
 use mathlib.Core.Bool.{Bool, _&&_}
 use lib.Dec.{eqb, ltb}

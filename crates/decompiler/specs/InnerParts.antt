@@ -1,4 +1,4 @@
--- What is written to the front of a list, and what is put between its parts.
+-- For the proof of `read_back` only: what its functions write to the front of the output and put between its parts.
 use Prim.Native.Nat.{ℕ, _+_, _-_}
 use mathlib.Core.Bool.{Bool, true, false}
 use mathlib.Core.List.{List, _∷_, _++_}
