@@ -10,7 +10,7 @@ use Rattle.code.specs.Reader.{endsAfter, codeMarked}
 use Rattle.script.specs.Count.{nodesP}
 use Rattle.script.specs.Bytes.{jobBytes}
 use Rattle.script.specs.Limits.{mostNodes, mostDepth, mostForks}
-use Rattle.script.specs.Outcome.{Outcome, refused, done, refuse, onward, mapped}
+use Rattle.script.specs.Outcome.{Outcome, done, refuse, onward, mapped}
 use Rattle.script.specs.Jobs.{Job, number16}
 use Rattle.script.specs.Reader.{taken}
 
