@@ -1,18 +1,17 @@
 -- The tests of one node, on the job and the place. Assumes nothing.
-use Prim.Native.Nat.{ℕ, zero, suc, _+_, _-_, _≤_, _<_}
-use mathlib.Core.Path.{_≡_, refl, sym, ap, subst, _∙_}
+use Prim.Native.Nat.{ℕ, suc, _+_, _-_, _≤_, _<_}
+use mathlib.Core.Path.{_≡_, refl, ap, _∙_}
 use mathlib.Core.Bool.{Bool, true, false, and-false}
-use mathlib.Core.List.{List, [], _∷_}
+use mathlib.Core.List.{List}
 use native.Mathlib.Omega.{arith}
-use lib.Dec.{eqb, leb}
+use lib.Dec.{eqb}
 use lib.ListN.{length, drop, getD, length-drop, drop-of-length-le}
 use lib.Seq.{drop-cons, getD-drop}
 use borrow.Author.Tests.{lt-ltb, le-ltb, le-leb, lt-leb, eq-eqb, ne-eqb}
 use Rattle.job.specs.declared.Tested.{Tested}
 use Rattle.job.specs.declared.Tested.the-variants.{Kind, Refused}
 use Rattle.job.specs.InnerScan.{sortOf, kindByte, tested}
-use Rattle.script.specs.Tree.{Sort, process, transaction}
-use Rattle.script.specs.Outcome.{Outcome, refused, done}
+use Rattle.script.specs.Tree.{Sort}
 use Rattle.script.specs.Jobs.{operand}
 use Rattle.script.specs.Reader.{permitted, nodeOf, nodeAt}
 use Rattle.script.proofs.Nodes.{Kind as Kinds, valP, addP, atomic, fork, valT, addT, read, write, other, kind-of, permitted-no}

@@ -1,26 +1,25 @@
 -- The reader's loop follows `readNodes`: what is due in its array, what it counts, and why it stays within its bounds. Assumes nothing.
 use Prim.Native.Nat.{ℕ, zero, suc, _+_, _*_, _-_, _%_, _≤_, _<_}
-use mathlib.Core.Path.{_≡_, refl, sym, ap, ap₂, subst, _∙_}
+use mathlib.Core.Path.{_≡_, refl, sym, ap, subst, _∙_}
 use mathlib.Core.Bool.{Bool, true, false, _||_}
-use mathlib.Core.List.{List, [], _∷_, _++_}
+use mathlib.Core.List.{List, [], _∷_}
 use native.Mathlib.Decide.{decLt}
 use native.Mathlib.Omega.{arith}
-use lib.Dec.{leb, ltb}
+use lib.Dec.{ltb}
 use lib.ListN.{length, drop, getD, set, replicate, length-set, length-drop, length-append}
 use lib.Seq.{getD-set-same, getD-set-other, drop-drop}
 use borrow.Author.Tests.{le-leb, lt-leb, eq-eqb, ne-eqb, le-ltb, ltb-false}
-use Rattle.job.specs.declared.Tested.{Tested}
 use Rattle.job.specs.declared.Tested.the-variants.{Kind, Refused}
 use Rattle.job.specs.declared.Reading.{Reading}
 use Rattle.job.specs.declared.Reading.the-variants as reading
 use Rattle.job.specs.declared.Reader.{Reader}
 use Rattle.job.specs.Answer.{answer}
-use Rattle.job.specs.InnerScan.{sortOf, kindByte, tested, codeOfKind, rootDue, duePushed, partDepth, popped, advanced, CanAdvance, heldPart, dueOf}
-use Rattle.script.specs.Tree.{Proc, Sort, process, transaction, Tree}
+use Rattle.job.specs.InnerScan.{kindByte, tested, codeOfKind, rootDue, duePushed, partDepth, popped, advanced, CanAdvance, heldPart, dueOf}
+use Rattle.script.specs.Tree.{Sort, process, transaction}
 use Rattle.script.specs.Count.{codeT, codeP, codeLength, codeSize}
 use Rattle.script.specs.Bytes.{Bytes, bytes32, Node, VALP, ADDP, ATOMIC, FORK, VALT, ADDT, READ, WRITE, nodeBytes}
 use Rattle.script.specs.Outcome.{Outcome, refused, done, mapped}
-use Rattle.script.specs.Jobs.{Due, operand, partsThen, forkOf, Job, root}
+use Rattle.script.specs.Jobs.{Due, operand, partsThen, forkOf, root}
 use Rattle.script.specs.Reader.{Forest, nodeAt, grown, readNodes, whole}
 use Rattle.script.proofs.Nodes.{Sees, good, node-sees, seen}
 use Rattle.script.proofs.Numbers.{bytes-drop}

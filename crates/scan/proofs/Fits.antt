@@ -1,11 +1,10 @@
 -- A good scan stays within its arrays and its limits. Assumes nothing.
-use Prim.Native.Nat.{ℕ, zero, suc, _+_, _*_, _-_, _≤_, _<_, max}
+use Prim.Native.Nat.{ℕ, _+_, _*_, _-_, _≤_, _<_, max}
 use mathlib.Core.Path.{_≡_, refl, sym, ap, subst, _∙_}
 use mathlib.Core.Bool.{Bool, true, false, cond}
-use mathlib.Core.List.{List}
 use native.Mathlib.Decide.{decLt, ℕ-discrete}
 use native.Mathlib.Omega.{arith}
-use lib.ListN.{length, getD, set, length-set}
+use lib.ListN.{length-set}
 use Rattle.scan.specs.declared.Op.the-variants as op
 use Rattle.scan.specs.declared.Scan.{Scan}
 use Rattle.scan.specs.InnerView.{GoodScan, bad, itemPut, setTo, topTo, kindAt, reachAt, addTo, writeTo, commitTo, joined, closeTo, movedTo, opened, forkTo, erase, stepTo}

@@ -20,9 +20,9 @@ use Rattle.code.proofs.Foreign.{Eleven, op-eleven}
 use Rattle.script.proofs.Numbers.{bytes-drop}
 use Rattle.script.specs.Bytes.{Bytes}
 use Rattle.script.specs.Outcome.{Outcome, refused, done, refuse, onward, mapped}
-use Rattle.scan.proofs.Branches.{close-low, close-above, close-below, close-done, finish-open, finish-more, finish-other, finish-done}
-use Rattle.scan.proofs.Views.{bad-viewed, good-viewed, stack-push, stack-one, stack-length, two-top, two-low, one-top, one-low, at-index, both-bad, fails, passes, both-true, left-false, right-false, step-viewed}
-use Rattle.scan.proofs.Fits.{good-of, Closing, closing, close-fit, step-fit, step-place, foreign-bad}
+use Rattle.scan.proofs.Branches.{close-done, finish-open, finish-more, finish-other, finish-done}
+use Rattle.scan.proofs.Views.{good-viewed, stack-push, stack-length, two-top, two-low, one-top, one-low, at-index, both-bad, fails, passes, both-true, left-false, right-false, step-viewed}
+use Rattle.scan.proofs.Fits.{good-of, closing, step-fit, step-place, foreign-bad}
 
 -- ---- the children that end at a place
 

@@ -1,24 +1,23 @@
 -- The scan's arrays follow the lists of code/specs/InnerScan.antt, instruction by instruction. Assumes nothing.
-use Prim.Native.Nat.{ℕ, zero, suc, _+_, _*_, _-_, _≤_, _<_, max}
-use mathlib.Core.Path.{_≡_, refl, sym, ap, ap₂, subst, _∙_}
+use Prim.Native.Nat.{ℕ, zero, suc, _+_, _-_, _≤_, _<_, max}
+use mathlib.Core.Path.{_≡_, refl, sym, ap, ap₂, _∙_}
 use mathlib.Core.Bool.{Bool, true, false, cond, not, _&&_}
-use mathlib.Core.List.{List, [], _∷_}
+use mathlib.Core.List.{List, _∷_}
 use native.Mathlib.Decide.{decLt, ℕ-discrete}
 use native.Mathlib.Omega.{arith}
-use lib.Dec.{eqb, leb, ltb}
+use lib.Dec.{eqb, leb}
 use lib.IntN.{ℤ}
-use lib.ListN.{length, getD, set, length-set}
+use lib.ListN.{length, getD, set}
 use lib.Seq.{getD-set-same, getD-set-other}
 use borrow.Author.Tests.{lt-ltb, le-ltb, le-leb, lt-leb, eq-eqb, ne-eqb}
 use Rattle.scan.specs.declared.Scan.{Scan}
-use Rattle.scan.specs.InnerView.{stackOf, endsOf, view, ifGood, viewed, GoodScan, ItemRoom, bad, itemPut, setTo, topTo, kindAt, reachAt, addTo, writeTo, commitTo, joined, closeTo, movedTo, opened, forkTo, erase, stepTo, finishTo}
-use Rattle.code.specs.Ops.{foreign, Op, push, add, read, write, begin, commit, fork, sizeOf}
-use Rattle.code.specs.Reader.{endsAfter}
-use Rattle.code.specs.InnerScan.{ScanItem, bounded, topped, merged, twoTop, oneTop, scanOp, movedPast, closes, finished}
+use Rattle.scan.specs.InnerView.{stackOf, endsOf, view, ifGood, viewed, GoodScan, ItemRoom, bad, itemPut, setTo, topTo, kindAt, reachAt, addTo, writeTo, commitTo, movedTo, opened, forkTo, erase, stepTo}
+use Rattle.code.specs.Ops.{foreign, Op, push, add, read, write, begin, commit, fork}
+use Rattle.code.specs.InnerScan.{ScanItem, bounded, topped, merged, twoTop, oneTop, scanOp, movedPast}
 use Rattle.code.specs.InnerScan as list
-use Rattle.script.specs.Outcome.{Outcome, refused, done, refuse, onward, mapped}
-use Rattle.scan.proofs.Branches.{add-low, add-part, add-other, add-done, write-low, write-outside, write-other, write-done, commit-low, commit-outside, commit-above, commit-below, commit-done, close-low, close-above, close-below, close-done, fork-bad, fork-done, when-true, when-false}
-use Rattle.scan.proofs.Steps.{set-good, top-few, top-forked, top-ends}
+use Rattle.script.specs.Outcome.{Outcome, done, refuse, mapped}
+use Rattle.scan.proofs.Branches.{add-low, add-part, add-other, add-done, write-low, write-outside, write-other, write-done, commit-low, commit-outside, commit-above, commit-below, commit-done, fork-bad, fork-done, when-true, when-false}
+use Rattle.scan.proofs.Steps.{top-few, top-forked, top-ends}
 
 -- ---- the stack in the arrays
 

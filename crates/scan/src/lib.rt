@@ -1,5 +1,5 @@
 // Whether code is foreign, and what is known of the job that compiles to it: one pass over the code, with a stack of 64 items.
-ghost use Prim.Native.Nat.{_*_, _+_, _<_, _≤_, max, suc};
+ghost use Prim.Native.Nat.{_+_, _<_, _≤_, max, suc};
 ghost use lib.Dec.{eqb};
 ghost use lib.ListN.{drop, length};
 ghost use mathlib.Core.Bool.{_&&_, true};
@@ -75,15 +75,12 @@ fn op_at(code: &[u8], place: usize) -> Op
     match opcode {
         1 => Op::Push,
         2 => Op::Add,
-        3 => {
+        3 | 4 => {
             if code[place + 1] >= 64 {
                 return Op::Foreign;
             }
-            Op::Read
-        }
-        4 => {
-            if code[place + 1] >= 64 {
-                return Op::Foreign;
+            if opcode == 3 {
+                return Op::Read;
             }
             Op::Write
         }

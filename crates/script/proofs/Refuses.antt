@@ -14,7 +14,7 @@ use Rattle.script.specs.Bytes.{Bytes, Node, nodeBytes, jobMark}
 use Rattle.script.specs.Outcome.{Outcome, refused, done, mapped}
 use Rattle.script.specs.Jobs.{Due, number16, partsThen, forkOf, root}
 use Rattle.script.specs.Reader.{Forest, grown, readNodes, jobMarked, taken, readJob}
-use Rattle.script.specs.Refusal.{Permitted, DueNode, Allowed, Long, Marked, Versioned, Counted, Reaches, start, next, Refused, cut-header, cut-node, cut-operand, mark, version, count, kind, register, depth, forks, used-up, nodes-over, bytes-over}
+use Rattle.script.specs.Refusal.{Permitted, DueNode, Long, Marked, Versioned, Counted, Reaches, start, next, Refused, cut-header, cut-node, cut-operand, mark, version, count, kind, register, depth, forks, used-up, nodes-over, bytes-over}
 use Rattle.script.proofs.Numbers.{bytes-drop}
 use Rattle.script.proofs.Nodes.{Sees, no-byte, bad-kind, too-deep, cut, bad-register, many-forks, good, node-sees, seen}
 use Rattle.script.proofs.Reading.{read-one, bytes-behind}

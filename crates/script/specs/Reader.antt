@@ -5,7 +5,7 @@ use mathlib.Core.Bool.{Bool, cond, not, _&&_}
 use mathlib.Core.List.{List, [], _∷_}
 use lib.Dec.{eqb, leb, ltb}
 use lib.ListN.{length, drop, getD}
-use Rattle.script.specs.Tree.{Proc, ValP, AddP, Atomic, Fork, ValT, AddT, Read, Write, Sort, process, transaction, Tree}
+use Rattle.script.specs.Tree.{ValP, AddP, Atomic, Fork, ValT, AddT, Read, Write, Sort, process, transaction, Tree}
 use Rattle.script.specs.Limits.{mostNodes, mostDepth, mostForks}
 use Rattle.script.specs.Bytes.{Node, VALP, ADDP, ATOMIC, FORK, VALT, ADDT, READ, WRITE, nodeBytes}
 use Rattle.script.specs.Jobs.{number16, number32, operand, Due, root, partsThen, forkOf, Job}

@@ -1,9 +1,7 @@
 -- `job::nodes` meets its contract: the loop follows `readNodes`, and what is left of the count falls. Assumes nothing.
 use Prim.Native.Nat.{ℕ}
 use mathlib.Core.Path.{sym, ap, subst, _∙_}
-use mathlib.Core.List.{List}
 use native.Mathlib.Omega.{arith}
-use lib.ListN.{getD}
 use Rattle.script.proofs.Numbers.{bytes-of}
 use Rattle.job.specs.declared.Reader.{Reader}
 use Rattle.job.specs.InnerScan.{heldPart}

@@ -1,9 +1,5 @@
 -- `scan::scan_code` meets its contract: the header, then the instructions. Assumes nothing.
-use Prim.Native.Nat.{ℕ}
 use mathlib.Core.Path.{sym, _∙_}
-use mathlib.Core.List.{List}
-use native.Mathlib.Omega.{arith}
-use lib.ListN.{getD}
 use borrow.Author.Tests.{not-true, not-false}
 use Rattle.script.proofs.Numbers.{bytes-of}
 use Rattle.code.specs.Reader.{codeMarked}
