@@ -6,8 +6,10 @@ use native.Mathlib.Omega.{arith}
 use lib.ListN.{length, drop, getD, length-append, length-drop, length-take}
 use Rattle.compiler.specs.declared.Part.{Part}
 use Rattle.delivery.specs.Delivered.{onto}
-use Rattle.compiler.specs.InnerEmit.{Emitted, Has, Emittable, treeCode, forkBytes, part, placed, pushBytes, readBytes}
-use Rattle.compiler.proofs.Lists.{rest, rest-length, back, lent, placed-onto, onto-placed, onto-length}
+use Rattle.compiler.specs.InnerEmit.{Emitted, Has, Emittable, treeCode, forkBytes, part, pushBytes, readBytes}
+use Rattle.delivery.specs.InnerPlaces.{placedAt}
+use Rattle.compiler.proofs.Lists.{rest, rest-length, back, lent}
+use Rattle.delivery.proofs.Places.{placed-onto, onto-placed, onto-length}
 use Rattle.compiler.proofs.Nodes.{PushAt, ReadAt, OneAt, TwoAt, AtomicAt, ForkAt, WriteAt}
 use Rattle.script.specs.Tree.{Sort, Tree}
 use Rattle.script.specs.Count.{depth}
@@ -97,10 +99,10 @@ one-answer size o e a z =
     let l = simp length-append at (ap length (o .runs)) in
     part-is a (omega (arith, next-of e, o .text)) (omega arith)
 
-pub atomic-emitted : {bs : List ℕ} {i : ℕ} {s : Sort} {t : Tree s} {r q : Part} {xs ys zs : List ℕ} (o : AtomicAt bs i s t) → 1 ≤ length xs → Emitted (i + 1) q (rest 1 xs) ys (o .sort) (o .tree) → r ≡ part (q .next) (1 + q .size + 1) → zs ≡ placed (1 + q .size) (6 ∷ []) (onto (5 ∷ []) (back 1 xs ys)) → Emitted i r xs zs s t
+pub atomic-emitted : {bs : List ℕ} {i : ℕ} {s : Sort} {t : Tree s} {r q : Part} {xs ys zs : List ℕ} (o : AtomicAt bs i s t) → 1 ≤ length xs → Emitted (i + 1) q (rest 1 xs) ys (o .sort) (o .tree) → r ≡ part (q .next) (1 + q .size + 1) → zs ≡ placedAt (1 + q .size) (6 ∷ []) (onto (5 ∷ []) (back 1 xs ys)) → Emitted i r xs zs s t
 atomic-emitted {q = q} {xs = xs} {ys = ys} {zs = zs} o h e a z =
     let c = treeCode (o .sort) (o .tree) in
-    let b : back 1 xs ys ≡ placed 1 c xs = ap (back 1 xs) (e .output) ∙ lent 1 c xs h in
+    let b : back 1 xs ys ≡ placedAt 1 c xs = ap (back 1 xs) (e .output) ∙ lent 1 c xs h in
     let n = size-of e in
     record {
       answer = one-answer _ o e a (omega arith);
@@ -111,14 +113,14 @@ pub fork-emitted : {bs : List ℕ} {i : ℕ} {s : Sort} {t : Tree s} {r q : Part
 unfolding bytes16
 fork-emitted {xs = xs} {ys = ys} {zs = zs} o h e a z =
     let c = treeCode (o .sort) (o .tree) in
-    let b : back 3 xs ys ≡ placed 3 c xs = ap (back 3 xs) (e .output) ∙ lent 3 c xs h in
+    let b : back 3 xs ys ≡ placedAt 3 c xs = ap (back 3 xs) (e .output) ∙ lent 3 c xs h in
     let n = size-of e in
     record {
       answer = one-answer _ o e a (omega arith);
       output = onto-is xs (z ∙ (rw (b, n) (onto-placed 3 (forkBytes (length c)) c xs refl h))) (rw append-nil at (o .runs));
     }
 
-pub write-emitted : {bs : List ℕ} {i : ℕ} {s : Sort} {t : Tree s} {r q : Part} {xs ys zs : List ℕ} (o : WriteAt bs i s t) → Emitted (i + 2) q xs ys (o .sort) (o .tree) → r ≡ part (q .next) (q .size + 2) → zs ≡ placed (q .size) (4 ∷ getD bs (i + 1) 0 ∷ []) ys → Emitted i r xs zs s t
+pub write-emitted : {bs : List ℕ} {i : ℕ} {s : Sort} {t : Tree s} {r q : Part} {xs ys zs : List ℕ} (o : WriteAt bs i s t) → Emitted (i + 2) q xs ys (o .sort) (o .tree) → r ≡ part (q .next) (q .size + 2) → zs ≡ placedAt (q .size) (4 ∷ getD bs (i + 1) 0 ∷ []) ys → Emitted i r xs zs s t
 write-emitted {xs = xs} {ys = ys} {zs = zs} o e a z =
     record {
       answer = one-answer _ o e a (omega (arith, size-of e));
@@ -126,7 +128,7 @@ write-emitted {xs = xs} {ys = ys} {zs = zs} o e a z =
     }
 
 -- a sum: the right code behind the left, then ADD
-pub sum-emitted : {bs : List ℕ} {i : ℕ} {s : Sort} {t : Tree s} {r p q : Part} {xs ys us zs : List ℕ} (o : TwoAt bs i s t) → length (treeCode s (o .left)) ≤ length xs → Emitted (i + 1) p xs ys s (o .left) → Emitted (p .next) q (rest (p .size) ys) us s (o .right) → r ≡ part (q .next) (p .size + q .size + 1) → zs ≡ placed (p .size + q .size) (2 ∷ []) (back (p .size) ys us) → Emitted i r xs zs s t
+pub sum-emitted : {bs : List ℕ} {i : ℕ} {s : Sort} {t : Tree s} {r p q : Part} {xs ys us zs : List ℕ} (o : TwoAt bs i s t) → length (treeCode s (o .left)) ≤ length xs → Emitted (i + 1) p xs ys s (o .left) → Emitted (p .next) q (rest (p .size) ys) us s (o .right) → r ≡ part (q .next) (p .size + q .size + 1) → zs ≡ placedAt (p .size + q .size) (2 ∷ []) (back (p .size) ys us) → Emitted i r xs zs s t
 sum-emitted {s = s} {p = p} {q = q} {xs = xs} {ys = ys} {us = us} {zs = zs} o h e f a z =
     let cl = treeCode s (o .left) in
     let cr = treeCode s (o .right) in

@@ -95,7 +95,13 @@ View bs i s t kind =
     (pick
     (eqb kind 3)
     (AtomicAt bs i s t)
-    (pick (eqb kind 4) (ForkAt bs i s t) (pick (eqb kind 7) (ReadAt bs i s t) (pick (eqb kind 8) (WriteAt bs i s t) (TwoAt bs i s t))))))
+    (pick
+    (eqb kind 4)
+    (ForkAt bs i s t)
+    (pick
+    (eqb kind 7)
+    (ReadAt bs i s t)
+    (pick (eqb kind 8) (WriteAt bs i s t) (pick (eqb kind 2) (TwoAt bs i s t) (pick (eqb kind 6) (TwoAt bs i s t) ⊥)))))))
 
 module _ (bs : List ℕ) (i : ℕ) where
   -- four bytes behind the kind byte
@@ -226,9 +232,13 @@ module _ (bs : List ℕ) (i : ℕ) where
     pub as-write : getD bs i 0 ≡ 8 → WriteAt bs i s t
     as-write e = subst (View bs i s t) e (view s t h)
 
-    pub as-two : (getD bs i 0 ≡ 1 → ⊥) → (getD bs i 0 ≡ 5 → ⊥) → (getD bs i 0 ≡ 3 → ⊥) → (getD bs i 0 ≡ 4 → ⊥) → (getD bs i 0 ≡ 7 → ⊥) → (getD bs i 0 ≡ 8 → ⊥) → TwoAt bs i s t
-    as-two a b c d e f =
-        rw (ne-eqb _ _ a, ne-eqb _ _ b, ne-eqb _ _ c, ne-eqb _ _ d, ne-eqb _ _ e, ne-eqb _ _ f) at (view s t h)
+    pub as-two : (getD bs i 0 ≡ 2) ⊎ (getD bs i 0 ≡ 6) → TwoAt bs i s t
+    as-two (inl e) = subst (View bs i s t) e (view s t h)
+    as-two (inr e) = subst (View bs i s t) e (view s t h)
+
+    pub no-other : ((getD bs i 0 ≡ 1) ⊎ (getD bs i 0 ≡ 5) → ⊥) → (getD bs i 0 ≡ 3 → ⊥) → (getD bs i 0 ≡ 4 → ⊥) → (getD bs i 0 ≡ 7 → ⊥) → (getD bs i 0 ≡ 8 → ⊥) → ((getD bs i 0 ≡ 2) ⊎ (getD bs i 0 ≡ 6) → ⊥) → ⊥
+    no-other a b c d e f =
+        rw (ne-eqb _ _ (λ k. a (inl k)), ne-eqb _ _ (λ k. a (inr k)), ne-eqb _ _ b, ne-eqb _ _ c, ne-eqb _ _ d, ne-eqb _ _ e, ne-eqb _ _ (λ k. f (inl k)), ne-eqb _ _ (λ k. f (inr k))) at (view s t h)
 
 -- a kind byte stands there
 some-tran : (bs : List ℕ) (i : ℕ) (t : Tran) → Has bs i transaction t → i < length bs

@@ -12,7 +12,8 @@ use Rattle.compiler.specs.declared.Part.{Part}
 use Rattle.compiler.specs.CompileTo.{compileTo}
 use Rattle.delivery.specs.Delivered.{onto, delivered}
 use Rattle.compiler.specs.InnerEmit.{Emitted, Has, Emittable, treeCode, codeHeader}
-use Rattle.compiler.proofs.Lists.{rest, rest-length, back, lent, placed-onto, onto-length}
+use Rattle.compiler.proofs.Lists.{rest, rest-length, back, lent}
+use Rattle.delivery.proofs.Places.{placed-onto, onto-length}
 use Rattle.code.specs.Bytes.{codeMark, codeBytes, compiled}
 use Rattle.code.proofs.Flat.{code-length}
 use Rattle.job.specs.declared.Reading.{Reading}

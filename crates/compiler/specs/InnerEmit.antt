@@ -2,7 +2,7 @@
 use Prim.Native.Nat.{ℕ, _+_, _≤_}
 use mathlib.Core.Path.{_≡_}
 use mathlib.Core.List.{List, [], _∷_, _++_}
-use lib.ListN.{length, take, drop, getD}
+use lib.ListN.{length, drop, getD}
 use Rattle.compiler.specs.declared.Part.{Part}
 use Rattle.delivery.specs.Delivered.{onto}
 use Rattle.code.specs.Compile.{ε, compileT, compileP}
@@ -13,10 +13,6 @@ use Rattle.script.specs.Bytes.{bytes, bytes16}
 
 abbrev pub part : (next size : ℕ) → Part
 part next size = record { next = next; size = size }
-
--- xs with ys at a place
-abbrev pub placed : ℕ → (ys xs : List ℕ) → List ℕ
-placed n ys xs = take n xs ++ (ys ++ drop (n + length ys) xs)
 
 -- what is put to the front of the output
 abbrev pub codeHeader : ℕ → List ℕ

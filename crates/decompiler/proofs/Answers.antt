@@ -1,6 +1,6 @@
 -- From the scan's answer to `readBackTo`. Assumes nothing.
 use Prim.Native.Nat.{ℕ, _≤_, _<_}
-use mathlib.Core.Path.{_≡_, refl, sym, ap, _∙_}
+use mathlib.Core.Path.{_≡_, refl, ap, _∙_}
 use mathlib.Core.List.{List, _++_}
 use native.Mathlib.Omega.{arith}
 use lib.ListN.{length, drop}
@@ -9,7 +9,7 @@ use Rattle.decompiler.specs.ReadBackTo.{bytesOf, readBackTo}
 use Rattle.decompiler.specs.InnerWalk.{Restorable}
 use Rattle.code.specs.Reader.{readCode}
 use Rattle.delivery.specs.declared.Answer.the-variants.{Done, Refused}
-use Rattle.delivery.specs.Delivered.{Delivered, settled, delivered}
+use Rattle.delivery.specs.Delivered.{Delivered, delivered}
 use Rattle.scan.specs.Answer.{told}
 use Rattle.scan.specs.declared.Scanned.the-variants as scanned
 use Rattle.script.specs.Count.{nodesP}

@@ -8,10 +8,13 @@ use native.Mathlib.Omega.{arith}
 use lib.ListN.{length, drop, getD, set, length-append, length-set}
 use lib.Seq.{getD-set-same, getD-set-other}
 use Rattle.decompiler.specs.declared.Pass.{Pass}
-use Rattle.decompiler.specs.InnerParts.{onto, placed, inserted}
+use Rattle.decompiler.specs.InnerParts.{inserted}
+use Rattle.delivery.specs.Delivered.{onto}
+use Rattle.delivery.specs.InnerPlaces.{placedAt}
 use Rattle.decompiler.specs.InnerState.{partPushed, partsMerged, partGrown, childOpened, childShut, Room, CanMove}
 use Rattle.decompiler.specs.InnerWalk.{Starts, Ends, Sorted, Setting, Follows}
-use Rattle.decompiler.proofs.Lists.{length-onto, placed-onto, inserted-onto}
+use Rattle.decompiler.proofs.Lists.{inserted-onto}
+use Rattle.delivery.proofs.Places.{onto-length, placed-onto}
 use Rattle.code.specs.Reader.{Item, forked, readOps}
 use Rattle.code.specs.InnerParts.{itemForks, itemBytes, jobText, forksI}
 use Rattle.code.proofs.Texts.{ops-grown, height-grows}
@@ -62,17 +65,17 @@ module _ {code head before : List ℕ} {p : Proc} (known : Setting code head bef
   -- the output is as long as before
   pub out-length : (s : List Item) (es out : List ℕ) → StackRoom before s es → out ≡ onto (head ++ jobText s) before → length out ≡ length before
   out-length s es out h t =
-      ap length t ∙ length-onto (head ++ jobText s) before (omega (arith, h .text, length-append head (jobText s), known .seven))
+      ap length t ∙ onto-length (head ++ jobText s) before (omega (arith, h .text, length-append head (jobText s), known .seven))
 
 -- ---- the output
 
 module _ (head before : List ℕ) (seven : length head ≡ 7) where
   -- a part behind the others
-  text-push : (x : Item) (s : List Item) (bs out : List ℕ) (i : ℕ) → itemBytes x ≡ bs → i ≡ 7 + length (jobText s) → out ≡ onto (head ++ jobText s) before → placed i bs out ≡ onto (head ++ jobText (x ∷ s)) before
+  text-push : (x : Item) (s : List Item) (bs out : List ℕ) (i : ℕ) → itemBytes x ≡ bs → i ≡ 7 + length (jobText s) → out ≡ onto (head ++ jobText s) before → placedAt i bs out ≡ onto (head ++ jobText (x ∷ s)) before
   unfolding jobText
   text-push x s bs out i b e t =
       let n : i ≡ length (head ++ jobText s) = omega (arith, length-append head (jobText s)) in
-      rw (t, b, ← append-assoc head (jobText s) bs) (placed-onto (head ++ jobText s) bs before i n)
+      rw (t, b, ← append-assoc head (jobText s) bs) (placed-onto i bs (head ++ jobText s) before n)
 
   -- bytes in front of a part
   text-grow : (x y : Item) (s : List Item) (front out : List ℕ) (i e : ℕ) → itemBytes y ≡ front ++ itemBytes x → i ≡ 7 + length (jobText s) → e ≡ 7 + length (jobText (x ∷ s)) → out ≡ onto (head ++ jobText (x ∷ s)) before → inserted i e front out ≡ onto (head ++ jobText (y ∷ s)) before
@@ -101,7 +104,7 @@ module _ (head before : List ℕ) (seven : length head ≡ 7) where
 module _ {code head before : List ℕ} {p : Proc} {out : List ℕ} {s : Pass} {items : List Item} {es : List ℕ} {fuel : ℕ} (h : Follows code head before p out s items es fuel) where
   -- a part is pushed
   module _ (x : Item) (bs : List ℕ) (bytes : itemBytes x ≡ bs) (n fuel′ : ℕ) (inside : Bool) (sorted : Sorted inside (x ∷ items)) where
-    pub push-stands : readOps fuel′ inside (x ∷ items) es (s .place + n) (drop (s .place + n) code) ≡ done p → Follows code head before p (placed (s .size) bs out) (partPushed s n (length bs) inside) (x ∷ items) es fuel′
+    pub push-stands : readOps fuel′ inside (x ∷ items) es (s .place + n) (drop (s .place + n) code) ≡ done p → Follows code head before p (placedAt (s .size) bs out) (partPushed s n (length bs) inside) (x ∷ items) es fuel′
     unfolding partPushed jobText forksI
     push-stands d =
         let few : length es ≤ forksI items + itemForks x = omega (arith, h .few) in
@@ -142,7 +145,7 @@ module _ {code head before : List ℕ} {p : Proc} {out : List ℕ} {s : Pass} {i
     unfolding forksI
     fork-small = let few : suc (length es) ≤ forksI items + 1 = omega (arith, h .few) in small (h .known) fuel′ false (forked size ∷ items) (end ∷ es) _ _ d few
 
-    pub fork-stands : Follows code head before p (placed (s .size) (4 ∷ []) out) (childOpened (partPushed s 3 1 false) end) (forked size ∷ items) (end ∷ es) fuel′
+    pub fork-stands : Follows code head before p (placedAt (s .size) (4 ∷ []) out) (childOpened (partPushed s 3 1 false) end) (forked size ∷ items) (end ∷ es) fuel′
     unfolding childOpened partPushed jobText forksI
     fork-stands =
         let low : suc (length items) ≤ 64 = fork-small .low in

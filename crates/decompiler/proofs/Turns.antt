@@ -9,7 +9,9 @@ use lib.ListN.{length, drop, getD, length-drop}
 use lib.Seq.{getD-drop}
 use borrow.Author.Tests.{not-false}
 use Rattle.decompiler.specs.declared.Pass.{Pass}
-use Rattle.decompiler.specs.InnerParts.{onto, placed, inserted, kindIn}
+use Rattle.decompiler.specs.InnerParts.{inserted, kindIn}
+use Rattle.delivery.specs.Delivered.{onto}
+use Rattle.delivery.specs.InnerPlaces.{placedAt}
 use Rattle.decompiler.specs.InnerState.{partPushed, partsMerged, partGrown, childOpened, childShut, atEnd, Room, CanMove}
 use Rattle.decompiler.specs.InnerWalk.{OutsideItems, InsideItems, Sorted, Follows, TurnTaken}
 use Rattle.decompiler.proofs.Next.{none-ends, Ending, one-ends, Merges, child-merges, child-sorted, child-forks, merges-text, Closes, child-closes, FoundOp, next-found, stays-from, sum-merges, sum-sorted, commit-merges, commit-sorted, Writes, write-writes, forks-stay}
@@ -64,10 +66,13 @@ module _ {code head before : List ℕ} {p : Proc} {out : List ℕ} {s : Pass} {i
   pub found-at : atEnd s ≡ false → s .place < length code → (k : ℕ) → getD code (s .place) 0 ≡ k → FoundOp code p (s .inside) items es (s .place) k
   found-at t l k e = subst (FoundOp code p (s .inside) items es (s .place)) e (found t l)
 
-  -- the seventh opcode is what is left
+  -- there is no other opcode
   module _ (t : atEnd s ≡ false) (l : s .place < length code) where
-    pub found-last : (getD code (s .place) 0 ≡ 1 → ⊥) → (getD code (s .place) 0 ≡ 2 → ⊥) → (getD code (s .place) 0 ≡ 3 → ⊥) → (getD code (s .place) 0 ≡ 4 → ⊥) → (getD code (s .place) 0 ≡ 5 → ⊥) → (getD code (s .place) 0 ≡ 6 → ⊥) → FoundOp code p (s .inside) items es (s .place) 7
-    found-last n₁ n₂ n₃ n₄ n₅ n₆ = found-at t l 7 (omega (arith, found t l .low, found t l .high))
+    seventh : (getD code (s .place) 0 ≡ 1 → ⊥) → (getD code (s .place) 0 ≡ 2 → ⊥) → (getD code (s .place) 0 ≡ 3 → ⊥) → (getD code (s .place) 0 ≡ 4 → ⊥) → (getD code (s .place) 0 ≡ 5 → ⊥) → (getD code (s .place) 0 ≡ 6 → ⊥) → getD code (s .place) 0 ≡ 7
+    seventh n₁ n₂ n₃ n₄ n₅ n₆ = omega (arith, found t l .low, found t l .high)
+
+    pub no-other : (getD code (s .place) 0 ≡ 1 → ⊥) → (getD code (s .place) 0 ≡ 2 → ⊥) → (getD code (s .place) 0 ≡ 3 → ⊥) → (getD code (s .place) 0 ≡ 4 → ⊥) → (getD code (s .place) 0 ≡ 5 → ⊥) → (getD code (s .place) 0 ≡ 6 → ⊥) → (getD code (s .place) 0 ≡ 7 → ⊥) → ⊥
+    no-other n₁ n₂ n₃ n₄ n₅ n₆ n₇ = n₇ (seventh n₁ n₂ n₃ n₄ n₅ n₆)
 
   -- ---- PUSH
   module _ (f : FoundOp code p (s .inside) items es (s .place) 1) where
@@ -93,7 +98,7 @@ module _ {code head before : List ℕ} {p : Proc} {out : List ℕ} {s : Pass} {i
     pub push-fits : Room s 5 5 (length code) (length out)
     push-fits = push-room h _ _ push-bytes 5 (f .fuel) (s .inside) (value-sorted (s .inside) _ items (h .sorted)) push-reads (length code) push-long
 
-    pub push-turn : TurnTaken code head before p (placed (s .size) (kindIn (s .inside) 1 ∷ getD code (s .place + 1) 0 ∷ getD code (s .place + 2) 0 ∷ getD code (s .place + 3) 0 ∷ getD code (s .place + 4) 0 ∷ []) out) s (partPushed s 5 5 (s .inside))
+    pub push-turn : TurnTaken code head before p (placedAt (s .size) (kindIn (s .inside) 1 ∷ getD code (s .place + 1) 0 ∷ getD code (s .place + 2) 0 ∷ getD code (s .place + 3) 0 ∷ getD code (s .place + 4) 0 ∷ []) out) s (partPushed s 5 5 (s .inside))
     unfolding partPushed
     push-turn =
         record {
@@ -168,7 +173,7 @@ module _ {code head before : List ℕ} {p : Proc} {out : List ℕ} {s : Pass} {i
     pub read-fits : Room s 2 2 (length code) (length out)
     read-fits = push-room h _ _ read-bytes 2 (f .fuel) true read-sorted read-reads (length code) read-long
 
-    pub read-turn : TurnTaken code head before p (placed (s .size) (7 ∷ getD code (s .place + 1) 0 ∷ []) out) s (partPushed s 2 2 true)
+    pub read-turn : TurnTaken code head before p (placedAt (s .size) (7 ∷ getD code (s .place + 1) 0 ∷ []) out) s (partPushed s 2 2 true)
     unfolding partPushed
     read-turn =
         record {
@@ -240,7 +245,7 @@ module _ {code head before : List ℕ} {p : Proc} {out : List ℕ} {s : Pass} {i
       pub begin-fits : Room s 1 1 65536 (length out)
       begin-fits = push-room h begun (3 ∷ []) refl 1 (f .fuel) true begin-sorted begin-reads 65536 (omega (arith, h .known .short))
 
-      pub begin-turn : TurnTaken code head before p (placed (s .size) (3 ∷ []) out) s (partPushed s 1 1 true)
+      pub begin-turn : TurnTaken code head before p (placedAt (s .size) (3 ∷ []) out) s (partPushed s 1 1 true)
       unfolding partPushed
       begin-turn =
           record {
@@ -317,7 +322,7 @@ module _ {code head before : List ℕ} {p : Proc} {out : List ℕ} {s : Pass} {i
     pub fork-fits : (Room s 3 1 (length code) (length out)) × (s .forked < 15) × (length code ≤ 65536)
     fork-fits = fork-room h _ _ (f .fuel) fork-sorted fork-reads fork-long
 
-    pub fork-turn : TurnTaken code head before p (placed (s .size) (4 ∷ []) out) s (childOpened (partPushed s 3 1 false) (s .place + 3 + (getD code (s .place + 1) 0 * 256 + getD code (s .place + 2) 0)))
+    pub fork-turn : TurnTaken code head before p (placedAt (s .size) (4 ∷ []) out) s (childOpened (partPushed s 3 1 false) (s .place + 3 + (getD code (s .place + 1) 0 * 256 + getD code (s .place + 2) 0)))
     unfolding childOpened partPushed
     fork-turn =
         record {

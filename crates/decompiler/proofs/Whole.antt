@@ -8,10 +8,11 @@ use lib.Dec.{ltb}
 use lib.ListN.{length, drop, getD, length-append, drop-of-length-le}
 use borrow.Author.Tests.{ltb-false, not-false}
 use Rattle.decompiler.specs.declared.Pass.{Pass}
-use Rattle.decompiler.specs.InnerParts.{onto, jobHeader}
+use Rattle.decompiler.specs.InnerParts.{jobHeader}
+use Rattle.delivery.specs.Delivered.{onto}
 use Rattle.decompiler.specs.InnerState.{firstState}
 use Rattle.decompiler.specs.InnerWalk.{Walk, Restorable}
-use Rattle.decompiler.proofs.Lists.{length-onto, onto-onto}
+use Rattle.delivery.proofs.Places.{onto-length, onto-onto}
 use Rattle.decompiler.proofs.Next.{text-at-end}
 use Rattle.decompiler.proofs.Follow.{small, out-length}
 use Rattle.code.specs.Reader.{readOps, within, codeMarked, readCode}
@@ -109,7 +110,7 @@ module _ (code : List ℕ) (nodes : ℕ) (before : List ℕ) (bytes : Bytes code
   pub inv-start : (out : List ℕ) → out ≡ onto (jobHeader code nodes) before → (s : Pass) → s ≡ firstState → PassInv code nodes out out s
   unfolding firstState jobText forksI
   inv-start out t s e =
-      let long : length out ≡ length before = ap length t ∙ length-onto (jobHeader code nodes) before (omega (arith, header-length code nodes, room)) in
+      let long : length out ≡ length before = ap length t ∙ onto-length (jobHeader code nodes) before (omega (arith, header-length code nodes, room)) in
       record {
         job = r .job;
         read = r .read;
@@ -154,7 +155,7 @@ module _ (code : List ℕ) (nodes : ℕ) (before : List ℕ) (bytes : Bytes code
       let w = inv .walk in
       let h = w .stands in
       let now = small (h .known) (w .fuel) (s .inside) (w .items) (w .open′) (s .place) (drop (s .place) code) (h .reads) (h .few) in
-      out-length (h .known) (w .items) (w .open′) out now (h .text) ∙ ap length t ∙ length-onto (jobHeader code nodes) before (omega (arith, header-length code nodes, room))
+      out-length (h .known) (w .items) (w .open′) out now (h .text) ∙ ap length t ∙ onto-length (jobHeader code nodes) before (omega (arith, header-length code nodes, room))
 
   -- the output behind the loop
   pub inv-end : (first out : List ℕ) (s : Pass) → first ≡ onto (jobHeader code nodes) before → PassInv code nodes first out s → length code ≤ s .place → (j : Job) → readCode code ≡ done j → out ≡ onto (jobBytes (j .version) (j .tree)) before

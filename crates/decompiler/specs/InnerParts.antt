@@ -1,17 +1,9 @@
--- For the proof of `read_back` only: what its functions write to the front of the output and put between its parts.
+-- For the proof of `read_back` only: what its functions put in front of the parts that stand in the output.
 use Prim.Native.Nat.{ℕ, _+_, _-_}
 use mathlib.Core.Bool.{Bool, true, false}
 use mathlib.Core.List.{List, _∷_, _++_}
 use lib.ListN.{length, take, drop, getD}
 use Rattle.script.specs.Bytes.{jobMark, bytes16}
-
--- a text at the front of what was there before
-unfoldable pub onto : List ℕ → List ℕ → List ℕ
-onto text before = text ++ drop (length text) before
-
--- bytes at a place, in the place of those that stood there
-unfoldable pub placed : ℕ → List ℕ → List ℕ → List ℕ
-placed i bs xs = take i xs ++ (bs ++ drop (i + length bs) xs)
 
 -- the part from i to e moved on
 unfoldable pub shifted : (i e by : ℕ) → List ℕ → List ℕ

@@ -1,15 +1,16 @@
 // Reading code back: the job that compiles to it, in one pass forward over the code.
 ghost use Prim.Native.Nat.{ℕ, _*_, _+_, _-_, _<_, _≤_};
-ghost use lib.ListN.{drop, getD, length};
+ghost use lib.ListN.{getD, length};
 ghost use mathlib.Core.Bool.{false, true};
-ghost use mathlib.Core.List.{List, [], _++_, _∷_};
+ghost use mathlib.Core.List.{List, [], _∷_};
 ghost use mathlib.Core.Path.{_≡_};
-ghost use Rattle.decompiler.specs.ReadBackTo.{readBackTo};
-ghost use Rattle.decompiler.specs.InnerParts.{jobHeader, inserted, kindIn, onto, placed, shifted};
+ghost use Rattle.decompiler.specs.ReadBackTo.{bytesOf, readBackTo};
+ghost use Rattle.decompiler.specs.InnerParts.{jobHeader, inserted, kindIn, shifted};
+ghost use Rattle.delivery.specs.Delivered.{onto};
+ghost use Rattle.delivery.specs.InnerPlaces.{placedAt};
 ghost use Rattle.decompiler.specs.InnerState.{CanMove, Room, atEnd, partGrown, partsMerged, childOpened, partPushed, childShut, firstState};
 ghost use Rattle.decompiler.specs.InnerWalk.{TurnDue, Restorable, Walk, TurnTaken};
 ghost use Rattle.code.specs.Reader.{readCode};
-ghost use Rattle.script.specs.Bytes.{jobBytes};
 ghost use Rattle.script.specs.Outcome.{done};
 ghost use Rattle.script.specs.Jobs.{Job};
 ghost use Rattle.script.specs.Tree.{Proc};
@@ -79,8 +80,8 @@ fn put_header(code: &[u8], nodes: usize, out: &mut [u8])
     out[2] = 0x4A;
     out[3] = code[3];
     out[4] = code[4];
-    out[5] = (nodes / 256 % 256) as u8;
-    out[6] = (nodes % 256) as u8;
+    out[5] = word::high(nodes);
+    out[6] = word::low(nodes);
 }
 
 impl Pass {
@@ -183,7 +184,7 @@ impl Pass {
 // PUSH: a value's node, behind the parts that are there.
 fn push(code: &[u8], s: Pass, out: &mut [u8]) -> Pass
     requires { ⌜ Room s 5 5 (length (now code)) (length (now out)) ⌝ }
-    ensures { λ r. ⌜ (r ≡ partPushed s 5 5 (s .inside)) × (now (out .exit) ≡ placed (s .size) (kindIn (s .inside) 1 ∷ getD (now (code .entry)) (s .place + 1) 0 ∷ getD (now (code .entry)) (s .place + 2) 0 ∷ getD (now (code .entry)) (s .place + 3) 0 ∷ getD (now (code .entry)) (s .place + 4) 0 ∷ []) (now (out .entry))) ⌝ }
+    ensures { λ r. ⌜ (r ≡ partPushed s 5 5 (s .inside)) × (now (out .exit) ≡ placedAt (s .size) (kindIn (s .inside) 1 ∷ getD (now (code .entry)) (s .place + 1) 0 ∷ getD (now (code .entry)) (s .place + 2) 0 ∷ getD (now (code .entry)) (s .place + 3) 0 ∷ getD (now (code .entry)) (s .place + 4) 0 ∷ []) (now (out .entry))) ⌝ }
 {
     let place = s.place;
     let size = s.size;
@@ -210,7 +211,7 @@ fn add(s: Pass, out: &mut [u8]) -> Pass
 // READ: its node, behind the parts that are there.
 fn read(code: &[u8], s: Pass, out: &mut [u8]) -> Pass
     requires { ⌜ Room s 2 2 (length (now code)) (length (now out)) ⌝ }
-    ensures { λ r. ⌜ (r ≡ partPushed s 2 2 true) × (now (out .exit) ≡ placed (s .size) (7 ∷ getD (now (code .entry)) (s .place + 1) 0 ∷ []) (now (out .entry))) ⌝ }
+    ensures { λ r. ⌜ (r ≡ partPushed s 2 2 true) × (now (out .exit) ≡ placedAt (s .size) (7 ∷ getD (now (code .entry)) (s .place + 1) 0 ∷ []) (now (out .entry))) ⌝ }
 {
     let place = s.place;
     let size = s.size;
@@ -233,7 +234,7 @@ fn write(code: &[u8], s: Pass, out: &mut [u8]) -> Pass
 // BEGIN: the kind byte of ATOMIC, which COMMIT makes one part with the transaction behind it.
 fn begin(s: Pass, out: &mut [u8]) -> Pass
     requires { ⌜ Room s 1 1 65536 (length (now out)) ⌝ }
-    ensures { λ r. ⌜ (r ≡ partPushed s 1 1 true) × (now (out .exit) ≡ placed (s .size) (3 ∷ []) (now (out .entry))) ⌝ }
+    ensures { λ r. ⌜ (r ≡ partPushed s 1 1 true) × (now (out .exit) ≡ placedAt (s .size) (3 ∷ []) (now (out .entry))) ⌝ }
 {
     let size = s.size;
     out[size] = 3;
@@ -243,12 +244,12 @@ fn begin(s: Pass, out: &mut [u8]) -> Pass
 // FORK: its kind byte, which becomes one part with the child where the child ends.
 fn fork(code: &[u8], s: Pass, out: &mut [u8]) -> Pass
     requires { ⌜ (Room s 3 1 (length (now code)) (length (now out))) × (s .forked < 15) × (length (now code) ≤ 65536) ⌝ }
-    ensures { λ r. ⌜ (r ≡ childOpened (partPushed s 3 1 false) (s .place + 3 + (getD (now (code .entry)) (s .place + 1) 0 * 256 + getD (now (code .entry)) (s .place + 2) 0))) × (now (out .exit) ≡ placed (s .size) (4 ∷ []) (now (out .entry))) ⌝ }
+    ensures { λ r. ⌜ (r ≡ childOpened (partPushed s 3 1 false) (s .place + 3 + (getD (now (code .entry)) (s .place + 1) 0 * 256 + getD (now (code .entry)) (s .place + 2) 0))) × (now (out .exit) ≡ placedAt (s .size) (4 ∷ []) (now (out .entry))) ⌝ }
 {
     let place = s.place;
     let size = s.size;
     out[size] = 4;
-    let child = code[place + 1] as usize * 256 + code[place + 2] as usize;
+    let child = word::number16(code[place + 1], code[place + 2]) as usize;
     s.push(3, 1, false).open(place + 3 + child)
 }
 
@@ -268,14 +269,16 @@ fn step(code: &[u8], s: Pass, out: &mut [u8]) -> Pass
         4 => write(code, s, out),
         5 => begin(s, out),
         6 => s.merge(1, 0, false),
-        _ => fork(code, s, out),
+        7 => fork(code, s, out),
+        // there is no other opcode
+        _ => s,
     }
 }
 
 // Writes the job that compiles to this code to the front of `out`.
 fn restore(code: &[u8], nodes: usize, out: &mut [u8])
     requires { ⌜ Restorable (now code) nodes (now out) ⌝ }
-    ensures { λ _. ⌜ ((j : Job) → readCode (now (code .entry)) ≡ done j → now (out .exit) ≡ jobBytes (j .version) (j .tree) ++ drop (length (jobBytes (j .version) (j .tree))) (now (out .entry))) ⌝ }
+    ensures { λ _. ⌜ ((j : Job) → readCode (now (code .entry)) ≡ done j → now (out .exit) ≡ onto (bytesOf j) (now (out .entry))) ⌝ }
 {
     put_header(code, nodes, out);
     let mut s = Pass::start();

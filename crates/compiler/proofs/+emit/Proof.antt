@@ -1,6 +1,5 @@
 -- `compiler::emit` meets its contract: a node's code from the code of its parts, the depth falling. Assumes nothing.
 use Prim.Native.Nat.{ℕ, _+_, _≤_, _<_}
-use mathlib.Core.Logic.{inl, inr}
 use mathlib.Core.List.{[], _∷_}
 use mathlib.Core.Path.{_≡_, sym, ap, _∙_}
 use native.Mathlib.Omega.{arith}
@@ -12,7 +11,7 @@ use Rattle.script.specs.Tree.{Sort, Tree}
 use Rattle.script.specs.Bytes.{bytes16}
 use Rattle.compiler.specs.InnerEmit.{Emitted, Has, treeCode, forkBytes as fork-code}
 use Rattle.compiler.proofs.Lists.{rest-length, back}
-use Rattle.compiler.proofs.Nodes.{TwoAt, some, as-push, as-atomic, as-fork, as-read, as-write, as-two}
+use Rattle.compiler.proofs.Nodes.{TwoAt, some, as-push, as-atomic, as-fork, as-read, as-write, as-two, no-other}
 use Rattle.compiler.proofs.Emits.{OnePart, child, TwoParts, children, moved, back-length, next-of, size-of, push-emitted, read-emitted, atomic-emitted, fork-emitted, write-emitted, sum-emitted}
 use Rattle.compiler.proofs.emit.Reads as emit
 use Rattle.compiler.proofs.emit.Kinds as emit-kinds
@@ -207,7 +206,7 @@ emit-returns-5 t c = λ s u h. let o = as-write _ _ s u h (c .before .before .be
 
 -- ---- ADDP and ADDT
 abbrev Sum : ℕ → Type 0
-Sum t = emit-lts.At-match-rest (claims t) (emit-at t) emit.Post
+Sum t = emit-lts.At-match-keys6 (claims t) (emit-at t) emit.Post
 
 abbrev Left : ℕ → Type 0
 Left t = emit-lts.After-slice-known10 (claims t) (emit-at t) emit.Post
@@ -216,7 +215,7 @@ abbrev Right : ℕ → Type 0
 Right t = emit-lts.After-put-add-arg (claims t) (emit-at t) emit.Post
 
 two : (t : ℕ) (c : Sum t) (s : Sort) (u : Tree s) → Has (c .before .before .before .before .args .job .now) (c .before .before .before .before .args .at) s u → TwoAt (c .before .before .before .before .args .job .now) (c .before .before .before .before .args .at) s u
-two t c s u h = let r = c .match .rest in as-two _ _ s u h (λ e. r .0 .0 .0 .0 .1 (inl e)) (λ e. r .0 .0 .0 .0 .1 (inr e)) (r .0 .0 .0 .1) (r .0 .0 .1) (r .0 .1) (r .1)
+two t c s u h = as-two _ _ s u h (c .match .keys6)
 
 sum : (t : ℕ) (c : Sum t) → TwoParts (c .before .before .before .before .args .job .now) (c .before .before .before .before .args .at) (c .before .before .before .before .args .depth) (length (c .before .before .before .before .args .out .now))
 sum t c = children (c .before .before .before .before .pre .1) (two t c _ _ (c .before .before .before .before .pre .1 .there))
@@ -262,6 +261,10 @@ emit-same-length-6 t c = c .before .before .put-add .kept .0 ∙ sum-length t (c
 
 emit-returns-6 : (t : ℕ) → emit-lts.Need-returns-6 (claims t) (emit-at t) emit.Post
 emit-returns-6 t c = λ s u h. let o = two t (c .before .before .before .before .before .before .before .before .before .before .before .before) s u h in let l = c .before .before .before .before .before .before .before .before .before .before .emit4 .ensures s (o .left) (o .first) in sum-emitted o (omega (arith, size-of l, left-room t (c .before .before .before .before .before .before .before .before), c .before .before .before .before .before .before .before .before .before .before .emit4 .kept .1 .1 .1 .0)) l (c .before .before .before .before .before .before .emit5 .ensures s (o .right) (moved (o .second) (sym (next-of l)))) (c .before .before .put-add .ensures .0) (c .before .before .put-add .ensures .1)
+
+-- ---- no other kind
+emit-returns-7 : (t : ℕ) → emit-lts.Need-returns-7 (claims t) (emit-at t) emit.Post
+emit-returns-7 t c = λ s u h. let r = c .match .rest in absurd (no-other _ _ s u h (r .0 .0 .0 .0 .0 .1) (r .0 .0 .0 .0 .1) (r .0 .0 .0 .1) (r .0 .0 .1) (r .0 .1) (r .1))
 
 pub +emit-spec : {M : Type 1} → statement M
 +emit-spec = close μ-emit λ t. emit-lts.spec (claims t) (emit-at t) emit.Post
@@ -309,3 +312,4 @@ pub +emit-spec : {M : Type 1} → statement M
     (emit-returns-5 t)
     (emit-same-length-6 t)
     (emit-returns-6 t)
+    (emit-returns-7 t)
