@@ -3,7 +3,8 @@ use mathlib.Core.Path.{refl}
 use Rattle.cases.specs.Cases.{Cases}
 use Rattle.code.specs.Compile.{compileT, compileP}
 use Rattle.code.specs.Bytes.{instructionBytes, instructionsBytes, codeMark, codeBytes, compiled}
-use Rattle.code.specs.Reader.{operand as codeOperand, opOf, opAt, doOp, closed, readOps, within, marked as codeMarked, readCode}
+use Rattle.code.specs.Ops.{opcodeOperand, decoded, opAt}
+use Rattle.code.specs.Reader.{doOp, endedAt, readOps, within, codeMarked, readCode}
 use Rattle.thread.specs.Threads.{blank, spawned, push, add, begin, sourceOf, read, write, closed as closedAt, stale, firstStale, overlaid}
 use Rattle.machine.specs.Fits.{walkOp, nextPlace}
 use Rattle.machine.specs.FitTest.{walk, walkTo, freeFrom, placed, allZero, noneBehind, inFront, passedBy, among, allAmong, threadsOf, oneEach, fits}
@@ -13,11 +14,12 @@ use Rattle.stm.specs.Events.{counted, order, backs, tally, countsOf, eventNumbe
 use Rattle.word.specs.Registers.{none, member, with}
 use Rattle.script.specs.Bytes.{nodeBytes, bytes16, bytes32, bytesT, bytesP, jobMark, jobBytes}
 use Rattle.script.specs.Count.{nodesT, nodesP, depthT, depthP, forks, atomics, threads, instructions, longest, bound, codeT, codeP, codeLength}
-use Rattle.script.specs.Reader.{permitted, operand, nodeOf, nodeAt, grown, forkOf, readNodes, marked, taken, readJob}
+use Rattle.script.specs.Jobs.{operand, forkOf}
+use Rattle.script.specs.Reader.{permitted, nodeOf, nodeAt, grown, readNodes, jobMarked, taken, readJob}
 use Rattle.word.specs.Sum.{residue, signed, wrap, wrapping}
 
 pub cases : Cases
-unfolding wrapping wrap signed residue readJob readNodes nodeAt nodeOf permitted operand grown forkOf marked taken jobBytes jobMark bytesP bytesT nodeBytes bytes16 bytes32 nodesP nodesT forks atomics threads instructions longest bound codeT codeP codeLength compiled codeBytes codeMark compileP compileT instructionBytes instructionsBytes readCode readOps closed doOp opAt opOf codeOperand codeMarked within depthT depthP blank spawned push add begin sourceOf read write closedAt stale firstStale overlaid numberOf commit act settle pickAmong fresh run counted order backs none member with walkOp nextPlace walk walkTo freeFrom placed allZero noneBehind inFront passedBy among allAmong threadsOf oneEach fits freshOf stepOf runOf tally countsOf eventNumber eventRegister turnNumber eventOf freshCall stepCall runCall
+unfolding wrapping wrap signed residue readJob readNodes nodeAt nodeOf permitted operand grown forkOf jobMarked taken jobBytes jobMark bytesP bytesT nodeBytes bytes16 bytes32 nodesP nodesT forks atomics threads instructions longest bound codeT codeP codeLength compiled codeBytes codeMark compileP compileT instructionBytes instructionsBytes readCode readOps endedAt doOp opAt decoded opcodeOperand codeMarked within depthT depthP blank spawned push add begin sourceOf read write closedAt stale firstStale overlaid numberOf commit act settle pickAmong fresh run counted order backs none member with walkOp nextPlace walk walkTo freeFrom placed allZero noneBehind inFront passedBy among allAmong threadsOf oneEach fits freshOf stepOf runOf tally countsOf eventNumber eventRegister turnNumber eventOf freshCall stepCall runCall
 cases =
     record {
       seven-read = refl;

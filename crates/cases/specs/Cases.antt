@@ -11,7 +11,8 @@ use Rattle.script.specs.Tree.{Proc, ValP, AddP, Atomic, Fork, ValT, AddT, Read,
 use Rattle.script.specs.Bytes.{jobBytes}
 use Rattle.script.specs.Count.{bound, codeLength}
 use Rattle.script.specs.Outcome.{Outcome, refused, done}
-use Rattle.script.specs.Reader.{Job, readJob}
+use Rattle.script.specs.Jobs.{Job}
+use Rattle.script.specs.Reader.{readJob}
 use Rattle.code.specs.Bytes.{compiled}
 use Rattle.code.specs.Reader.{readCode}
 use Rattle.guarantee.specs.Histories.{Ended}

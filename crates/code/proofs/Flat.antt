@@ -1,16 +1,16 @@
 -- The bytes of a tree's code, by structure: what `compileT` and `compileP` put in front of the code that they are handed, and how long it is.
 -- Assumes nothing.
-use Prim.Native.Nat.{ℕ, suc, _+_}
-use mathlib.Core.Path.{_≡_, refl, sym, ap, _∙_}
+use Prim.Native.Nat.{ℕ, _+_}
+use mathlib.Core.Path.{_≡_, refl}
 use mathlib.Core.List.{List, [], _∷_, _++_, append-assoc, append-nil}
 use native.Mathlib.Omega.{arith}
 use lib.ListN.{length, length-append}
-use Rattle.code.specs.Compile.{Code, PUSH, ADD, READ, WRITE, BEGIN, COMMIT, FORK, ε, _⨾_, compileT, compileP}
+use Rattle.code.specs.Compile.{Code, ADD, WRITE, COMMIT, ε, _⨾_, compileT, compileP}
 use Rattle.code.specs.Bytes.{instructionBytes, instructionsBytes, codeMark, codeBytes, compiled}
 use Rattle.script.specs.Tree.{Tran, ValT, AddT, Read, Write, Proc, ValP, AddP, Atomic, Fork}
 use Rattle.script.specs.Count.{codeT, codeP, codeLength}
 use Rattle.script.specs.Bytes.{bytes16, bytes32}
-use Rattle.script.specs.Reader.{Job}
+use Rattle.script.specs.Jobs.{Job}
 use Rattle.word.specs.Sum.{residue}
 
 unfoldable pub flatT : Tran → List ℕ

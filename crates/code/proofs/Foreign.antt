@@ -9,7 +9,8 @@ use native.Mathlib.Omega.{arith}
 use lib.Dec.{eqb, leb, ltb}
 use lib.ListN.{length, drop, getD}
 use Rattle.code.specs.Bytes.{codeMark, compiled, Foreign}
-use Rattle.code.specs.Reader.{Op, push, add, read, write, begin, commit, fork, operand, opOf, opAt, sizeOf, Item, proc, tran, begun, forked, sum, written, committed, childEnded, stays, doOp, endsAfter, closed, ended, readOps, within, marked, readCode}
+use Rattle.code.specs.Ops.{Op, push, add, read, write, begin, commit, fork, opcodeOperand, decoded, opAt, sizeOf}
+use Rattle.code.specs.Reader.{Item, proc, tran, begun, forked, sumTop, writeTop, commitTop, childEnded, doneWith, doOp, endsAfter, endedAt, ended, readOps, within, codeMarked, readCode}
 use Rattle.code.proofs.Flat.{flatT, flatP, compiled-flat}
 use Rattle.code.proofs.ReadBack.{code-read, read-is-code}
 use Rattle.script.specs.Tree.{Tran, ValT, AddT, Read, Write, Proc, ValP, AddP, Atomic, Fork}
@@ -17,7 +18,8 @@ use Rattle.script.specs.Count.{nodesP}
 use Rattle.script.specs.Limits.{ValuedT, ValuedP, Within}
 use Rattle.script.specs.Bytes.{Bytes, bytes16, bytes32, nodeBytes, bytesT, bytesP, jobMark, jobBytes}
 use Rattle.script.specs.Outcome.{Outcome, refused, done, refuse, onward}
-use Rattle.script.specs.Reader.{Job, number16, taken}
+use Rattle.script.specs.Jobs.{Job, number16}
+use Rattle.script.specs.Reader.{taken}
 use Rattle.script.specs.Refusal.{Taken, IsJob}
 use Rattle.script.proofs.Numbers.{bytes-head, bytes-tail}
 use Rattle.script.proofs.Accepts.{accepted-is-job, job-is-accepted}
@@ -40,7 +42,7 @@ either-eleven : {A : Type 0} (b : Bool) (x y : Outcome A) → Eleven x → Eleve
 either-eleven true x y h k = h
 either-eleven false x y h k = k
 
-sum-eleven : (s : List Item) → Eleven (sum s)
+sum-eleven : (s : List Item) → Eleven (sumTop s)
 sum-eleven [] = (refl, refl)
 sum-eleven (proc b ∷ []) = (refl, refl)
 sum-eleven (proc b ∷ proc a ∷ s) = tt
@@ -55,14 +57,14 @@ sum-eleven (tran b ∷ forked n ∷ s) = (refl, refl)
 sum-eleven (begun ∷ s) = (refl, refl)
 sum-eleven (forked n ∷ s) = (refl, refl)
 
-written-eleven : (v : ℕ) (s : List Item) → Eleven (written v s)
+written-eleven : (v : ℕ) (s : List Item) → Eleven (writeTop v s)
 written-eleven v [] = (refl, refl)
 written-eleven v (proc p ∷ s) = (refl, refl)
 written-eleven v (tran t ∷ s) = tt
 written-eleven v (begun ∷ s) = (refl, refl)
 written-eleven v (forked n ∷ s) = (refl, refl)
 
-committed-eleven : (s : List Item) → Eleven (committed s)
+committed-eleven : (s : List Item) → Eleven (commitTop s)
 committed-eleven [] = (refl, refl)
 committed-eleven (proc p ∷ s) = (refl, refl)
 committed-eleven (tran t ∷ []) = (refl, refl)
@@ -93,30 +95,30 @@ ended-eleven [] (begun ∷ s) = (refl, refl)
 ended-eleven [] (forked n ∷ s) = (refl, refl)
 ended-eleven (e ∷ es) s = (refl, refl)
 
-stays-eleven : (inside : Bool) (o : Outcome (List Item)) → Eleven o → Eleven (stays inside o)
+stays-eleven : (inside : Bool) (o : Outcome (List Item)) → Eleven o → Eleven (doneWith inside o)
 stays-eleven inside o h = onward-eleven o _ h (λ s. tt)
 
 do-eleven : (op : Op) (inside : Bool) (s : List Item) → Eleven (doOp op inside s)
 unfolding doOp
 do-eleven (push n) inside s = tt
-do-eleven add inside s = stays-eleven inside (sum s) (sum-eleven s)
+do-eleven add inside s = stays-eleven inside (sumTop s) (sum-eleven s)
 do-eleven (read v) inside s = refuse-eleven (not inside) _ tt
-do-eleven (write v) inside s = refuse-eleven (not inside) _ (stays-eleven true (written v s) (written-eleven v s))
+do-eleven (write v) inside s = refuse-eleven (not inside) _ (stays-eleven true (writeTop v s) (written-eleven v s))
 do-eleven begin inside s = refuse-eleven inside _ tt
-do-eleven commit inside s = refuse-eleven (not inside) _ (stays-eleven false (committed s) (committed-eleven s))
+do-eleven commit inside s = refuse-eleven (not inside) _ (stays-eleven false (commitTop s) (committed-eleven s))
 do-eleven (fork n) inside s = refuse-eleven inside _ tt
 
 pub op-eleven : (bs : List ℕ) → Eleven (opAt bs)
 unfolding opAt
 op-eleven [] = (refl, refl)
 op-eleven (k ∷ rest) =
-    refuse-eleven (not (leb 1 k && leb k 7)) _ (refuse-eleven (ltb (length rest) (operand k)) _ (refuse-eleven (eqb (operand k) 1 && leb 64 (getD rest 0 0)) (done (opOf k rest)) tt))
+    refuse-eleven (not (leb 1 k && leb k 7)) _ (refuse-eleven (ltb (length rest) (opcodeOperand k)) _ (refuse-eleven (eqb (opcodeOperand k) 1 && leb 64 (getD rest 0 0)) (done (decoded k rest)) tt))
 
-closed-eleven : (q : ℕ) (es : List ℕ) (s : List Item) → Eleven (closed q es s)
-unfolding closed
+closed-eleven : (q : ℕ) (es : List ℕ) (s : List Item) → Eleven (endedAt q es s)
+unfolding endedAt
 closed-eleven q [] s = tt
 closed-eleven q (e ∷ es) s =
-    either-eleven (eqb q e) _ (done (record { ends = e ∷ es; items = s })) (onward-eleven (childEnded s) (λ s′. closed q es s′) (child-eleven s) (λ s′. closed-eleven q es s′)) tt
+    either-eleven (eqb q e) _ (done (record { ends = e ∷ es; items = s })) (onward-eleven (childEnded s) (λ s′. endedAt q es s′) (child-eleven s) (λ s′. closed-eleven q es s′)) tt
 
 -- reading instructions refuses by 11 at 0 alone
 pub ops-eleven : (fuel : ℕ) (inside : Bool) (s : List Item) (es : List ℕ) (q : ℕ) (bs : List ℕ) → Eleven (readOps fuel inside s es q bs)
@@ -124,7 +126,7 @@ unfolding readOps
 ops-eleven zero inside s es q bs = (refl, refl)
 ops-eleven (suc fuel) inside s es q bs =
     onward-eleven
-    (closed q es s)
+    (endedAt q es s)
     _
     (closed-eleven q es s)
     (λ now. either-eleven
@@ -149,7 +151,7 @@ code-eleven bs =
     (ltb (length bs) 5)
     _
     (refuse-eleven
-    (not (marked bs))
+    (not (codeMarked bs))
     _
     (refuse-eleven
     (not (taken (number16 bs 3)))

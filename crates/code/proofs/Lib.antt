@@ -2,6 +2,7 @@
 pub mod Flat
 pub mod Ops
 pub mod ReadBack
+pub mod Lengths
 pub mod Foreign
 pub mod Heights
 pub mod Texts

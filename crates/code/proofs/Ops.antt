@@ -8,7 +8,7 @@ use native.Mathlib.Omega.{arith}
 use lib.Dec.{ltb}
 use lib.ListN.{length}
 use borrow.Author.Tests.{le-ltb, le-leb, lt-leb}
-use Rattle.code.specs.Reader.{foreign, Op, push, add, read, write, begin, commit, fork, operand, opOf, opAt, sizeOf}
+use Rattle.code.specs.Ops.{foreign, Op, push, add, read, write, begin, commit, fork, opcodeOperand, decoded, opAt, sizeOf}
 use Rattle.script.specs.Bytes.{Bytes, bytes16, bytes32}
 use Rattle.script.specs.Outcome.{done}
 use Rattle.script.proofs.Numbers.{number16-bytes16, number-read, bytes16-number16, small32, number-written, bytes-head, bytes-tail}
@@ -56,7 +56,7 @@ two n rest = le-ltb (suc (suc (length rest))) 2 (omega arith)
 
 -- an instruction whose operand is in range is the one that is read
 pub op-reads : (op : Op) (rest : List ℕ) → ValuedO op → opAt (opBytes op ++ rest) ≡ done op
-unfolding opAt opBytes operand opOf
+unfolding opAt opBytes opcodeOperand decoded
 op-reads (push n) rest v = rw (four (residue n) rest, number-read n v rest)
 op-reads add rest v = rw (le-ltb (length rest) 0 (omega arith))
 op-reads (read r) rest v = rw (le-ltb (suc (length rest)) 1 (omega arith), lt-leb 64 r v)
@@ -72,7 +72,7 @@ pub data Sees (bs : List ℕ) : Type 0 where
 
 -- something is seen, whatever stands there
 pub seen : (bs : List ℕ) → Bytes bs → Sees bs
-unfolding opAt opBytes operand opOf
+unfolding opAt opBytes opcodeOperand decoded
 seen [] b = bad refl
 seen (zero ∷ rest) b = bad refl
 seen (suc zero ∷ []) b = bad refl

@@ -10,7 +10,8 @@ use lib.ListN.{length, length-append}
 use lib.Seq.{drop-at}
 use borrow.Author.Tests.{le-ltb, le-leb, eq-eqb, ne-eqb, eqb-true, leb-true, not-false}
 use Rattle.code.specs.Bytes.{codeMark, compiled, IsCode}
-use Rattle.code.specs.Reader.{Op, push, add, read, write, begin, commit, fork, sizeOf, Item, proc, tran, begun, forked, value, sum, written, committed, childEnded, Done, stays, doOp, endsAfter, Open, closed, ended, readOps, within, marked, readCode}
+use Rattle.code.specs.Ops.{Op, push, add, read, write, begin, commit, fork, sizeOf}
+use Rattle.code.specs.Reader.{Item, proc, tran, begun, forked, valueItem, sumTop, writeTop, commitTop, childEnded, Done, doneWith, doOp, endsAfter, OpenParts, endedAt, ended, readOps, within, codeMarked, readCode}
 use Rattle.code.proofs.Flat.{flatT, flatP, compiled-flat, flat-lengthP}
 use Rattle.code.proofs.Ops.{opBytes, ValuedO, op-length, op-reads, Sees, good, bad, seen}
 use Rattle.script.specs.Tree.{Tran, ValT, AddT, Read, Write, Proc, ValP, AddP, Atomic, Fork}
@@ -18,7 +19,8 @@ use Rattle.script.specs.Count.{nodesT, nodesP, depthP, forks, atomics, instruct
 use Rattle.script.specs.Limits.{ValuedT, ValuedP, Within}
 use Rattle.script.specs.Bytes.{Bytes, bytes16, bytes32}
 use Rattle.script.specs.Outcome.{Outcome, refused, done, onward}
-use Rattle.script.specs.Reader.{Job, taken}
+use Rattle.script.specs.Jobs.{Job}
+use Rattle.script.specs.Reader.{taken}
 use Rattle.script.specs.Refusal.{Taken}
 use Rattle.script.proofs.Numbers.{bytes16-number16, bytes-drop, bytes-head, bytes-tail}
 use Rattle.script.proofs.Reading.{bytes-behind}
@@ -34,10 +36,10 @@ ahead-less : (a b : ℕ) (es : List ℕ) → a ≤ b → Ahead b es → Ahead a 
 ahead-less a b [] l h = tt
 ahead-less a b (e ∷ es) l h = omega arith
 
-none-closed : (q : ℕ) (es : List ℕ) (s : List Item) → Ahead (suc q) es → closed q es s ≡ done (record { ends = es; items = s })
-unfolding closed
+none-closed : (q : ℕ) (es : List ℕ) (s : List Item) → Ahead (suc q) es → endedAt q es s ≡ done (record { ends = es; items = s })
+unfolding endedAt
 none-closed q [] s h = refl
-none-closed q (e ∷ es) s h = rw (ne-eqb q e (omega arith), closed)
+none-closed q (e ∷ es) s h = rw (ne-eqb q e (omega arith), endedAt)
 
 op-some : (op : Op) (rest : List ℕ) → eqb (length (opBytes op ++ rest)) 0 ≡ false
 unfolding opBytes
@@ -56,9 +58,9 @@ one-op op fuel inside s es q rest next v h e =
     rw (none-closed q es s h, op-some op rest, op-reads op rest v, e, drop-at (opBytes op) rest (sizeOf op) (op-length op))
 
 -- a child that ends here is closed when the next instruction is read, or at the end of the code
-one-closed : (p : Proc) (n : ℕ) (s : List Item) (es : List ℕ) (q : ℕ) → closed q (q ∷ es) (proc p ∷ forked n ∷ s) ≡ closed q es (proc (Fork p) ∷ s)
-unfolding closed
-one-closed p n s es q = rw (eq-eqb q q refl, closed)
+one-closed : (p : Proc) (n : ℕ) (s : List Item) (es : List ℕ) (q : ℕ) → endedAt q (q ∷ es) (proc p ∷ forked n ∷ s) ≡ endedAt q es (proc (Fork p) ∷ s)
+unfolding endedAt
+one-closed p n s es q = rw (eq-eqb q q refl, endedAt)
 
 child-closes : (fuel : ℕ) (p : Proc) (n : ℕ) (s : List Item) (es : List ℕ) (q : ℕ) (rest : List ℕ) → readOps fuel false (proc p ∷ forked n ∷ s) (q ∷ es) q rest ≡ readOps fuel false (proc (Fork p) ∷ s) es q rest
 unfolding readOps
@@ -156,7 +158,7 @@ code-small (Atomic t) = omega (arith, code-smallT t)
 code-small (Fork p) = omega (arith, code-small p)
 
 at-end : (p : Proc) (fuel q : ℕ) → readOps (suc fuel) false (proc p ∷ []) [] q [] ≡ done p
-unfolding readOps closed
+unfolding readOps endedAt
 at-end p fuel q = refl
 
 tree-read : (p : Proc) → Within p → readOps (suc (5 + length (flatP p))) false [] [] 5 (flatP p) ≡ done p
@@ -183,7 +185,7 @@ within-back p e =
 
 -- the code of a job within the limits is read, and gives that job
 pub code-read : (j : Job) → Taken (j .version) → Within (j .tree) → readCode (compiled j) ≡ done j
-unfolding readCode codeMark bytes16 marked taken
+unfolding readCode codeMark bytes16 codeMarked taken
 code-read j v w =
     let p = j .tree in
     let e : j .version / 256 % 256 * 256 + j .version % 256 ≡ j .version = omega arith in
@@ -241,17 +243,17 @@ Fine (begun ∷ s) = Fine s
 Fine (forked n ∷ s) = Fine s
 
 -- how a stack fits the place that was reached and the ends that are kept
-record Fits (s : List Item) (es : List ℕ) (q : ℕ) : Type 0 where
+record FitsPlace (s : List Item) (es : List ℕ) (q : ℕ) : Type 0 where
   fine : Fine s
   ends : es ≡ endsOf s
   place : q ≡ 5 + length (textOf s)
 
 -- a stack that comes of another where no byte is read
 record Becomes (s s′ : List Item) (es′ : List ℕ) (q : ℕ) : Type 0 where
-  fits : Fits s′ es′ q
+  fits : FitsPlace s′ es′ q
   text : textOf s′ ≡ textOf s
 
-child-sound : (s s′ : List Item) (e : ℕ) (es : List ℕ) (q : ℕ) → Fits s (e ∷ es) q → q ≡ e → childEnded s ≡ done s′ → Becomes s s′ es q
+child-sound : (s s′ : List Item) (e : ℕ) (es : List ℕ) (q : ℕ) → FitsPlace s (e ∷ es) q → q ≡ e → childEnded s ≡ done s′ → Becomes s s′ es q
 unfolding textOf endsOf flatP opBytes bytes16
 child-sound [] s′ e es q h i d = absurd (never d)
 child-sound (proc p ∷ []) s′ e es q h i d = absurd (never d)
@@ -274,34 +276,34 @@ child-sound (tran t ∷ s) s′ e es q h i d = absurd (never d)
 child-sound (begun ∷ s) s′ e es q h i d = absurd (never d)
 child-sound (forked n ∷ s) s′ e es q h i d = absurd (never d)
 
-closed-sound : (es : List ℕ) (q : ℕ) (s : List Item) (now : Open) → Fits s es q → closed q es s ≡ done now → Becomes s (now .items) (now .ends) q
-unfolding closed
-closed-sound [] q s now h d = subst (λ (o : Open). Becomes s (o .items) (o .ends) q) (same d) (record { fits = h; text = refl })
+closed-sound : (es : List ℕ) (q : ℕ) (s : List Item) (now : OpenParts) → FitsPlace s es q → endedAt q es s ≡ done now → Becomes s (now .items) (now .ends) q
+unfolding endedAt
+closed-sound [] q s now h d = subst (λ (o : OpenParts). Becomes s (o .items) (o .ends) q) (same d) (record { fits = h; text = refl })
 closed-sound (e ∷ es) q s now h d = go (eqb q e) refl (λ s′ h′ d′. closed-sound es q s′ now h′ d′)
   where
-    go : (b : Bool) → eqb q e ≡ b → ((s′ : List Item) → Fits s′ es q → closed q es s′ ≡ done now → Becomes s′ (now .items) (now .ends) q) → Becomes s (now .items) (now .ends) q
+    go : (b : Bool) → eqb q e ≡ b → ((s′ : List Item) → FitsPlace s′ es q → endedAt q es s′ ≡ done now → Becomes s′ (now .items) (now .ends) q) → Becomes s (now .items) (now .ends) q
     go true t ih =
-        let d₁ : onward (childEnded s) (λ s′. closed q es s′) ≡ done now = rw (t, closed) at d in
-        let w = onward-from (λ s′. closed q es s′) (childEnded s) now d₁ in
+        let d₁ : onward (childEnded s) (λ s′. endedAt q es s′) ≡ done now = rw (t, endedAt) at d in
+        let w = onward-from (λ s′. endedAt q es s′) (childEnded s) now d₁ in
         let b = child-sound s (w .before) e es q h (eqb-true q e t) (w .was) in
         let r = ih (w .before) (b .fits) (w .becomes) in
         record { fits = r .fits; text = r .text ∙ b .text }
     go false t ih =
-        let d₁ : done (record { ends = e ∷ es; items = s }) ≡ done now = rw (t, closed) at d in
-        subst (λ (o : Open). Becomes s (o .items) (o .ends) q) (same d₁) (record { fits = h; text = refl })
+        let d₁ : done (record { ends = e ∷ es; items = s }) ≡ done now = rw (t, endedAt) at d in
+        subst (λ (o : OpenParts). Becomes s (o .items) (o .ends) q) (same d₁) (record { fits = h; text = refl })
 
 -- a stack that comes of another with an instruction done
 record After (op : Op) (s s′ : List Item) (es : List ℕ) (q : ℕ) : Type 0 where
-  fits : Fits s′ (endsAfter op q es) (q + sizeOf op)
+  fits : FitsPlace s′ (endsAfter op q es) (q + sizeOf op)
   text : textOf s′ ≡ textOf s ++ opBytes op
 
-after : (op : Op) (s s′ : List Item) (es : List ℕ) (q : ℕ) → Fits s es q → Fine s′ → textOf s′ ≡ textOf s ++ opBytes op → endsAfter op q es ≡ endsOf s′ → After op s s′ es q
+after : (op : Op) (s s′ : List Item) (es : List ℕ) (q : ℕ) → FitsPlace s es q → Fine s′ → textOf s′ ≡ textOf s ++ opBytes op → endsAfter op q es ≡ endsOf s′ → After op s s′ es q
 after op s s′ es q h f t e =
     let place : q + sizeOf op ≡ 5 + length (textOf s ++ opBytes op) = omega (arith, h .place, length-append (textOf s) (opBytes op), op-length op) in
     record { fits = record { fine = f; ends = e; place = rw t place }; text = t }
 
 module _ (es : List ℕ) (q : ℕ) where
-  sum-sound : (s s′ : List Item) → Fits s es q → sum s ≡ done s′ → After add s s′ es q
+  sum-sound : (s s′ : List Item) → FitsPlace s es q → sumTop s ≡ done s′ → After add s s′ es q
   unfolding textOf endsOf flatP flatT opBytes
   sum-sound [] s′ h d = absurd (never d)
   sum-sound (proc b ∷ []) s′ h d = absurd (never d)
@@ -319,7 +321,7 @@ module _ (es : List ℕ) (q : ℕ) where
   sum-sound (begun ∷ s) s′ h d = absurd (never d)
   sum-sound (forked n ∷ s) s′ h d = absurd (never d)
 
-  written-sound : (v : ℕ) (s s′ : List Item) → v < 64 → Fits s es q → written v s ≡ done s′ → After (write v) s s′ es q
+  written-sound : (v : ℕ) (s s′ : List Item) → v < 64 → FitsPlace s es q → writeTop v s ≡ done s′ → After (write v) s s′ es q
   unfolding textOf endsOf flatT opBytes
   written-sound v [] s′ l h d = absurd (never d)
   written-sound v (proc p ∷ s) s′ l h d = absurd (never d)
@@ -328,7 +330,7 @@ module _ (es : List ℕ) (q : ℕ) where
   written-sound v (begun ∷ s) s′ l h d = absurd (never d)
   written-sound v (forked n ∷ s) s′ l h d = absurd (never d)
 
-  committed-sound : (s s′ : List Item) → Fits s es q → committed s ≡ done s′ → After commit s s′ es q
+  committed-sound : (s s′ : List Item) → FitsPlace s es q → commitTop s ≡ done s′ → After commit s s′ es q
   unfolding textOf endsOf flatP opBytes
   committed-sound [] s′ h d = absurd (never d)
   committed-sound (proc p ∷ s) s′ h d = absurd (never d)
@@ -341,26 +343,26 @@ module _ (es : List ℕ) (q : ℕ) where
   committed-sound (begun ∷ s) s′ h d = absurd (never d)
   committed-sound (forked n ∷ s) s′ h d = absurd (never d)
 
-  value-sound : (n : ℤ) (inside : Bool) (s : List Item) → InRange n → Fits s es q → After (push n) s (value inside n ∷ s) es q
+  value-sound : (n : ℤ) (inside : Bool) (s : List Item) → InRange n → FitsPlace s es q → After (push n) s (valueItem inside n ∷ s) es q
   unfolding textOf endsOf flatP flatT opBytes
   value-sound n true s v h = after (push n) s (tran (ValT n) ∷ s) es q h (v, h .fine) refl (h .ends)
   value-sound n false s v h = after (push n) s (proc (ValP n) ∷ s) es q h (v, h .fine) refl (h .ends)
 
-  stays-from : (inside : Bool) (o : Outcome (List Item)) (next : Done) → stays inside o ≡ done next → o ≡ done (next .items)
+  stays-from : (inside : Bool) (o : Outcome (List Item)) (next : Done) → doneWith inside o ≡ done next → o ≡ done (next .items)
   stays-from inside (refused n p) next e = absurd (never e)
   stays-from inside (done s) next e = ap (λ (d : Done). done (d .items)) (same e)
 
-  op-sound : (op : Op) (inside : Bool) (s : List Item) (next : Done) → ValuedO op → Fits s es q → doOp op inside s ≡ done next → After op s (next .items) es q
+  op-sound : (op : Op) (inside : Bool) (s : List Item) (next : Done) → ValuedO op → FitsPlace s es q → doOp op inside s ≡ done next → After op s (next .items) es q
   unfolding doOp textOf endsOf flatT opBytes
   op-sound (push n) inside s next v h d =
-      subst (λ (l : List Item). After (push n) s l es q) (same (stays-from inside (done (value inside n ∷ s)) next d)) (value-sound n inside s v h)
-  op-sound add inside s next v h d = sum-sound s (next .items) h (stays-from inside (sum s) next d)
+      subst (λ (l : List Item). After (push n) s l es q) (same (stays-from inside (done (valueItem inside n ∷ s)) next d)) (value-sound n inside s v h)
+  op-sound add inside s next v h d = sum-sound s (next .items) h (stays-from inside (sumTop s) next d)
   op-sound (read r) inside s next v h d =
       subst (λ (l : List Item). After (read r) s l es q) (same (stays-from true (done (tran (Read r) ∷ s)) next (passed (not inside) 11 0 _ d .1))) (after (read r) s (tran (Read r) ∷ s) es q h (v, h .fine) refl (h .ends))
-  op-sound (write r) inside s next v h d = written-sound r s (next .items) v h (stays-from true (written r s) next (passed (not inside) 11 0 _ d .1))
+  op-sound (write r) inside s next v h d = written-sound r s (next .items) v h (stays-from true (writeTop r s) next (passed (not inside) 11 0 _ d .1))
   op-sound begin inside s next v h d =
       subst (λ (l : List Item). After begin s l es q) (same (stays-from true (done (begun ∷ s)) next (passed inside 11 0 _ d .1))) (after begin s (begun ∷ s) es q h (h .fine) refl (h .ends))
-  op-sound commit inside s next v h d = committed-sound s (next .items) h (stays-from false (committed s) next (passed (not inside) 11 0 _ d .1))
+  op-sound commit inside s next v h d = committed-sound s (next .items) h (stays-from false (commitTop s) next (passed (not inside) 11 0 _ d .1))
   op-sound (fork n) inside s next v h d =
       subst (λ (l : List Item). After (fork n) s l es q) (same (stays-from false (done (forked n ∷ s)) next (passed inside 11 0 _ d .1))) (after (fork n) s (forked n ∷ s) es q h (h .fine) refl (rw (h .place, h .ends)))
 
@@ -375,11 +377,11 @@ ended-sound [] (forked n ∷ s) p d = absurd (never d)
 ended-sound (e ∷ es) s p d = absurd (never d)
 
 -- what was read and what is still to be read is the process's code
-record Whole (s : List Item) (bs : List ℕ) (p : Proc) : Type 0 where
+record WholeText (s : List Item) (bs : List ℕ) (p : Proc) : Type 0 where
   text : textOf s ++ bs ≡ flatP p
   valued : ValuedP p
 
-end-sound : (s : List Item) (now : Open) (q : ℕ) (p : Proc) → Becomes s (now .items) (now .ends) q → ended now ≡ done p → Whole s [] p
+end-sound : (s : List Item) (now : OpenParts) (q : ℕ) (p : Proc) → Becomes s (now .items) (now .ends) q → ended now ≡ done p → WholeText s [] p
 unfolding textOf
 end-sound s now q p b d =
     let i : now .items ≡ proc p ∷ [] = ended-sound (now .ends) (now .items) p d in
@@ -387,16 +389,16 @@ end-sound s now q p b d =
     let t : flatP p ≡ textOf s = sym (ap textOf i) ∙ b .text in
     record { text = append-nil (textOf s) ∙ sym t; valued = f .0 }
 
-module _ (fuel : ℕ) (ih : (inside : Bool) (s : List Item) (es : List ℕ) (q : ℕ) (bs : List ℕ) (p : Proc) → Bytes bs → Fits s es q → readOps fuel inside s es q bs ≡ done p → Whole s bs p) where
-  next-sound : (inside : Bool) (s : List Item) (es : List ℕ) (q : ℕ) (x : ℕ) (bs : List ℕ) (p : Proc) → Bytes (x ∷ bs) → Fits s es q → Sees (x ∷ bs) → readOps (suc fuel) inside s es q (x ∷ bs) ≡ done p → Whole s (x ∷ bs) p
+module _ (fuel : ℕ) (ih : (inside : Bool) (s : List Item) (es : List ℕ) (q : ℕ) (bs : List ℕ) (p : Proc) → Bytes bs → FitsPlace s es q → readOps fuel inside s es q bs ≡ done p → WholeText s bs p) where
+  next-sound : (inside : Bool) (s : List Item) (es : List ℕ) (q : ℕ) (x : ℕ) (bs : List ℕ) (p : Proc) → Bytes (x ∷ bs) → FitsPlace s es q → Sees (x ∷ bs) → readOps (suc fuel) inside s es q (x ∷ bs) ≡ done p → WholeText s (x ∷ bs) p
   unfolding readOps
   next-sound inside s es q x bs p b h (bad o) d =
-      let w = onward-from _ (closed q es s) p d in
+      let w = onward-from _ (endedAt q es s) p d in
       let d₁ : refused 11 0 ≡ done p = rw (eqb·suc-zero (length bs), o) at (w .becomes) in
       absurd (never d₁)
   next-sound inside s es q x bs p b h (good op rest v eq) d =
       let d₀ : readOps (suc fuel) inside s es q (opBytes op ++ rest) ≡ done p = subst (λ (l : List ℕ). readOps (suc fuel) inside s es q l ≡ done p) eq d in
-      let w = onward-from _ (closed q es s) p d₀ in
+      let w = onward-from _ (endedAt q es s) p d₀ in
       let now = w .before in
       let c = closed-sound es q s now h (w .was) in
       let d₁ : onward (doOp op inside (now .items)) (λ (next : Done). readOps fuel (next .inside) (next .items) (endsAfter op q (now .ends)) (q + sizeOf op) rest) ≡ done p = rw (op-some op rest, op-reads op rest v, drop-at (opBytes op) rest (sizeOf op) (op-length op)) at (w .becomes) in
@@ -408,20 +410,20 @@ module _ (fuel : ℕ) (ih : (inside : Bool) (s : List Item) (es : List ℕ) (q :
       record { text = rw eq t; valued = r .valued }
 
 -- what is read is the code of the process that is given
-ops-sound : (fuel : ℕ) (inside : Bool) (s : List Item) (es : List ℕ) (q : ℕ) (bs : List ℕ) (p : Proc) → Bytes bs → Fits s es q → readOps fuel inside s es q bs ≡ done p → Whole s bs p
+ops-sound : (fuel : ℕ) (inside : Bool) (s : List Item) (es : List ℕ) (q : ℕ) (bs : List ℕ) (p : Proc) → Bytes bs → FitsPlace s es q → readOps fuel inside s es q bs ≡ done p → WholeText s bs p
 unfolding readOps
 ops-sound zero inside s es q bs p b h d = absurd (never d)
 ops-sound (suc fuel) inside s es q [] p b h d =
-    let w = onward-from _ (closed q es s) p d in
+    let w = onward-from _ (endedAt q es s) p d in
     end-sound s (w .before) q p (closed-sound es q s (w .before) h (w .was)) (w .becomes)
 ops-sound (suc fuel) inside s es q (x ∷ bs) p b h d =
     next-sound fuel (λ inside s es q bs p b h d. ops-sound fuel inside s es q bs p b h d) inside s es q x bs p b h (seen (x ∷ bs) b) d
 
-start-fits : Fits [] [] 5
+start-fits : FitsPlace [] [] 5
 unfolding textOf endsOf
 start-fits = record { fine = tt; ends = refl; place = refl }
 
-start-whole : (bs : List ℕ) (p : Proc) → Whole [] bs p → bs ≡ flatP p
+start-whole : (bs : List ℕ) (p : Proc) → WholeText [] bs p → bs ≡ flatP p
 unfolding textOf
 start-whole bs p w = w .text
 
@@ -431,11 +433,11 @@ unfolding codeMark
 text-of j a b c d e rest pd pe p q s v r = rw (compiled-flat j, p, q, s, ← v, bytes16-number16 d e pd pe, r)
 
 sound-long : (a b c d e : ℕ) (rest : List ℕ) (j : Job) → Bytes (a ∷ b ∷ c ∷ d ∷ e ∷ rest) → readCode (a ∷ b ∷ c ∷ d ∷ e ∷ rest) ≡ done j → IsCode (a ∷ b ∷ c ∷ d ∷ e ∷ rest) j
-unfolding readCode marked taken
+unfolding readCode codeMarked taken
 sound-long a b c d e rest j small h =
     let bs : List ℕ = a ∷ b ∷ c ∷ d ∷ e ∷ rest in
     let t₁ = passed (ltb (length bs) 5) 11 0 _ h in
-    let t₂ = passed (not (marked bs)) 11 0 _ (t₁ .1) in
+    let t₂ = passed (not (codeMarked bs)) 11 0 _ (t₁ .1) in
     let t₃ = passed (not (taken (d * 256 + e))) 11 0 _ (t₂ .1) in
     let w = onward-from _ (readOps (suc (length bs)) false [] [] 5 rest) j (t₃ .1) in
     let p = w .before in

@@ -8,21 +8,23 @@ use native.Mathlib.Omega.{arith}
 use lib.Dec.{eqb, leb, ltb, eqb·suc-zero}
 use lib.ListN.{length, drop}
 use borrow.Author.Tests.{le-leb, leb-true}
-use Rattle.code.specs.Reader.{Op, opAt, sizeOf, Item, proc, tran, begun, forked, Done, doOp, endsAfter, Open, ended, readOps, within, marked, readCode}
-use Rattle.code.specs.Scan.{Scan, started, scanOp, moved, finished, scanOps, Summary, summary, scanCode}
+use Rattle.code.specs.Ops.{Op, opAt, sizeOf}
+use Rattle.code.specs.Reader.{Item, proc, tran, begun, forked, Done, doOp, endsAfter, OpenParts, ended, readOps, within, codeMarked, readCode}
+use Rattle.code.specs.InnerScan.{ListScan, scanStart, scanOp, movedPast, finished, scanOps, Summary, summary, scanCode}
 use Rattle.code.proofs.ReadBack.{within-yes, within-back}
 use Rattle.code.proofs.Foreign.{Eleven, ops-eleven}
-use Rattle.code.specs.Parts.{jobText, nodesI, forksI}
-use Rattle.code.proofs.Texts.{topmost, peak, marksOf, stateOf, Step, Both, fails, goes, op-both, Closing, stops, keeps, closing-both, readsOn, readsNext, ops-grown}
+use Rattle.code.specs.InnerParts.{jobText, nodesI, forksI}
+use Rattle.code.proofs.Texts.{topmost, peak, stackOf, stateOf, Step, Both, fails, goes, op-both, Closing, stops, keeps, closing-both, readsOn, readsNext, ops-grown}
 use Rattle.script.specs.Tree.{Proc}
 use Rattle.script.specs.Count.{nodesP, forks}
 use Rattle.script.specs.Bytes.{bytes16, bytesP, jobMark, jobBytes}
 use Rattle.script.specs.Outcome.{Outcome, refused, done, refuse, onward, mapped}
-use Rattle.script.specs.Reader.{number16, taken}
+use Rattle.script.specs.Jobs.{number16}
+use Rattle.script.specs.Reader.{taken}
 use Rattle.script.proofs.Accepts.{both}
 
 -- a stack within the limits
-record Small (s : List Item) : Type 0 where
+record WithinLimits (s : List Item) : Type 0 where
   flat : peak s ≤ 64
   few : nodesI s ≤ 1000
   narrow : forksI s ≤ 15
@@ -51,15 +53,15 @@ unfolding jobBytes jobMark bytes16
 job-length version p = omega arith
 
 -- what is scanned behind an instruction, and behind the children that end
-abbrev scansOn : (fuel : ℕ) (bs : List ℕ) → Op → Scan → Outcome Scan
-scansOn fuel bs op next = scanOps fuel (moved op next) (drop (sizeOf op) bs)
+abbrev scansOn : (fuel : ℕ) (bs : List ℕ) → Op → ListScan → Outcome ListScan
+scansOn fuel bs op next = scanOps fuel (movedPast op next) (drop (sizeOf op) bs)
 
-abbrev scansNext : (fuel : ℕ) (bs : List ℕ) → Scan → Outcome Scan
+abbrev scansNext : (fuel : ℕ) (bs : List ℕ) → ListScan → Outcome ListScan
 scansNext fuel bs now = onward (opAt bs) (λ (op : Op). onward (scanOp op now) (scansOn fuel bs op))
 
 module _ (version : ℕ) where
   -- what the scan and the reading of a version's code come to
-  abbrev told : Scan → Summary
+  abbrev told : ListScan → Summary
   told s = record { version = version; nodes = s .nodes; size = s .size }
 
   abbrev judged : Proc → Outcome Summary
@@ -84,8 +86,8 @@ module _ (version : ℕ) where
         rw (h .0, h .1)
     none-fits (done p) d = too-large p (within p) d refl
 
-  last-same : (inside : Bool) (s : List Item) (es : List ℕ) (q : ℕ) → Small s → mapped told (finished (stateOf inside s es q)) ≡ onward (ended (record { ends = es; items = s })) judged
-  unfolding finished marksOf peak nodesI forksI jobText summary
+  last-same : (inside : Bool) (s : List Item) (es : List ℕ) (q : ℕ) → WithinLimits s → mapped told (finished (stateOf inside s es q)) ≡ onward (ended (record { ends = es; items = s })) judged
+  unfolding finished stackOf peak nodesI forksI jobText summary
   last-same inside [] [] q h = refl
   last-same inside (proc p ∷ []) [] q h =
       let flat : peak (proc p ∷ []) ≤ 64 = h .flat in
@@ -93,41 +95,41 @@ module _ (version : ℕ) where
       let narrow : 0 + forks p ≤ 15 = h .narrow in
       let e : 0 + nodesP p ≡ nodesP p = omega arith in
       rw (within-yes p (omega arith) (omega arith) (omega arith), job-length version p, e)
-  last-same inside (proc p ∷ x ∷ s) [] q h = rw (eqb·suc-zero (length (marksOf s)))
+  last-same inside (proc p ∷ x ∷ s) [] q h = rw (eqb·suc-zero (length (stackOf s)))
   last-same inside (tran t ∷ s) [] q h = refl
   last-same inside (begun ∷ s) [] q h = refl
   last-same inside (forked n ∷ s) [] q h = refl
   last-same inside s (e ∷ es) q h = refl
 
-  module _ (fuel : ℕ) (ih : (inside : Bool) (s : List Item) (es : List ℕ) (q : ℕ) (bs : List ℕ) → Small s → mapped told (scanOps fuel (stateOf inside s es q) bs) ≡ onward (readOps fuel inside s es q bs) judged) (bs : List ℕ) where
+  module _ (fuel : ℕ) (ih : (inside : Bool) (s : List Item) (es : List ℕ) (q : ℕ) (bs : List ℕ) → WithinLimits s → mapped told (scanOps fuel (stateOf inside s es q) bs) ≡ onward (readOps fuel inside s es q bs) judged) (bs : List ℕ) where
     -- behind an instruction: within the limits both go on, beyond them the reading comes to no tree
-    going : (op : Op) (inside : Bool) (s s′ : List Item) (es : List ℕ) (q : ℕ) (b : Bool) → Small s → Step s s′ → fit (topmost s′) (nodesI s′) (forksI s′) ≡ b → mapped told (onward (refuse (not b) 11 0 (done (stateOf inside s′ es q))) (scansOn fuel bs op)) ≡ onward (readOps fuel inside s′ (endsAfter op q es) (q + sizeOf op) (drop (sizeOf op) bs)) judged
-    unfolding moved
+    going : (op : Op) (inside : Bool) (s s′ : List Item) (es : List ℕ) (q : ℕ) (b : Bool) → WithinLimits s → Step s s′ → fit (topmost s′) (nodesI s′) (forksI s′) ≡ b → mapped told (onward (refuse (not b) 11 0 (done (stateOf inside s′ es q))) (scansOn fuel bs op)) ≡ onward (readOps fuel inside s′ (endsAfter op q es) (q + sizeOf op) (drop (sizeOf op) bs)) judged
+    unfolding movedPast
     going op inside s s′ es q true h step t =
         let l = fit-back (topmost s′) (nodesI s′) (forksI s′) t in
         ih inside s′ (endsAfter op q es) (q + sizeOf op) (drop (sizeOf op) bs) (omega arith)
     going op inside s s′ es q false h step t =
         sym (none-fits fuel inside s′ (endsAfter op q es) (q + sizeOf op) (drop (sizeOf op) bs) t (readOps fuel inside s′ (endsAfter op q es) (q + sizeOf op) (drop (sizeOf op) bs)) refl)
 
-    op-same : {s : List Item} {es : List ℕ} {q : ℕ} {x : Outcome Scan} {y : Outcome Done} (op : Op) → Small s → Both s es q x y → mapped told (onward x (scansOn fuel bs op)) ≡ onward (onward y (readsOn fuel bs es q op)) judged
+    op-same : {s : List Item} {es : List ℕ} {q : ℕ} {x : Outcome ListScan} {y : Outcome Done} (op : Op) → WithinLimits s → Both s es q x y → mapped told (onward x (scansOn fuel bs op)) ≡ onward (onward y (readsOn fuel bs es q op)) judged
     op-same op h fails = refl
     op-same {s = s} {es = es} {q = q} op h (goes {inside = inside} {s′ = s′} step) = going op inside s s′ es q (fit (topmost s′) (nodesI s′) (forksI s′)) h step refl
 
-    next-same : (inside : Bool) (s : List Item) (es : List ℕ) (q : ℕ) (o : Outcome Op) → Small s → mapped told (onward o (λ (op : Op). onward (scanOp op (stateOf inside s es q)) (scansOn fuel bs op))) ≡ onward (onward o (λ (op : Op). onward (doOp op inside s) (readsOn fuel bs es q op))) judged
+    next-same : (inside : Bool) (s : List Item) (es : List ℕ) (q : ℕ) (o : Outcome Op) → WithinLimits s → mapped told (onward o (λ (op : Op). onward (scanOp op (stateOf inside s es q)) (scansOn fuel bs op))) ≡ onward (onward o (λ (op : Op). onward (doOp op inside s) (readsOn fuel bs es q op))) judged
     next-same inside s es q (refused n p) h = refl
     next-same inside s es q (done op) h = op-same op h (op-both es q op inside s)
 
     -- at the end of the code, and before it
-    rest-same : (inside : Bool) (s : List Item) (es : List ℕ) (q : ℕ) (b : Bool) → Small s → mapped told (elim b as (λ z. Outcome Scan) [ true ↦ finished (stateOf inside s es q) | false ↦ scansNext fuel bs (stateOf inside s es q) ]) ≡ onward (elim b as (λ z. Outcome Proc) [ true ↦ ended (record { ends = es; items = s }) | false ↦ readsNext fuel bs inside q (record { ends = es; items = s }) ]) judged
+    rest-same : (inside : Bool) (s : List Item) (es : List ℕ) (q : ℕ) (b : Bool) → WithinLimits s → mapped told (elim b as (λ z. Outcome ListScan) [ true ↦ finished (stateOf inside s es q) | false ↦ scansNext fuel bs (stateOf inside s es q) ]) ≡ onward (elim b as (λ z. Outcome Proc) [ true ↦ ended (record { ends = es; items = s }) | false ↦ readsNext fuel bs inside q (record { ends = es; items = s }) ]) judged
     rest-same inside s es q true h = last-same inside s es q h
     rest-same inside s es q false h = next-same inside s es q (opAt bs) h
 
-    closing-same : {inside : Bool} {s : List Item} {q : ℕ} {x : Outcome Scan} {y : Outcome Open} → Small s → Closing inside s q x y → mapped told (onward x (λ (now : Scan). elim (eqb (length bs) 0) as (λ z. Outcome Scan) [ true ↦ finished now | false ↦ scansNext fuel bs now ])) ≡ onward (onward y (λ (now : Open). elim (eqb (length bs) 0) as (λ z. Outcome Proc) [ true ↦ ended now | false ↦ readsNext fuel bs inside q now ])) judged
+    closing-same : {inside : Bool} {s : List Item} {q : ℕ} {x : Outcome ListScan} {y : Outcome OpenParts} → WithinLimits s → Closing inside s q x y → mapped told (onward x (λ (now : ListScan). elim (eqb (length bs) 0) as (λ z. Outcome ListScan) [ true ↦ finished now | false ↦ scansNext fuel bs now ])) ≡ onward (onward y (λ (now : OpenParts). elim (eqb (length bs) 0) as (λ z. Outcome Proc) [ true ↦ ended now | false ↦ readsNext fuel bs inside q now ])) judged
     closing-same h stops = refl
     closing-same {inside = inside} {s = s} {q = q} h (keeps {es′ = es′} {s′ = s′} k) = rest-same inside s′ es′ q (eqb (length bs) 0) (omega arith)
 
   -- from a stack within the limits the scan comes to what the reading comes to
-  ops-same : (fuel : ℕ) (inside : Bool) (s : List Item) (es : List ℕ) (q : ℕ) (bs : List ℕ) → Small s → mapped told (scanOps fuel (stateOf inside s es q) bs) ≡ onward (readOps fuel inside s es q bs) judged
+  ops-same : (fuel : ℕ) (inside : Bool) (s : List Item) (es : List ℕ) (q : ℕ) (bs : List ℕ) → WithinLimits s → mapped told (scanOps fuel (stateOf inside s es q) bs) ≡ onward (readOps fuel inside s es q bs) judged
   unfolding scanOps readOps
   ops-same zero inside s es q bs h = refl
   ops-same (suc fuel) inside s es q bs h = closing-same fuel (λ inside s es q bs h. ops-same fuel inside s es q bs h) bs h (closing-both inside q es s)
@@ -140,13 +142,13 @@ refuse-mapped : {A B : Type 0} (g : A → B) (b : Bool) (n p : ℕ) (x : Outcome
 refuse-mapped g true n p x o e = refl
 refuse-mapped g false n p x o e = e
 
-start-small : Small []
+start-small : WithinLimits []
 unfolding peak nodesI forksI
 start-small = omega arith
 
 -- the scan refuses the code that the reading refuses, and else tells the version, the nodes and the bytes of the job that is read
 pub scan-is-read : (bs : List ℕ) → scanCode bs ≡ mapped summary (readCode bs)
-unfolding scanCode readCode started marksOf nodesI forksI jobText
+unfolding scanCode readCode scanStart stackOf nodesI forksI jobText
 scan-is-read bs =
     let v = number16 bs 3 in
     refuse-mapped
@@ -158,7 +160,7 @@ scan-is-read bs =
     _
     (refuse-mapped
     summary
-    (not (marked bs))
+    (not (codeMarked bs))
     11
     0
     _

@@ -1,5 +1,5 @@
 -- What a stack of parts holds of the job that the code becomes: its bytes, nodes, FORKs and depth; that one instruction does the same
--- to the reader's stack and to the scan's marks; and that what a stack holds only grows until the tree is there. Assumes nothing.
+-- to the reader's stack and to the scan's stack; and that what a stack holds only grows until the tree is there. Assumes nothing.
 use Prim.Native.Nat.{ℕ, zero, suc, _+_, _≤_, max}
 use mathlib.Core.Path.{_≡_, refl, subst}
 use mathlib.Core.Bool.{Bool, true, false}
@@ -8,9 +8,10 @@ use native.Mathlib.Omega.{arith}
 use lib.Dec.{eqb, eqb·suc-zero}
 use lib.IntN.{ℤ}
 use lib.ListN.{length, drop, length-append}
-use Rattle.code.specs.Reader.{foreign, Op, push, add, read, write, begin, commit, fork, opAt, sizeOf, Item, proc, tran, begun, forked, Done, doOp, endsAfter, Open, closed, ended, readOps}
-use Rattle.code.specs.Parts.{kindOf, depthOf, nodesOf, forksOf, bytesOf, jobText, nodesI, forksI}
-use Rattle.code.specs.Scan.{Mark, Scan, bounded, topped, merged, scanOp, closes}
+use Rattle.code.specs.Ops.{foreign, Op, push, add, read, write, begin, commit, fork, opAt, sizeOf}
+use Rattle.code.specs.Reader.{Item, proc, tran, begun, forked, Done, doOp, endsAfter, OpenParts, endedAt, ended, readOps}
+use Rattle.code.specs.InnerParts.{itemKind, itemDepth, itemNodes, itemForks, itemBytes, jobText, nodesI, forksI}
+use Rattle.code.specs.InnerScan.{ScanItem, ListScan, bounded, topped, merged, scanOp, closes}
 use Rattle.code.proofs.ReadBack.{onward-from, never, same, ended-sound}
 use Rattle.script.specs.Tree.{Tran, ValT, AddT, Read, Write, Proc, ValP, AddP, Atomic, Fork}
 use Rattle.script.specs.Count.{nodesT, nodesP, depthT, depthP, forks}
@@ -20,21 +21,21 @@ use Rattle.script.specs.Outcome.{Outcome, done, onward}
 -- the depth that the topmost item comes to at least, and the deepest
 abbrev pub topmost : List Item → ℕ
 topmost [] = 0
-topmost (x ∷ s) = length s + depthOf x
+topmost (x ∷ s) = length s + itemDepth x
 
 unfoldable pub peak : List Item → ℕ
 peak [] = 0
 peak (x ∷ s) = max (topmost (x ∷ s)) (peak s)
 
--- the scan's marks of a stack, and its state
-unfoldable pub marksOf : List Item → List Mark
-marksOf [] = []
-marksOf (x ∷ s) = record { kind = kindOf x; reach = topmost (x ∷ s) } ∷ marksOf s
+-- the scan's stack of a stack, and its state
+unfoldable pub stackOf : List Item → List ScanItem
+stackOf [] = []
+stackOf (x ∷ s) = record { kind = itemKind x; reach = topmost (x ∷ s) } ∷ stackOf s
 
-abbrev pub stateOf : (inside : Bool) → List Item → (ends : List ℕ) (place : ℕ) → Scan
+abbrev pub stateOf : (inside : Bool) → List Item → (ends : List ℕ) (place : ℕ) → ListScan
 stateOf inside s ends place =
     record {
-      marks = marksOf s;
+      stack = stackOf s;
       inside = inside;
       ends = ends;
       place = place;
@@ -43,10 +44,10 @@ stateOf inside s ends place =
       size = 7 + length (jobText s);
     }
 
-marks-length : (s : List Item) → length (marksOf s) ≡ length s
-unfolding marksOf
-marks-length [] = refl
-marks-length (x ∷ s) = rw (marks-length s)
+stack-length : (s : List Item) → length (stackOf s) ≡ length s
+unfolding stackOf
+stack-length [] = refl
+stack-length (x ∷ s) = rw (stack-length s)
 
 -- a part has at least its own node
 deepT : (t : Tran) → 1 ≤ depthT t
@@ -63,7 +64,7 @@ deepP (AddP a b) = omega arith
 deepP (Atomic t) = omega arith
 deepP (Fork p) = omega arith
 
-deep : (x : Item) → 1 ≤ depthOf x
+deep : (x : Item) → 1 ≤ itemDepth x
 deep (proc p) = deepP p
 deep (tran t) = deepT t
 deep begun = omega arith
@@ -85,23 +86,23 @@ pub record Step (s s′ : List Item) : Type 0 where
   pub near : peak s′ ≤ max (topmost s′) (peak s)
 
 -- the same numbers: a child's end changes none of them
-pub record Kept (s s′ : List Item) : Type 0 where
+pub record SameNumbers (s s′ : List Item) : Type 0 where
   pub depth : peak s ≡ peak s′
   pub nodes : nodesI s ≡ nodesI s′
   pub forks : forksI s ≡ forksI s′
   pub text : length (jobText s) ≡ length (jobText s′)
 
-kept : (s : List Item) → Kept s s
+kept : (s : List Item) → SameNumbers s s
 kept s = omega arith
 
-kept-then : {a b c : List Item} → Kept a b → Kept b c → Kept a c
+kept-then : {a b c : List Item} → SameNumbers a b → SameNumbers b c → SameNumbers a c
 kept-then g h = omega arith
 
-kept-grown : {s s′ : List Item} → Kept s s′ → Grown s s′
+kept-grown : {s s′ : List Item} → SameNumbers s s′ → Grown s s′
 kept-grown k = omega arith
 
 -- an instruction in the scan and in the reader: both refuse, or both go on with the same stack if it is within the limits so far
-pub data Both (s : List Item) (es : List ℕ) (q : ℕ) : Outcome Scan → Outcome Done → Type 0 where
+pub data Both (s : List Item) (es : List ℕ) (q : ℕ) : Outcome ListScan → Outcome Done → Type 0 where
   fails : Both s es q foreign foreign
   goes : {inside : Bool} {s′ : List Item} → Step s s′ → Both s es q (bounded (stateOf inside s′ es q) (topmost s′)) (done (record { items = s′; inside = inside }))
 
@@ -115,21 +116,21 @@ record Merging (before : List Item) (x : Item) (s : List Item) (reach nodes size
   under : peak before ≤ peak (x ∷ s)
 
 module _ (es : List ℕ) (q : ℕ) where
-  merges : (before : List Item) (x : Item) (s : List Item) (was inside : Bool) (r n z : ℕ) → Merging before x s r n z → Both before es q (merged (stateOf was before es q) (kindOf x) r (marksOf s) inside n z) (done (record { items = x ∷ s; inside = inside }))
-  unfolding marksOf peak
+  merges : (before : List Item) (x : Item) (s : List Item) (was inside : Bool) (r n z : ℕ) → Merging before x s r n z → Both before es q (merged (stateOf was before es q) (itemKind x) r (stackOf s) inside n z) (done (record { items = x ∷ s; inside = inside }))
+  unfolding stackOf peak
   merges before x s was inside r n z h =
       let size : 7 + length (jobText before) + z ≡ 7 + length (jobText (x ∷ s)) = omega arith in
       let step : Step before (x ∷ s) = omega arith in
       rw (h .reached, h .noded, h .forked′, size) (goes step)
 
-  tops : (x : Item) (s : List Item) (was inside : Bool) → depthOf x ≡ 1 → nodesOf x ≡ 1 → Both s es q (topped (stateOf was s es q) (kindOf x) inside (forksOf x) (length (bytesOf x))) (done (record { items = x ∷ s; inside = inside }))
-  unfolding marksOf peak nodesI forksI jobText
+  tops : (x : Item) (s : List Item) (was inside : Bool) → itemDepth x ≡ 1 → itemNodes x ≡ 1 → Both s es q (topped (stateOf was s es q) (itemKind x) inside (itemForks x) (length (itemBytes x))) (done (record { items = x ∷ s; inside = inside }))
+  unfolding stackOf peak nodesI forksI jobText
   tops x s was inside d n =
-      let len = length-append (jobText s) (bytesOf x) in
-      let many = marks-length s in
-      let reach : suc (length (marksOf s)) ≡ topmost (x ∷ s) = omega arith in
+      let len = length-append (jobText s) (itemBytes x) in
+      let many = stack-length s in
+      let reach : suc (length (stackOf s)) ≡ topmost (x ∷ s) = omega arith in
       let nodes : nodesI s + 1 ≡ nodesI (x ∷ s) = omega arith in
-      let size : 7 + length (jobText s) + length (bytesOf x) ≡ 7 + length (jobText (x ∷ s)) = omega arith in
+      let size : 7 + length (jobText s) + length (itemBytes x) ≡ 7 + length (jobText (x ∷ s)) = omega arith in
       let step : Step s (x ∷ s) = omega arith in
       rw (reach, nodes, size) (goes step)
 
@@ -154,7 +155,7 @@ module _ (es : List ℕ) (q : ℕ) where
   fork-both n false s = tops (forked n) s false false refl refl
 
   add-both : (inside : Bool) (s : List Item) → Both s es q (scanOp add (stateOf inside s es q)) (doOp add inside s)
-  unfolding scanOp doOp marksOf peak nodesI forksI jobText depthT depthP nodesT nodesP forks bytesT bytesP nodeBytes
+  unfolding scanOp doOp stackOf peak nodesI forksI jobText depthT depthP nodesT nodesP forks bytesT bytesP nodeBytes
   add-both inside [] = fails
   add-both inside (proc b ∷ []) = fails
   add-both inside (proc b ∷ proc a ∷ s) =
@@ -188,7 +189,7 @@ module _ (es : List ℕ) (q : ℕ) where
   add-both inside (forked m ∷ forked n ∷ s) = fails
 
   write-both : (v : ℕ) (inside : Bool) (s : List Item) → Both s es q (scanOp (write v) (stateOf inside s es q)) (doOp (write v) inside s)
-  unfolding scanOp doOp marksOf peak nodesI forksI jobText depthT nodesT bytesT nodeBytes
+  unfolding scanOp doOp stackOf peak nodesI forksI jobText depthT nodesT bytesT nodeBytes
   write-both v false [] = fails
   write-both v false (x ∷ s) = fails
   write-both v true [] = fails
@@ -201,7 +202,7 @@ module _ (es : List ℕ) (q : ℕ) where
   write-both v true (forked n ∷ s) = fails
 
   commit-both : (inside : Bool) (s : List Item) → Both s es q (scanOp commit (stateOf inside s es q)) (doOp commit inside s)
-  unfolding scanOp doOp marksOf peak nodesI forksI jobText depthP nodesP forks bytesP nodeBytes
+  unfolding scanOp doOp stackOf peak nodesI forksI jobText depthP nodesP forks bytesP nodeBytes
   commit-both false [] = fails
   commit-both false (x ∷ []) = fails
   commit-both false (x ∷ y ∷ s) = fails
@@ -222,7 +223,7 @@ module _ (es : List ℕ) (q : ℕ) where
   commit-both true (forked n ∷ []) = fails
   commit-both true (forked n ∷ y ∷ s) = fails
 
-  -- one instruction does the same to a stack and to its marks
+  -- one instruction does the same to a stack and to its stack
   pub op-both : (op : Op) (inside : Bool) (s : List Item) → Both s es q (scanOp op (stateOf inside s es q)) (doOp op inside s)
   op-both (push n) inside s = push-both n inside s
   op-both add inside s = add-both inside s
@@ -233,15 +234,15 @@ module _ (es : List ℕ) (q : ℕ) where
   op-both (fork n) inside s = fork-both n inside s
 
 -- the children that end at a place, in the scan and in the reader: both refuse, or both go on with the same stack
-pub data Closing (inside : Bool) (s : List Item) (q : ℕ) : Outcome Scan → Outcome Open → Type 0 where
+pub data Closing (inside : Bool) (s : List Item) (q : ℕ) : Outcome ListScan → Outcome OpenParts → Type 0 where
   stops : Closing inside s q foreign foreign
-  keeps : {es′ : List ℕ} {s′ : List Item} → Kept s s′ → Closing inside s q (done (stateOf inside s′ es′ q)) (done (record { ends = es′; items = s′ }))
+  keeps : {es′ : List ℕ} {s′ : List Item} → SameNumbers s s′ → Closing inside s q (done (stateOf inside s′ es′ q)) (done (record { ends = es′; items = s′ }))
 
-closing-from : {inside : Bool} {a b : List Item} {q : ℕ} {x : Outcome Scan} {y : Outcome Open} → Kept a b → Closing inside b q x y → Closing inside a q x y
+closing-from : {inside : Bool} {a b : List Item} {q : ℕ} {x : Outcome ListScan} {y : Outcome OpenParts} → SameNumbers a b → Closing inside b q x y → Closing inside a q x y
 closing-from k stops = stops
 closing-from k (keeps h) = keeps (kept-then k h)
 
-child-kept : (p : Proc) (n : ℕ) (s : List Item) → Kept (proc p ∷ forked n ∷ s) (proc (Fork p) ∷ s)
+child-kept : (p : Proc) (n : ℕ) (s : List Item) → SameNumbers (proc p ∷ forked n ∷ s) (proc (Fork p) ∷ s)
 unfolding peak nodesI forksI jobText depthP nodesP forks bytesP nodeBytes
 child-kept p n s =
     let before = length-append (jobText s ++ (4 ∷ [])) (bytesP p) in
@@ -253,42 +254,42 @@ fork-depth : (p : Proc) → depthP (Fork p) ≡ suc (depthP p)
 unfolding depthP
 fork-depth p = refl
 
-module _ (inside : Bool) (q e : ℕ) (es : List ℕ) (ih : (s : List Item) → Closing inside s q (closes es (stateOf inside s es q)) (closed q es s)) where
-  child-both : (s : List Item) → eqb q e ≡ true → Closing inside s q (closes (e ∷ es) (stateOf inside s (e ∷ es) q)) (closed q (e ∷ es) s)
-  unfolding closes closed marksOf
-  child-both [] t = rw (t, closes, closed) stops
-  child-both (proc p ∷ []) t = rw (t, closes, closed) stops
-  child-both (proc p ∷ proc r ∷ s) t = rw (t, closes, closed) stops
-  child-both (proc p ∷ tran u ∷ s) t = rw (t, closes, closed) stops
-  child-both (proc p ∷ begun ∷ s) t = rw (t, closes, closed) stops
+module _ (inside : Bool) (q e : ℕ) (es : List ℕ) (ih : (s : List Item) → Closing inside s q (closes es (stateOf inside s es q)) (endedAt q es s)) where
+  child-both : (s : List Item) → eqb q e ≡ true → Closing inside s q (closes (e ∷ es) (stateOf inside s (e ∷ es) q)) (endedAt q (e ∷ es) s)
+  unfolding closes endedAt stackOf
+  child-both [] t = rw (t, closes, endedAt) stops
+  child-both (proc p ∷ []) t = rw (t, closes, endedAt) stops
+  child-both (proc p ∷ proc r ∷ s) t = rw (t, closes, endedAt) stops
+  child-both (proc p ∷ tran u ∷ s) t = rw (t, closes, endedAt) stops
+  child-both (proc p ∷ begun ∷ s) t = rw (t, closes, endedAt) stops
   child-both (proc p ∷ forked n ∷ s) t =
       let k = child-kept p n s in
       let depth = fork-depth p in
       let reach : suc (length s) + depthP p ≡ length s + depthP (Fork p) = omega arith in
-      rw (t, closes, closed, reach, k .nodes, k .forks, k .text) (closing-from k (ih (proc (Fork p) ∷ s)))
-  child-both (tran u ∷ []) t = rw (t, closes, closed) stops
-  child-both (tran u ∷ y ∷ s) t = rw (t, closes, closed) stops
-  child-both (begun ∷ []) t = rw (t, closes, closed) stops
-  child-both (begun ∷ y ∷ s) t = rw (t, closes, closed) stops
-  child-both (forked n ∷ []) t = rw (t, closes, closed) stops
-  child-both (forked n ∷ y ∷ s) t = rw (t, closes, closed) stops
+      rw (t, closes, endedAt, reach, k .nodes, k .forks, k .text) (closing-from k (ih (proc (Fork p) ∷ s)))
+  child-both (tran u ∷ []) t = rw (t, closes, endedAt) stops
+  child-both (tran u ∷ y ∷ s) t = rw (t, closes, endedAt) stops
+  child-both (begun ∷ []) t = rw (t, closes, endedAt) stops
+  child-both (begun ∷ y ∷ s) t = rw (t, closes, endedAt) stops
+  child-both (forked n ∷ []) t = rw (t, closes, endedAt) stops
+  child-both (forked n ∷ y ∷ s) t = rw (t, closes, endedAt) stops
 
-  end-both : (b : Bool) (s : List Item) → eqb q e ≡ b → Closing inside s q (closes (e ∷ es) (stateOf inside s (e ∷ es) q)) (closed q (e ∷ es) s)
-  unfolding closes closed
+  end-both : (b : Bool) (s : List Item) → eqb q e ≡ b → Closing inside s q (closes (e ∷ es) (stateOf inside s (e ∷ es) q)) (endedAt q (e ∷ es) s)
+  unfolding closes endedAt
   end-both true s t = child-both s t
-  end-both false s t = rw (t, closes, closed) (keeps (kept s))
+  end-both false s t = rw (t, closes, endedAt) (keeps (kept s))
 
--- the ends of children do the same to a stack and to its marks
-pub closing-both : (inside : Bool) (q : ℕ) (es : List ℕ) (s : List Item) → Closing inside s q (closes es (stateOf inside s es q)) (closed q es s)
-unfolding closes closed
+-- the ends of children do the same to a stack and to its stack
+pub closing-both : (inside : Bool) (q : ℕ) (es : List ℕ) (s : List Item) → Closing inside s q (closes es (stateOf inside s es q)) (endedAt q es s)
+unfolding closes endedAt
 closing-both inside q [] s = keeps (kept s)
 closing-both inside q (e ∷ es) s = end-both inside q e es (λ s′. closing-both inside q es s′) (eqb q e) s refl
 
-closed-kept : {inside : Bool} {s : List Item} {q : ℕ} {x : Outcome Scan} {y : Outcome Open} → Closing inside s q x y → (now : Open) → y ≡ done now → Kept s (now .items)
+closed-kept : {inside : Bool} {s : List Item} {q : ℕ} {x : Outcome ListScan} {y : Outcome OpenParts} → Closing inside s q x y → (now : OpenParts) → y ≡ done now → SameNumbers s (now .items)
 closed-kept stops now d = absurd (never d)
-closed-kept {s = s} (keeps k) now d = subst (λ (o : Open). Kept s (o .items)) (same d) k
+closed-kept {s = s} (keeps k) now d = subst (λ (o : OpenParts). SameNumbers s (o .items)) (same d) k
 
-op-grown : {s : List Item} {es : List ℕ} {q : ℕ} {x : Outcome Scan} {y : Outcome Done} → Both s es q x y → (next : Done) → y ≡ done next → Grown s (next .items)
+op-grown : {s : List Item} {es : List ℕ} {q : ℕ} {x : Outcome ListScan} {y : Outcome Done} → Both s es q x y → (next : Done) → y ≡ done next → Grown s (next .items)
 op-grown fails next d = absurd (never d)
 op-grown {s = s} (goes h) next d = subst (λ (o : Done). Grown s (o .items)) (same d) (h .grown)
 
@@ -296,10 +297,10 @@ op-grown {s = s} (goes h) next d = subst (λ (o : Done). Grown s (o .items)) (sa
 abbrev pub readsOn : (fuel : ℕ) (bs es : List ℕ) (q : ℕ) → Op → Done → Outcome Proc
 readsOn fuel bs es q op next = readOps fuel (next .inside) (next .items) (endsAfter op q es) (q + sizeOf op) (drop (sizeOf op) bs)
 
-abbrev pub readsNext : (fuel : ℕ) (bs : List ℕ) (inside : Bool) (q : ℕ) → Open → Outcome Proc
+abbrev pub readsNext : (fuel : ℕ) (bs : List ℕ) (inside : Bool) (q : ℕ) → OpenParts → Outcome Proc
 readsNext fuel bs inside q now = onward (opAt bs) (λ (op : Op). onward (doOp op inside (now .items)) (readsOn fuel bs (now .ends) q op))
 
-next-grown : (fuel : ℕ) (ih : (inside : Bool) (s : List Item) (es : List ℕ) (q : ℕ) (bs : List ℕ) (p : Proc) → readOps fuel inside s es q bs ≡ done p → Grown s (proc p ∷ [])) (bs : List ℕ) (inside : Bool) (q : ℕ) (now : Open) (p : Proc) → readsNext fuel bs inside q now ≡ done p → Grown (now .items) (proc p ∷ [])
+next-grown : (fuel : ℕ) (ih : (inside : Bool) (s : List Item) (es : List ℕ) (q : ℕ) (bs : List ℕ) (p : Proc) → readOps fuel inside s es q bs ≡ done p → Grown s (proc p ∷ [])) (bs : List ℕ) (inside : Bool) (q : ℕ) (now : OpenParts) (p : Proc) → readsNext fuel bs inside q now ≡ done p → Grown (now .items) (proc p ∷ [])
 next-grown fuel ih bs inside q now p d =
     let w = onward-from (λ (op : Op). onward (doOp op inside (now .items)) (readsOn fuel bs (now .ends) q op)) (opAt bs) p d in
     let op = w .before in
@@ -313,13 +314,13 @@ pub ops-grown : (fuel : ℕ) (inside : Bool) (s : List Item) (es : List ℕ) (q 
 unfolding readOps
 ops-grown zero inside s es q bs p d = absurd (never d)
 ops-grown (suc fuel) inside s es q [] p d =
-    let w = onward-from ended (closed q es s) p d in
+    let w = onward-from ended (endedAt q es s) p d in
     let now = w .before in
     let k = closed-kept (closing-both inside q es s) now (w .was) in
     subst (Grown s) (ended-sound (now .ends) (now .items) p (w .becomes)) (kept-grown k)
 ops-grown (suc fuel) inside s es q (x ∷ bs) p d =
-    let d₁ : onward (closed q es s) (readsNext fuel (x ∷ bs) inside q) ≡ done p = rw (eqb·suc-zero (length bs)) at d in
-    let w = onward-from (readsNext fuel (x ∷ bs) inside q) (closed q es s) p d₁ in
+    let d₁ : onward (endedAt q es s) (readsNext fuel (x ∷ bs) inside q) ≡ done p = rw (eqb·suc-zero (length bs)) at d in
+    let w = onward-from (readsNext fuel (x ∷ bs) inside q) (endedAt q es s) p d₁ in
     let now = w .before in
     let k = closed-kept (closing-both inside q es s) now (w .was) in
     grown-then (kept-grown k) (next-grown fuel (λ inside s es q bs p d. ops-grown fuel inside s es q bs p d) (x ∷ bs) inside q now p (w .becomes))

@@ -1,5 +1,5 @@
 -- Document 01, "The stack code": the code's bytes, and which code is foreign.
-use Prim.Native.Nat.{ℕ}
+use Prim.Native.Nat.{ℕ, _+_, _*_}
 use mathlib.Core.Path.{_≡_}
 use mathlib.Core.List.{List, [], _∷_, _++_}
 use lib.ListN.{length}
@@ -7,7 +7,8 @@ use Rattle.code.specs.Compile.{Instruction, Code, PUSH, ADD, READ, WRITE
 use Rattle.script.specs.Limits.{Within}
 use Rattle.script.specs.Bytes.{Bytes, bytes16, bytes32}
 use Rattle.script.specs.Outcome.{done}
-use Rattle.script.specs.Reader.{Job, readJob}
+use Rattle.script.specs.Jobs.{Job}
+use Rattle.script.specs.Reader.{readJob}
 use Rattle.script.specs.Refusal.{Taken}
 use Rattle.word.specs.Sum.{residue}
 
@@ -26,6 +27,19 @@ unfoldable mutual
   pub instructionsBytes : Code → List ℕ
   instructionsBytes ε = []
   instructionsBytes (i ⨾ c) = instructionBytes i ++ instructionsBytes c
+
+-- an instruction stands in code, or in the code of a FORK's child there
+pub data OccursIn (i : Instruction) : Code → Type 0 where
+  first : {c : Code} → OccursIn i (i ⨾ c)
+  later : {k : Instruction} {c : Code} → OccursIn i c → OccursIn i (k ⨾ c)
+  inside : {child c : Code} → OccursIn i child → OccursIn i (FORK child ⨾ c)
+
+-- "of exactly the stated length in bytes": the two bytes behind a FORK's opcode hold the length of its child's code, which follows
+pub record StatesLength (child : Code) : Type 0 where
+  pub high : ℕ
+  pub low : ℕ
+  pub text : instructionBytes (FORK child) ≡ 7 ∷ high ∷ low ∷ instructionsBytes child
+  pub exact : high * 256 + low ≡ length (instructionsBytes child)
 
 -- the mark `WSC`
 unfoldable pub codeMark : List ℕ

@@ -2,6 +2,7 @@
 pub mod Compile
 pub mod Bytes
 pub mod Counts
+pub mod Ops
 pub mod Reader
-pub mod Parts
-pub mod Scan
+pub mod InnerParts
+pub mod InnerScan

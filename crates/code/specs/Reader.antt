@@ -1,73 +1,18 @@
--- Reading code back: going forward over the code, with a stack of finished parts and a stack of FORK ends.
+-- Reading code back: going forward over the code, with a stack of finished parts and a stack of FORK ends. Nobody has to believe
+-- it: `foreign-exactly` (proofs/Foreign), `code-read` and `read-is-code` (proofs/ReadBack) determine it.
 use Prim.Native.Nat.{ℕ, zero, suc, _+_}
-use mathlib.Core.Bool.{Bool, true, false, cond, not, _&&_, _||_}
+use mathlib.Core.Bool.{Bool, true, false, not, _&&_}
 use mathlib.Core.List.{List, [], _∷_}
 use lib.Dec.{eqb, leb, ltb}
 use lib.IntN.{ℤ}
 use lib.ListN.{length, drop, getD}
+use Rattle.code.specs.Ops.{foreign, Op, push, add, read, write, begin, commit, fork, opAt, sizeOf}
 use Rattle.script.specs.Tree.{Tran, ValT, AddT, Read, Write, Proc, ValP, AddP, Atomic, Fork}
 use Rattle.script.specs.Count.{nodesP, depthP, forks}
 use Rattle.script.specs.Limits.{mostNodes, mostDepth, mostForks}
-use Rattle.script.specs.Outcome.{Outcome, refused, done, refuse, onward}
-use Rattle.script.specs.Reader.{Job, number16, number32, taken}
-use Rattle.word.specs.Sum.{signed}
-
--- 11, always at 0
-abbrev pub foreign : {A : Type 0} → Outcome A
-foreign = refused 11 0
-
--- an instruction as it stands in the bytes: a FORK has its child's length, and the child behind it
-pub data Op : Type 0 where
-  push : ℤ → Op
-  add : Op
-  read write : ℕ → Op
-  begin commit : Op
-  fork : (size : ℕ) → Op
-
--- how many bytes an opcode's operand has
-unfoldable pub operand : ℕ → ℕ
-operand opcode = cond (eqb opcode 1) 4 (cond (eqb opcode 3 || eqb opcode 4) 1 (cond (eqb opcode 7) 2 0))
-
--- the instruction of an opcode from 1 to 7, its operand at the front of what follows
-unfoldable pub opOf : ℕ → List ℕ → Op
-opOf opcode rest =
-    cond
-    (eqb opcode 1)
-    (push (signed (number32 rest)))
-    (cond
-    (eqb opcode 2)
-    add
-    (cond
-    (eqb opcode 3)
-    (read (getD rest 0 0))
-    (cond
-    (eqb opcode 4)
-    (write (getD rest 0 0))
-    (cond (eqb opcode 5) begin (cond (eqb opcode 6) commit (fork (number16 rest 0)))))))
-
--- an instruction: foreign are an unknown opcode, a cut operand, and a register of 64 or more
-unfoldable pub opAt : List ℕ → Outcome Op
-opAt [] = foreign
-opAt (opcode ∷ rest) =
-    refuse
-    (not (leb 1 opcode && leb opcode 7))
-    11
-    0
-    (refuse
-    (ltb (length rest) (operand opcode))
-    11
-    0
-    (refuse (eqb (operand opcode) 1 && leb 64 (getD rest 0 0)) 11 0 (done (opOf opcode rest))))
-
--- the bytes of an instruction, its child's code not counted
-abbrev pub sizeOf : Op → ℕ
-sizeOf (push n) = 5
-sizeOf add = 1
-sizeOf (read v) = 2
-sizeOf (write v) = 2
-sizeOf begin = 1
-sizeOf commit = 1
-sizeOf (fork size) = 3
+use Rattle.script.specs.Jobs.{Job, number16}
+use Rattle.script.specs.Outcome.{Outcome, done, refuse, onward}
+use Rattle.script.specs.Reader.{taken}
 
 -- what stands on the stack: finished parts, a BEGIN whose COMMIT is to come, and a FORK whose child's end is to come
 pub data Item : Type 0 where
@@ -77,9 +22,9 @@ pub data Item : Type 0 where
   forked : (size : ℕ) → Item
 
 -- VALP outside a transaction, VALT inside
-abbrev pub value : Bool → ℤ → Item
-value true n = tran (ValT n)
-value false n = proc (ValP n)
+abbrev pub valueItem : Bool → ℤ → Item
+valueItem true n = tran (ValT n)
+valueItem false n = proc (ValP n)
 
 -- the sum of the two topmost parts, both processes or both transactions
 abbrev pub sumP : Proc → List Item → Outcome (List Item)
@@ -96,68 +41,68 @@ sumT b (tran a ∷ items) = done (tran (AddT a b) ∷ items)
 sumT b (begun ∷ items) = foreign
 sumT b (forked size ∷ items) = foreign
 
-abbrev pub sum : List Item → Outcome (List Item)
-sum [] = foreign
-sum (proc b ∷ items) = sumP b items
-sum (tran b ∷ items) = sumT b items
-sum (begun ∷ items) = foreign
-sum (forked size ∷ items) = foreign
+abbrev pub sumTop : List Item → Outcome (List Item)
+sumTop [] = foreign
+sumTop (proc b ∷ items) = sumP b items
+sumTop (tran b ∷ items) = sumT b items
+sumTop (begun ∷ items) = foreign
+sumTop (forked size ∷ items) = foreign
 
 -- WRITE of the topmost part, which is a transaction
-abbrev pub written : ℕ → List Item → Outcome (List Item)
-written v [] = foreign
-written v (proc p ∷ items) = foreign
-written v (tran t ∷ items) = done (tran (Write v t) ∷ items)
-written v (begun ∷ items) = foreign
-written v (forked size ∷ items) = foreign
+abbrev pub writeTop : ℕ → List Item → Outcome (List Item)
+writeTop v [] = foreign
+writeTop v (proc p ∷ items) = foreign
+writeTop v (tran t ∷ items) = done (tran (Write v t) ∷ items)
+writeTop v (begun ∷ items) = foreign
+writeTop v (forked size ∷ items) = foreign
 
 -- COMMIT: one transaction stands behind its BEGIN
-abbrev pub atomicOf : Tran → List Item → Outcome (List Item)
-atomicOf t [] = foreign
-atomicOf t (proc p ∷ items) = foreign
-atomicOf t (tran u ∷ items) = foreign
-atomicOf t (begun ∷ items) = done (proc (Atomic t) ∷ items)
-atomicOf t (forked size ∷ items) = foreign
+abbrev pub atomicWith : Tran → List Item → Outcome (List Item)
+atomicWith t [] = foreign
+atomicWith t (proc p ∷ items) = foreign
+atomicWith t (tran u ∷ items) = foreign
+atomicWith t (begun ∷ items) = done (proc (Atomic t) ∷ items)
+atomicWith t (forked size ∷ items) = foreign
 
-abbrev pub committed : List Item → Outcome (List Item)
-committed [] = foreign
-committed (proc p ∷ items) = foreign
-committed (tran t ∷ items) = atomicOf t items
-committed (begun ∷ items) = foreign
-committed (forked size ∷ items) = foreign
+abbrev pub commitTop : List Item → Outcome (List Item)
+commitTop [] = foreign
+commitTop (proc p ∷ items) = foreign
+commitTop (tran t ∷ items) = atomicWith t items
+commitTop (begun ∷ items) = foreign
+commitTop (forked size ∷ items) = foreign
 
 -- the end of a FORK's child: one process stands behind its FORK
-abbrev pub forkOf : Proc → List Item → Outcome (List Item)
-forkOf p [] = foreign
-forkOf p (proc q ∷ items) = foreign
-forkOf p (tran t ∷ items) = foreign
-forkOf p (begun ∷ items) = foreign
-forkOf p (forked size ∷ items) = done (proc (Fork p) ∷ items)
+abbrev pub forkWith : Proc → List Item → Outcome (List Item)
+forkWith p [] = foreign
+forkWith p (proc q ∷ items) = foreign
+forkWith p (tran t ∷ items) = foreign
+forkWith p (begun ∷ items) = foreign
+forkWith p (forked size ∷ items) = done (proc (Fork p) ∷ items)
 
 abbrev pub childEnded : List Item → Outcome (List Item)
 childEnded [] = foreign
-childEnded (proc p ∷ items) = forkOf p items
+childEnded (proc p ∷ items) = forkWith p items
 childEnded (tran t ∷ items) = foreign
 childEnded (begun ∷ items) = foreign
 childEnded (forked size ∷ items) = foreign
 
--- the stack with this instruction done, and whether a transaction is then open: "READ or WRITE outside a transaction, FORK or BEGIN inside
--- one, COMMIT without one" are foreign
+-- the stack with this instruction done, and whether a transaction is then open. Foreign are READ or WRITE outside a transaction,
+-- FORK or BEGIN inside one, and COMMIT without one
 pub record Done : Type 0 where
   pub items : List Item
   pub inside : Bool
 
-abbrev pub stays : Bool → Outcome (List Item) → Outcome Done
-stays inside o = onward o (λ items. done (record { items = items; inside = inside }))
+abbrev pub doneWith : Bool → Outcome (List Item) → Outcome Done
+doneWith inside o = onward o (λ items. done (record { items = items; inside = inside }))
 
 unfoldable pub doOp : Op → (inside : Bool) → List Item → Outcome Done
-doOp (push n) inside items = stays inside (done (value inside n ∷ items))
-doOp add inside items = stays inside (sum items)
-doOp (read v) inside items = refuse (not inside) 11 0 (stays true (done (tran (Read v) ∷ items)))
-doOp (write v) inside items = refuse (not inside) 11 0 (stays true (written v items))
-doOp begin inside items = refuse inside 11 0 (stays true (done (begun ∷ items)))
-doOp commit inside items = refuse (not inside) 11 0 (stays false (committed items))
-doOp (fork size) inside items = refuse inside 11 0 (stays false (done (forked size ∷ items)))
+doOp (push n) inside items = doneWith inside (done (valueItem inside n ∷ items))
+doOp add inside items = doneWith inside (sumTop items)
+doOp (read v) inside items = refuse (not inside) 11 0 (doneWith true (done (tran (Read v) ∷ items)))
+doOp (write v) inside items = refuse (not inside) 11 0 (doneWith true (writeTop v items))
+doOp begin inside items = refuse inside 11 0 (doneWith true (done (begun ∷ items)))
+doOp commit inside items = refuse (not inside) 11 0 (doneWith false (commitTop items))
+doOp (fork size) inside items = refuse inside 11 0 (doneWith false (done (forked size ∷ items)))
 
 -- the ends of the open FORKs' children, the innermost first
 abbrev pub endsAfter : Op → (place : ℕ) → List ℕ → List ℕ
@@ -170,19 +115,19 @@ endsAfter commit place ends = ends
 endsAfter (fork size) place ends = (place + 3 + size) ∷ ends
 
 -- the children that end at this place, and what is then open and on the stack
-pub record Open : Type 0 where
+pub record OpenParts : Type 0 where
   pub ends : List ℕ
   pub items : List Item
 
-unfoldable pub closed : (place : ℕ) → List ℕ → List Item → Outcome Open
-closed place [] items = done (record { ends = []; items = items })
-closed place (end ∷ ends) items =
+unfoldable pub endedAt : (place : ℕ) → List ℕ → List Item → Outcome OpenParts
+endedAt place [] items = done (record { ends = []; items = items })
+endedAt place (end ∷ ends) items =
     elim (eqb place end) [
-      | true ↦ onward (childEnded items) (λ items′. closed place ends items′)
+      | true ↦ onward (childEnded items) (λ items′. endedAt place ends items′)
       | false ↦ done (record { ends = end ∷ ends; items = items })
     ]
 
--- the end of the code: no FORK is open, and one process is left; "none or two values left over" are foreign
+-- the end of the code: no FORK is open, and one process is left
 abbrev pub oneLeft : Proc → List Item → Outcome Proc
 oneLeft p [] = done p
 oneLeft p (item ∷ items) = foreign
@@ -194,7 +139,7 @@ lastOf (tran t ∷ items) = foreign
 lastOf (begun ∷ items) = foreign
 lastOf (forked size ∷ items) = foreign
 
-abbrev pub ended : Open → Outcome Proc
+abbrev pub ended : OpenParts → Outcome Proc
 ended open′ = elim (open′ .ends) [ [] ↦ lastOf (open′ .items) | end ∷ ends ↦ foreign ]
 
 -- the instructions from a place on, `bs` being the bytes there; `fuel` is more than their number
@@ -202,7 +147,7 @@ unfoldable pub readOps : (fuel : ℕ) (inside : Bool) (items : List Item) (ends 
 readOps zero inside items ends place bs = foreign
 readOps (suc fuel) inside items ends place bs =
     onward
-    (closed place ends items)
+    (endedAt place ends items)
     (λ now. elim (eqb (length bs) 0) [
       | true ↦ ended now
       | false ↦ onward
@@ -218,13 +163,13 @@ readOps (suc fuel) inside items ends place bs =
           (drop (sizeOf op) bs)))
     ])
 
--- "Node count 1 to 1,000; depth at most 64; at most 15 FORKs"
+-- "Node count 1 to 1,000; depth at most 64, the root having depth 1; at most 15 FORKs"
 unfoldable pub within : Proc → Bool
 within p = leb (nodesP p) mostNodes && (leb (depthP p) mostDepth && leb (forks p) mostForks)
 
 -- the mark `WSC`
-unfoldable pub marked : List ℕ → Bool
-marked bs = eqb (getD bs 0 0) 0x57 && (eqb (getD bs 1 0) 0x53 && eqb (getD bs 2 0) 0x43)
+unfoldable pub codeMarked : List ℕ → Bool
+codeMarked bs = eqb (getD bs 0 0) 0x57 && (eqb (getD bs 1 0) 0x53 && eqb (getD bs 2 0) 0x43)
 
 -- the job that compiles to this code, or 11 at 0
 unfoldable pub readCode : List ℕ → Outcome Job
@@ -234,7 +179,7 @@ readCode bs =
     11
     0
     (refuse
-    (not (marked bs))
+    (not (codeMarked bs))
     11
     0
     (refuse

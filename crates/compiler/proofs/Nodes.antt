@@ -11,7 +11,7 @@ use lib.Dec.{eqb}
 use lib.ListN.{length, drop, getD, length-append}
 use lib.Seq.{drop-drop, drop-at, drop-nil}
 use borrow.Author.Tests.{ne-eqb}
-use Rattle.compiler.specs.Emit.{Has, code, fork, push, read}
+use Rattle.compiler.specs.InnerEmit.{Has, treeCode, forkBytes, pushBytes, readBytes}
 use Rattle.code.specs.Compile.{ε}
 use Rattle.code.specs.Bytes.{instructionsBytes}
 use Rattle.code.proofs.Flat.{flatT, flatP, flat-tran, flat-proc}
@@ -33,11 +33,11 @@ after : (s : List ℕ) (i : ℕ) (xs ys : List ℕ) → drop i s ≡ xs ++ ys �
 after s i xs ys e = sym (drop-drop (length xs) i s) ∙ (ap (drop (length xs)) e ∙ drop-at xs ys (length xs) refl)
 
 -- ---- a tree's code
-tran-code : (t : Tran) → code transaction t ≡ flatT t
+tran-code : (t : Tran) → treeCode transaction t ≡ flatT t
 unfolding instructionsBytes
 tran-code t = flat-tran t ε ∙ append-nil (flatT t)
 
-proc-code : (p : Proc) → code process p ≡ flatP p
+proc-code : (p : Proc) → treeCode process p ≡ flatP p
 unfolding instructionsBytes
 proc-code p = flat-proc p ε ∙ append-nil (flatP p)
 
@@ -45,12 +45,12 @@ proc-code p = flat-proc p ε ∙ append-nil (flatP p)
 pub record PushAt (bs : List ℕ) (i : ℕ) (s : Sort) (t : Tree s) : Type 0 where
   pub within : i + 5 ≤ length bs
   pub text : length (bytes s t) ≡ 5
-  pub runs : code s t ≡ push bs i
+  pub runs : treeCode s t ≡ pushBytes bs i
 
 pub record ReadAt (bs : List ℕ) (i : ℕ) (s : Sort) (t : Tree s) : Type 0 where
   pub within : i + 2 ≤ length bs
   pub text : length (bytes s t) ≡ 2
-  pub runs : code s t ≡ read bs i
+  pub runs : treeCode s t ≡ readBytes bs i
 
 pub record OneAt (bs : List ℕ) (i k : ℕ) (front : ℕ → List ℕ) (behind : List ℕ) (s : Sort) (t : Tree s) : Type 0 where
   pub sort : Sort
@@ -59,7 +59,7 @@ pub record OneAt (bs : List ℕ) (i k : ℕ) (front : ℕ → List ℕ) (behind 
   pub there : Has bs (i + k) sort tree
   pub text : length (bytes s t) ≡ k + length (bytes sort tree)
   pub deep : depth s t ≡ suc (depth sort tree)
-  pub runs : code s t ≡ front (length (code sort tree)) ++ (code sort tree ++ behind)
+  pub runs : treeCode s t ≡ front (length (treeCode sort tree)) ++ (treeCode sort tree ++ behind)
 
 pub record TwoAt (bs : List ℕ) (i : ℕ) (s : Sort) (t : Tree s) : Type 0 where
   pub left : Tree s
@@ -69,13 +69,13 @@ pub record TwoAt (bs : List ℕ) (i : ℕ) (s : Sort) (t : Tree s) : Type 0 wher
   pub second : Has bs (i + 1 + length (bytes s left)) s right
   pub text : length (bytes s t) ≡ 1 + length (bytes s left) + length (bytes s right)
   pub deep : depth s t ≡ suc (max (depth s left) (depth s right))
-  pub runs : code s t ≡ code s left ++ (code s right ++ (2 ∷ []))
+  pub runs : treeCode s t ≡ treeCode s left ++ (treeCode s right ++ (2 ∷ []))
 
 abbrev pub AtomicAt : List ℕ → ℕ → (s : Sort) → Tree s → Type 0
 AtomicAt bs i = OneAt bs i 1 (λ n. 5 ∷ []) (6 ∷ [])
 
 abbrev pub ForkAt : List ℕ → ℕ → (s : Sort) → Tree s → Type 0
-ForkAt bs i = OneAt bs i 1 fork []
+ForkAt bs i = OneAt bs i 1 forkBytes []
 
 abbrev pub WriteAt : List ℕ → ℕ → (s : Sort) → Tree s → Type 0
 WriteAt bs i = OneAt bs i 2 (λ n. []) (4 ∷ getD bs (i + 1) 0 ∷ [])
@@ -95,7 +95,13 @@ View bs i s t kind =
     (pick
     (eqb kind 3)
     (AtomicAt bs i s t)
-    (pick (eqb kind 4) (ForkAt bs i s t) (pick (eqb kind 7) (ReadAt bs i s t) (pick (eqb kind 8) (WriteAt bs i s t) (TwoAt bs i s t))))))
+    (pick
+    (eqb kind 4)
+    (ForkAt bs i s t)
+    (pick
+    (eqb kind 7)
+    (ReadAt bs i s t)
+    (pick (eqb kind 8) (WriteAt bs i s t) (pick (eqb kind 2) (TwoAt bs i s t) (pick (eqb kind 6) (TwoAt bs i s t) ⊥)))))))
 
 module _ (bs : List ℕ) (i : ℕ) where
   -- four bytes behind the kind byte
@@ -226,9 +232,13 @@ module _ (bs : List ℕ) (i : ℕ) where
     pub as-write : getD bs i 0 ≡ 8 → WriteAt bs i s t
     as-write e = subst (View bs i s t) e (view s t h)
 
-    pub as-two : (getD bs i 0 ≡ 1 → ⊥) → (getD bs i 0 ≡ 5 → ⊥) → (getD bs i 0 ≡ 3 → ⊥) → (getD bs i 0 ≡ 4 → ⊥) → (getD bs i 0 ≡ 7 → ⊥) → (getD bs i 0 ≡ 8 → ⊥) → TwoAt bs i s t
-    as-two a b c d e f =
-        rw (ne-eqb _ _ a, ne-eqb _ _ b, ne-eqb _ _ c, ne-eqb _ _ d, ne-eqb _ _ e, ne-eqb _ _ f) at (view s t h)
+    pub as-two : (getD bs i 0 ≡ 2) ⊎ (getD bs i 0 ≡ 6) → TwoAt bs i s t
+    as-two (inl e) = subst (View bs i s t) e (view s t h)
+    as-two (inr e) = subst (View bs i s t) e (view s t h)
+
+    pub no-other : ((getD bs i 0 ≡ 1) ⊎ (getD bs i 0 ≡ 5) → ⊥) → (getD bs i 0 ≡ 3 → ⊥) → (getD bs i 0 ≡ 4 → ⊥) → (getD bs i 0 ≡ 7 → ⊥) → (getD bs i 0 ≡ 8 → ⊥) → ((getD bs i 0 ≡ 2) ⊎ (getD bs i 0 ≡ 6) → ⊥) → ⊥
+    no-other a b c d e f =
+        rw (ne-eqb _ _ (λ k. a (inl k)), ne-eqb _ _ (λ k. a (inr k)), ne-eqb _ _ b, ne-eqb _ _ c, ne-eqb _ _ d, ne-eqb _ _ e, ne-eqb _ _ (λ k. f (inl k)), ne-eqb _ _ (λ k. f (inr k))) at (view s t h)
 
 -- a kind byte stands there
 some-tran : (bs : List ℕ) (i : ℕ) (t : Tran) → Has bs i transaction t → i < length bs

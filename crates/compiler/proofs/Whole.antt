@@ -11,8 +11,9 @@ use Rattle.delivery.specs.declared.Answer.the-variants.{Done, Refused}
 use Rattle.compiler.specs.declared.Part.{Part}
 use Rattle.compiler.specs.CompileTo.{compileTo}
 use Rattle.delivery.specs.Delivered.{onto, delivered}
-use Rattle.compiler.specs.Emit.{Emitted, Has, Ready, code, header}
-use Rattle.compiler.proofs.Lists.{rest, rest-length, back, lent, placed-onto, onto-length}
+use Rattle.compiler.specs.InnerEmit.{Emitted, Has, Emittable, treeCode, codeHeader}
+use Rattle.compiler.proofs.Lists.{rest, rest-length, back, lent}
+use Rattle.delivery.proofs.Places.{placed-onto, onto-length}
 use Rattle.code.specs.Bytes.{codeMark, codeBytes, compiled}
 use Rattle.code.proofs.Flat.{code-length}
 use Rattle.job.specs.declared.Reading.{Reading}
@@ -22,7 +23,8 @@ use Rattle.script.specs.Tree.{process}
 use Rattle.script.specs.Count.{codeLength}
 use Rattle.script.specs.Bytes.{Bytes, bytes16, bytesP, jobMark, jobBytes}
 use Rattle.script.specs.Outcome.{Outcome, refused, done}
-use Rattle.script.specs.Reader.{Job, readJob}
+use Rattle.script.specs.Jobs.{Job}
+use Rattle.script.specs.Reader.{readJob}
 use Rattle.script.proofs.Accepts.{accepted-is-job}
 
 pub bytes-of : (job : List ℕ) → ((i : ℕ) → Fits w8 (getD job i 0)) → Bytes job
@@ -47,17 +49,17 @@ accepted-by (refused m q) v l e = absurd (let z : _≡_ {A = ℕ} 0 1 = cc in om
 accepted-by (done j) v l e = record { job = j; is = refl; version = cc; size = cc }
 
 -- an accepted job: its tree stands behind the header of 7 bytes, and its code is so long
-pub record Found (bs : List ℕ) (v l : ℕ) : Type 0 where
+pub record AcceptedJob (bs : List ℕ) (v l : ℕ) : Type 0 where
   pub job : Job
   pub is : readJob bs ≡ done job
   pub version : v ≡ job .version
   pub size : l ≡ length (compiled job)
   pub there : Has bs 7 process (job .tree)
   pub least : 5 ≤ l
-  pub ready : (ys : List ℕ) → l ≤ length ys → Ready bs 7 64 (length (rest 5 ys))
+  pub ready : (ys : List ℕ) → l ≤ length ys → Emittable bs 7 64 (length (rest 5 ys))
 
 module _ (bs : List ℕ) where
-  pub found : (small : Bytes bs) (r : Reading) (v l : ℕ) → r ≡ answer (readJob bs) → r ≡ accepted v l → Found bs v l
+  pub found : (small : Bytes bs) (r : Reading) (v l : ℕ) → r ≡ answer (readJob bs) → r ≡ accepted v l → AcceptedJob bs v l
   unfolding compiled codeBytes codeMark bytes16 jobBytes jobMark
   found small r v l e f =
       let a = accepted-by (readJob bs) v l (sym e ∙ f) in
@@ -79,15 +81,15 @@ module _ (bs : List ℕ) where
   unfolding compileTo delivered
   turned-down before r n p e f = rw (refused-by (readJob bs) n p (sym e ∙ f))
 
-  pub short : (before : List ℕ) (v l : ℕ) → Found bs v l → length before < l → compileTo bs before ≡ record { answer = Refused 10 0; output = before }
+  pub short : (before : List ℕ) (v l : ℕ) → AcceptedJob bs v l → length before < l → compileTo bs before ≡ record { answer = Refused 10 0; output = before }
   unfolding compileTo delivered
   short before v l f h = rw (f .is, lt-ltb (length before) (length (compiled (f .job))) (omega (arith, f .size)))
 
-  pub compiles : (before : List ℕ) (v l : ℕ) (r : Part) (ys us : List ℕ) (f : Found bs v l) → l ≤ length before → ys ≡ onto (header v) before → Emitted 7 r (rest 5 ys) us process (f .job .tree) → compileTo bs before ≡ record { answer = Done l; output = back 5 ys us }
+  pub compiles : (before : List ℕ) (v l : ℕ) (r : Part) (ys us : List ℕ) (f : AcceptedJob bs v l) → l ≤ length before → ys ≡ onto (codeHeader v) before → Emitted 7 r (rest 5 ys) us process (f .job .tree) → compileTo bs before ≡ record { answer = Done l; output = back 5 ys us }
   unfolding compileTo delivered compiled codeBytes codeMark bytes16
   compiles before v l r ys us f h e m =
-      let c = code process (f .job .tree) in
+      let c = treeCode process (f .job .tree) in
       let long : 5 + length c ≤ length before = omega (arith, f .size) in
-      let k : length ys ≡ length before = ap length e ∙ onto-length (header v) before (omega arith) in
-      let b : back 5 ys us ≡ onto (header v ++ c) before = ap (back 5 ys) (m .output) ∙ (lent 5 c ys (omega arith) ∙ (rw e (placed-onto 5 c (header v) before refl))) in
+      let k : length ys ≡ length before = ap length e ∙ onto-length (codeHeader v) before (omega arith) in
+      let b : back 5 ys us ≡ onto (codeHeader v ++ c) before = ap (back 5 ys) (m .output) ∙ (lent 5 c ys (omega arith) ∙ (rw e (placed-onto 5 c (codeHeader v) before refl))) in
       rw (f .is, le-ltb (length before) (length (compiled (f .job))) (omega (arith, f .size)), b, f .version, f .size)

@@ -1,3 +1,3 @@
 -- What the contracts of `compiler` cite.
 pub mod CompileTo
-pub mod Emit
+pub mod InnerEmit

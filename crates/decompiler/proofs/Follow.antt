@@ -7,13 +7,16 @@ use mathlib.Core.List.{List, [], _∷_, _++_, append-assoc}
 use native.Mathlib.Omega.{arith}
 use lib.ListN.{length, drop, getD, set, length-append, length-set}
 use lib.Seq.{getD-set-same, getD-set-other}
-use Rattle.decompiler.specs.declared.State.{State}
-use Rattle.decompiler.specs.Parts.{onto, placed, inserted}
-use Rattle.decompiler.specs.State.{pushed, merged, grown, opened, shut, Room, Moves}
-use Rattle.decompiler.specs.Walk.{Starts, Ends, Sorted, Known, Stands}
-use Rattle.decompiler.proofs.Lists.{length-onto, placed-onto, inserted-onto}
+use Rattle.decompiler.specs.declared.Pass.{Pass}
+use Rattle.decompiler.specs.InnerParts.{inserted}
+use Rattle.delivery.specs.Delivered.{onto}
+use Rattle.delivery.specs.InnerPlaces.{placedAt}
+use Rattle.decompiler.specs.InnerState.{partPushed, partsMerged, partGrown, childOpened, childShut, Room, CanMove}
+use Rattle.decompiler.specs.InnerWalk.{Starts, Ends, Sorted, Setting, Follows}
+use Rattle.decompiler.proofs.Lists.{inserted-onto}
+use Rattle.delivery.proofs.Places.{onto-length, placed-onto}
 use Rattle.code.specs.Reader.{Item, forked, readOps}
-use Rattle.code.specs.Parts.{forksOf, bytesOf, jobText, forksI}
+use Rattle.code.specs.InnerParts.{itemForks, itemBytes, jobText, forksI}
 use Rattle.code.proofs.Texts.{ops-grown, height-grows}
 use Rattle.script.specs.Tree.{Proc}
 use Rattle.script.specs.Count.{forks}
@@ -41,13 +44,13 @@ ends-push a es n v e l k =
 -- ---- the bounds
 
 -- what a stack from which the tree is read is within
-pub record Small (before : List ℕ) (s : List Item) (es : List ℕ) : Type 0 where
+pub record StackRoom (before : List ℕ) (s : List Item) (es : List ℕ) : Type 0 where
   pub low : length s ≤ 64
   pub few : length es ≤ 15
   pub text : 7 + length (jobText s) ≤ length before
 
-module _ {code head before : List ℕ} {p : Proc} (known : Known code head before p) where
-  pub small : (fuel : ℕ) (inside : Bool) (s : List Item) (es : List ℕ) (q : ℕ) (bs : List ℕ) → readOps fuel inside s es q bs ≡ done p → length es ≤ forksI s → Small before s es
+module _ {code head before : List ℕ} {p : Proc} (known : Setting code head before p) where
+  pub small : (fuel : ℕ) (inside : Bool) (s : List Item) (es : List ℕ) (q : ℕ) (bs : List ℕ) → readOps fuel inside s es q bs ≡ done p → length es ≤ forksI s → StackRoom before s es
   unfolding forksI jobText
   small fuel inside s es q bs d f =
       let g = ops-grown fuel inside s es q bs p d in
@@ -60,37 +63,37 @@ module _ {code head before : List ℕ} {p : Proc} (known : Known code head befor
       }
 
   -- the output is as long as before
-  pub out-length : (s : List Item) (es out : List ℕ) → Small before s es → out ≡ onto (head ++ jobText s) before → length out ≡ length before
+  pub out-length : (s : List Item) (es out : List ℕ) → StackRoom before s es → out ≡ onto (head ++ jobText s) before → length out ≡ length before
   out-length s es out h t =
-      ap length t ∙ length-onto (head ++ jobText s) before (omega (arith, h .text, length-append head (jobText s), known .seven))
+      ap length t ∙ onto-length (head ++ jobText s) before (omega (arith, h .text, length-append head (jobText s), known .seven))
 
 -- ---- the output
 
 module _ (head before : List ℕ) (seven : length head ≡ 7) where
   -- a part behind the others
-  text-push : (x : Item) (s : List Item) (bs out : List ℕ) (i : ℕ) → bytesOf x ≡ bs → i ≡ 7 + length (jobText s) → out ≡ onto (head ++ jobText s) before → placed i bs out ≡ onto (head ++ jobText (x ∷ s)) before
+  text-push : (x : Item) (s : List Item) (bs out : List ℕ) (i : ℕ) → itemBytes x ≡ bs → i ≡ 7 + length (jobText s) → out ≡ onto (head ++ jobText s) before → placedAt i bs out ≡ onto (head ++ jobText (x ∷ s)) before
   unfolding jobText
   text-push x s bs out i b e t =
       let n : i ≡ length (head ++ jobText s) = omega (arith, length-append head (jobText s)) in
-      rw (t, b, ← append-assoc head (jobText s) bs) (placed-onto (head ++ jobText s) bs before i n)
+      rw (t, b, ← append-assoc head (jobText s) bs) (placed-onto i bs (head ++ jobText s) before n)
 
   -- bytes in front of a part
-  text-grow : (x y : Item) (s : List Item) (front out : List ℕ) (i e : ℕ) → bytesOf y ≡ front ++ bytesOf x → i ≡ 7 + length (jobText s) → e ≡ 7 + length (jobText (x ∷ s)) → out ≡ onto (head ++ jobText (x ∷ s)) before → inserted i e front out ≡ onto (head ++ jobText (y ∷ s)) before
+  text-grow : (x y : Item) (s : List Item) (front out : List ℕ) (i e : ℕ) → itemBytes y ≡ front ++ itemBytes x → i ≡ 7 + length (jobText s) → e ≡ 7 + length (jobText (x ∷ s)) → out ≡ onto (head ++ jobText (x ∷ s)) before → inserted i e front out ≡ onto (head ++ jobText (y ∷ s)) before
   unfolding jobText
   text-grow x y s front out i e b p q t =
       let n : i ≡ length (head ++ jobText s) = omega (arith, length-append head (jobText s)) in
-      let m : e ≡ length (head ++ jobText s) + length (bytesOf x) = omega (arith, length-append head (jobText s), length-append (jobText s) (bytesOf x)) in
-      rw (t, b, ← append-assoc head (jobText s) (front ++ bytesOf x), ← append-assoc head (jobText s) (bytesOf x))
-      (inserted-onto (head ++ jobText s) (bytesOf x) front before i e n m)
+      let m : e ≡ length (head ++ jobText s) + length (itemBytes x) = omega (arith, length-append head (jobText s), length-append (jobText s) (itemBytes x)) in
+      rw (t, b, ← append-assoc head (jobText s) (front ++ itemBytes x), ← append-assoc head (jobText s) (itemBytes x))
+      (inserted-onto (head ++ jobText s) (itemBytes x) front before i e n m)
 
   -- bytes in front of two parts, which become one
-  text-merge : (x y z : Item) (s : List Item) (front out : List ℕ) (i e : ℕ) → bytesOf z ≡ front ++ (bytesOf y ++ bytesOf x) → i ≡ 7 + length (jobText s) → e ≡ 7 + length (jobText (x ∷ y ∷ s)) → out ≡ onto (head ++ jobText (x ∷ y ∷ s)) before → inserted i e front out ≡ onto (head ++ jobText (z ∷ s)) before
+  text-merge : (x y z : Item) (s : List Item) (front out : List ℕ) (i e : ℕ) → itemBytes z ≡ front ++ (itemBytes y ++ itemBytes x) → i ≡ 7 + length (jobText s) → e ≡ 7 + length (jobText (x ∷ y ∷ s)) → out ≡ onto (head ++ jobText (x ∷ y ∷ s)) before → inserted i e front out ≡ onto (head ++ jobText (z ∷ s)) before
   unfolding jobText
   text-merge x y z s front out i e b p q t =
       let n : i ≡ length (head ++ jobText s) = omega (arith, length-append head (jobText s)) in
-      let parts : List ℕ = bytesOf y ++ bytesOf x in
-      let one : (jobText s ++ bytesOf y) ++ bytesOf x ≡ jobText s ++ parts = append-assoc (jobText s) (bytesOf y) (bytesOf x) in
-      let long : length ((jobText s ++ bytesOf y) ++ bytesOf x) ≡ length (jobText s) + length parts = ap length one ∙ length-append (jobText s) parts in
+      let parts : List ℕ = itemBytes y ++ itemBytes x in
+      let one : (jobText s ++ itemBytes y) ++ itemBytes x ≡ jobText s ++ parts = append-assoc (jobText s) (itemBytes y) (itemBytes x) in
+      let long : length ((jobText s ++ itemBytes y) ++ itemBytes x) ≡ length (jobText s) + length parts = ap length one ∙ length-append (jobText s) parts in
       let m : e ≡ length (head ++ jobText s) + length parts = omega (arith, length-append head (jobText s)) in
       let t₁ : out ≡ onto ((head ++ jobText s) ++ parts) before = t ∙ ap (λ (l : List ℕ). onto l before) (ap (λ (l : List ℕ). head ++ l) one ∙ sym (append-assoc head (jobText s) parts)) in
       rw (t₁, b, ← append-assoc head (jobText s) (front ++ parts))
@@ -98,13 +101,13 @@ module _ (head before : List ℕ) (seven : length head ≡ 7) where
 
 -- ---- the state
 
-module _ {code head before : List ℕ} {p : Proc} {out : List ℕ} {s : State} {items : List Item} {es : List ℕ} {fuel : ℕ} (h : Stands code head before p out s items es fuel) where
+module _ {code head before : List ℕ} {p : Proc} {out : List ℕ} {s : Pass} {items : List Item} {es : List ℕ} {fuel : ℕ} (h : Follows code head before p out s items es fuel) where
   -- a part is pushed
-  module _ (x : Item) (bs : List ℕ) (bytes : bytesOf x ≡ bs) (n fuel′ : ℕ) (inside : Bool) (sorted : Sorted inside (x ∷ items)) where
-    pub push-stands : readOps fuel′ inside (x ∷ items) es (s .place + n) (drop (s .place + n) code) ≡ done p → Stands code head before p (placed (s .size) bs out) (pushed s n (length bs) inside) (x ∷ items) es fuel′
-    unfolding pushed jobText forksI
+  module _ (x : Item) (bs : List ℕ) (bytes : itemBytes x ≡ bs) (n fuel′ : ℕ) (inside : Bool) (sorted : Sorted inside (x ∷ items)) where
+    pub push-stands : readOps fuel′ inside (x ∷ items) es (s .place + n) (drop (s .place + n) code) ≡ done p → Follows code head before p (placedAt (s .size) bs out) (partPushed s n (length bs) inside) (x ∷ items) es fuel′
+    unfolding partPushed jobText forksI
     push-stands d =
-        let few : length es ≤ forksI items + forksOf x = omega (arith, h .few) in
+        let few : length es ≤ forksI items + itemForks x = omega (arith, h .few) in
         let small′ = small (h .known) fuel′ inside (x ∷ items) es _ _ d few in
         let low : suc (length items) ≤ 64 = small′ .low in
         record {
@@ -116,7 +119,7 @@ module _ {code head before : List ℕ} {p : Proc} {out : List ℕ} {s : State} {
           many = h .many;
           ends = h .ends;
           few = few;
-          size = omega (arith, h .size, length-append (jobText items) (bytesOf x), ap length bytes);
+          size = omega (arith, h .size, length-append (jobText items) (itemBytes x), ap length bytes);
           text = text-push head before (h .known .seven) x items bs out (s .size) bytes (h .size) (h .text);
           wide = length-set (s .starts) (s .height) (s .size) ∙ h .wide;
           narrow = h .narrow;
@@ -125,25 +128,25 @@ module _ {code head before : List ℕ} {p : Proc} {out : List ℕ} {s : State} {
     pub push-room : readOps fuel′ inside (x ∷ items) es (s .place + n) (drop (s .place + n) code) ≡ done p → (most : ℕ) → s .place + n ≤ most → Room s n (length bs) most (length out)
     unfolding jobText forksI
     push-room d most l =
-        let few : length es ≤ forksI items + forksOf x = omega (arith, h .few) in
+        let few : length es ≤ forksI items + itemForks x = omega (arith, h .few) in
         let small′ = small (h .known) fuel′ inside (x ∷ items) es _ _ d few in
         let now = small (h .known) fuel (s .inside) items es _ _ (h .reads) (h .few) in
         let low : suc (length items) ≤ 64 = small′ .low in
-        let text : 7 + length (jobText items ++ bytesOf x) ≤ length before = small′ .text in
+        let text : 7 + length (jobText items ++ itemBytes x) ≤ length before = small′ .text in
         record {
           low = omega (arith, h .high);
           early = l;
-          short = omega (arith, h .size, length-append (jobText items) (bytesOf x), ap length bytes, out-length (h .known) items es out now (h .text));
+          short = omega (arith, h .size, length-append (jobText items) (itemBytes x), ap length bytes, out-length (h .known) items es out now (h .text));
         }
 
   -- a FORK
   module _ (end size fuel′ : ℕ) (sorted : Sorted false (forked size ∷ items)) (d : readOps fuel′ false (forked size ∷ items) (end ∷ es) (s .place + 3) (drop (s .place + 3) code) ≡ done p) where
-    fork-small : Small before (forked size ∷ items) (end ∷ es)
+    fork-small : StackRoom before (forked size ∷ items) (end ∷ es)
     unfolding forksI
     fork-small = let few : suc (length es) ≤ forksI items + 1 = omega (arith, h .few) in small (h .known) fuel′ false (forked size ∷ items) (end ∷ es) _ _ d few
 
-    pub fork-stands : Stands code head before p (placed (s .size) (4 ∷ []) out) (opened (pushed s 3 1 false) end) (forked size ∷ items) (end ∷ es) fuel′
-    unfolding opened pushed jobText forksI
+    pub fork-stands : Follows code head before p (placedAt (s .size) (4 ∷ []) out) (childOpened (partPushed s 3 1 false) end) (forked size ∷ items) (end ∷ es) fuel′
+    unfolding childOpened partPushed jobText forksI
     fork-stands =
         let low : suc (length items) ≤ 64 = fork-small .low in
         let few : suc (length es) ≤ 15 = fork-small .few in
@@ -179,7 +182,7 @@ module _ {code head before : List ℕ} {p : Proc} {out : List ℕ} {s : State} {
         )
 
 -- the two topmost parts become one
-module _ {code head before : List ℕ} {p : Proc} {out : List ℕ} {s : State} {es : List ℕ} {fuel : ℕ} (x y z : Item) (rest : List Item) (front : List ℕ) (bytes : bytesOf z ≡ front ++ (bytesOf y ++ bytesOf x)) (h : Stands code head before p out s (x ∷ y ∷ rest) es fuel) where
+module _ {code head before : List ℕ} {p : Proc} {out : List ℕ} {s : Pass} {es : List ℕ} {fuel : ℕ} (x y z : Item) (rest : List Item) (front : List ℕ) (bytes : itemBytes z ≡ front ++ (itemBytes y ++ itemBytes x)) (h : Follows code head before p out s (x ∷ y ∷ rest) es fuel) where
   merge-start : getD (s .starts) (s .height - 2) 0 ≡ 7 + length (jobText rest)
   merge-start =
       let n : s .height - 2 ≡ length rest = omega (arith, h .high) in
@@ -193,21 +196,21 @@ module _ {code head before : List ℕ} {p : Proc} {out : List ℕ} {s : State} {
   merge-size =
       omega (
         arith,
-        length-append (jobText rest ++ bytesOf y) (bytesOf x),
-        length-append (jobText rest) (bytesOf y),
-        length-append (jobText rest) (bytesOf z),
+        length-append (jobText rest ++ itemBytes y) (itemBytes x),
+        length-append (jobText rest) (itemBytes y),
+        length-append (jobText rest) (itemBytes z),
         ap length bytes,
-        length-append front (bytesOf y ++ bytesOf x),
-        length-append (bytesOf y) (bytesOf x),
+        length-append front (itemBytes y ++ itemBytes x),
+        length-append (itemBytes y) (itemBytes x),
       )
 
   merge-longer : length (jobText rest) ≤ length (jobText (x ∷ y ∷ rest))
   unfolding jobText
-  merge-longer = omega (arith, length-append (jobText rest ++ bytesOf y) (bytesOf x), length-append (jobText rest) (bytesOf y))
+  merge-longer = omega (arith, length-append (jobText rest ++ itemBytes y) (itemBytes x), length-append (jobText rest) (itemBytes y))
 
   module _ (n fuel′ : ℕ) (inside : Bool) (sorted : Sorted inside (z ∷ rest)) (grows : forksI (x ∷ y ∷ rest) ≤ forksI (z ∷ rest)) (d : readOps fuel′ inside (z ∷ rest) es (s .place + n) (drop (s .place + n) code) ≡ done p) where
-    pub merge-stands : (out′ : List ℕ) → out′ ≡ onto (head ++ jobText (z ∷ rest)) before → Stands code head before p out′ (merged s n (length front) inside) (z ∷ rest) es fuel′
-    unfolding merged
+    pub merge-stands : (out′ : List ℕ) → out′ ≡ onto (head ++ jobText (z ∷ rest)) before → Follows code head before p out′ (partsMerged s n (length front) inside) (z ∷ rest) es fuel′
+    unfolding partsMerged
     merge-stands out′ t =
         record {
           known = h .known;
@@ -224,7 +227,7 @@ module _ {code head before : List ℕ} {p : Proc} {out : List ℕ} {s : State} {
           narrow = h .narrow;
         }
 
-    pub merge-moves : (most : ℕ) → s .place + n ≤ most → Moves s 2 n (length front) most (length out)
+    pub merge-moves : (most : ℕ) → s .place + n ≤ most → CanMove s 2 n (length front) most (length out)
     merge-moves most l =
         let now = small (h .known) fuel (s .inside) (x ∷ y ∷ rest) es _ _ (h .reads) (h .few) in
         let next = small (h .known) fuel′ inside (z ∷ rest) es _ _ d (omega (arith, h .few)) in
@@ -237,7 +240,7 @@ module _ {code head before : List ℕ} {p : Proc} {out : List ℕ} {s : State} {
         }
 
 -- the topmost part grows
-module _ {code head before : List ℕ} {p : Proc} {out : List ℕ} {s : State} {es : List ℕ} {fuel : ℕ} (x z : Item) (rest : List Item) (front : List ℕ) (bytes : bytesOf z ≡ front ++ bytesOf x) (h : Stands code head before p out s (x ∷ rest) es fuel) where
+module _ {code head before : List ℕ} {p : Proc} {out : List ℕ} {s : Pass} {es : List ℕ} {fuel : ℕ} (x z : Item) (rest : List Item) (front : List ℕ) (bytes : itemBytes z ≡ front ++ itemBytes x) (h : Follows code head before p out s (x ∷ rest) es fuel) where
   grow-start : getD (s .starts) (s .height - 1) 0 ≡ 7 + length (jobText rest)
   grow-start = let n : s .height - 1 ≡ length rest = omega (arith, h .high) in rw n (h .starts .0)
 
@@ -246,15 +249,15 @@ module _ {code head before : List ℕ} {p : Proc} {out : List ℕ} {s : State} {
   grow-size =
       omega (
         arith,
-        length-append (jobText rest) (bytesOf x),
-        length-append (jobText rest) (bytesOf z),
+        length-append (jobText rest) (itemBytes x),
+        length-append (jobText rest) (itemBytes z),
         ap length bytes,
-        length-append front (bytesOf x),
+        length-append front (itemBytes x),
       )
 
   module _ (n fuel′ : ℕ) (sorted : Sorted (s .inside) (z ∷ rest)) (grows : forksI (x ∷ rest) ≤ forksI (z ∷ rest)) (d : readOps fuel′ (s .inside) (z ∷ rest) es (s .place + n) (drop (s .place + n) code) ≡ done p) where
-    pub grow-stands : Stands code head before p (inserted (getD (s .starts) (s .height - 1) 0) (s .size) front out) (grown s n (length front)) (z ∷ rest) es fuel′
-    unfolding grown
+    pub grow-stands : Follows code head before p (inserted (getD (s .starts) (s .height - 1) 0) (s .size) front out) (partGrown s n (length front)) (z ∷ rest) es fuel′
+    unfolding partGrown
     grow-stands =
         record {
           known = h .known;
@@ -271,7 +274,7 @@ module _ {code head before : List ℕ} {p : Proc} {out : List ℕ} {s : State} {
           narrow = h .narrow;
         }
 
-    pub grow-moves : (most : ℕ) → s .place + n ≤ most → Moves s 1 n (length front) most (length out)
+    pub grow-moves : (most : ℕ) → s .place + n ≤ most → CanMove s 1 n (length front) most (length out)
     grow-moves most l =
         let now = small (h .known) fuel (s .inside) (x ∷ rest) es _ _ (h .reads) (h .few) in
         let next = small (h .known) fuel′ (s .inside) (z ∷ rest) es _ _ d (omega (arith, h .few)) in
@@ -284,9 +287,9 @@ module _ {code head before : List ℕ} {p : Proc} {out : List ℕ} {s : State} {
         }
 
 -- the innermost child ends: it becomes part of its FORK
-module _ {code head before : List ℕ} {p : Proc} {out : List ℕ} {s : State} {e : ℕ} {es : List ℕ} {fuel : ℕ} (x y z : Item) (rest : List Item) (same-text : jobText (x ∷ y ∷ rest) ≡ jobText (z ∷ rest)) (h : Stands code head before p out s (x ∷ y ∷ rest) (e ∷ es) fuel) where
-  pub shut-stands : Sorted (s .inside) (z ∷ rest) → forksI (x ∷ y ∷ rest) ≡ forksI (z ∷ rest) → readOps fuel (s .inside) (z ∷ rest) es (s .place) (drop (s .place) code) ≡ done p → Stands code head before p out (shut s) (z ∷ rest) es fuel
-  unfolding shut
+module _ {code head before : List ℕ} {p : Proc} {out : List ℕ} {s : Pass} {e : ℕ} {es : List ℕ} {fuel : ℕ} (x y z : Item) (rest : List Item) (same-text : jobText (x ∷ y ∷ rest) ≡ jobText (z ∷ rest)) (h : Follows code head before p out s (x ∷ y ∷ rest) (e ∷ es) fuel) where
+  pub shut-stands : Sorted (s .inside) (z ∷ rest) → forksI (x ∷ y ∷ rest) ≡ forksI (z ∷ rest) → readOps fuel (s .inside) (z ∷ rest) es (s .place) (drop (s .place) code) ≡ done p → Follows code head before p out (childShut s) (z ∷ rest) es fuel
+  unfolding childShut
   shut-stands sorted forks d =
       record {
         known = h .known;

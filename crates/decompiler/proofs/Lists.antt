@@ -4,30 +4,16 @@ use mathlib.Core.Path.{_≡_, refl, sym, _∙_}
 use mathlib.Core.List.{List, [], _∷_, _++_, append-assoc}
 use native.Mathlib.Omega.{arith}
 use lib.ListN.{length, take, drop, getD, set, length-append, length-take, length-drop, take-append-drop, List·getD-append}
-use lib.Seq.{take-at, drop-at, drop-cons, drop-append-add, drop-drop, take-append-le, take-take, getD-take, length-take-le, sets, sets-eq}
-use Rattle.decompiler.specs.Parts.{onto, placed, shifted, inserted}
+use lib.Seq.{take-at, drop-at, drop-cons, take-append-le, take-take, getD-take, length-take-le, sets}
+use Rattle.decompiler.specs.InnerParts.{shifted, inserted}
+use Rattle.delivery.specs.Delivered.{onto}
+use Rattle.delivery.specs.InnerPlaces.{placedAt}
+use Rattle.delivery.proofs.Places.{behind, stored}
 
 -- ---- a text at the front
 
-pub length-onto : (text before : List ℕ) → length text ≤ length before → length (onto text before) ≡ length before
-unfolding onto
-length-onto text before h = omega (arith, length-append text (drop (length text) before), length-drop (length text) before)
-
--- what lies behind a text, seen from within
-behind : (a before : List ℕ) (n : ℕ) → drop (length a + n) (a ++ drop (length a) before) ≡ drop (length a + n) before
-behind a before n = drop-append-add a (drop (length a) before) n ∙ drop-drop n (length a) before
-
-pub placed-onto : (a bs before : List ℕ) (i : ℕ) → i ≡ length a → placed i bs (onto a before) ≡ onto (a ++ bs) before
-unfolding placed onto
-placed-onto a bs before i e =
-    rw (e, take-at a (drop (length a) before) (length a) refl, behind a before (length bs), append-assoc a bs, length-append a bs)
-
-pub onto-onto : (a b before : List ℕ) → onto (a ++ b) (onto a before) ≡ onto (a ++ b) before
-unfolding onto
-onto-onto a b before = rw (length-append a b, behind a before (length b))
-
 pub inserted-onto : (a m bs before : List ℕ) (i e : ℕ) → i ≡ length a → e ≡ length a + length m → inserted i e bs (onto (a ++ m) before) ≡ onto (a ++ (bs ++ m)) before
-unfolding inserted onto
+unfolding inserted
 inserted-onto a m bs before i e p q =
     let n : length (a ++ m) ≡ length a + length m = length-append a m in
     let d : List ℕ = drop (length (a ++ m)) before in
@@ -42,20 +28,14 @@ inserted-onto a m bs before i e p q =
 
 -- ---- stores
 
--- stores at a place
-pub sets-placed : (bs xs : List ℕ) (i : ℕ) → i + length bs ≤ length xs → sets xs i bs ≡ placed i bs xs
-unfolding placed
-sets-placed bs xs i h = sets-eq bs xs i h ∙ append-assoc (take i xs) bs (drop (i + length bs) xs)
-
 -- stores at the end of a front part
-stored : (bs xs r : List ℕ) (i : ℕ) → i + length bs ≤ length xs → sets (take (i + length bs) xs ++ r) i bs ≡ take i xs ++ (bs ++ r)
-unfolding placed
-stored bs xs r i h =
+stored-behind : (bs xs r : List ℕ) (i : ℕ) → i + length bs ≤ length xs → sets (take (i + length bs) xs ++ r) i bs ≡ take i xs ++ (bs ++ r)
+stored-behind bs xs r i h =
     let n : length (take (i + length bs) xs) ≡ i + length bs = length-take-le (i + length bs) xs h in
     let l : i + length bs ≤ length (take (i + length bs) xs ++ r) = omega (arith, length-append (take (i + length bs) xs) r) in
     let front : take i (take (i + length bs) xs ++ r) ≡ take i xs = take-append-le i (take (i + length bs) xs) r (omega arith) ∙ take-take i (i + length bs) xs (omega arith) in
     let last : drop (i + length bs) (take (i + length bs) xs ++ r) ≡ r = drop-at (take (i + length bs) xs) r (i + length bs) n in
-    sets-placed bs (take (i + length bs) xs ++ r) i l ∙ rw (front, last)
+    stored bs (take (i + length bs) xs ++ r) i l ∙ rw (front, last)
 
 -- ---- a part moved on
 
@@ -88,7 +68,7 @@ module _ (j e by : ℕ) (xs : List ℕ) (p : j < e) (q : e + by ≤ length xs) w
   shift-write =
       let m : suc j + by ≡ j + by + 1 = omega arith in
       let k : e - j ≡ suc (e - suc j) = omega arith in
-      let s = stored (getD xs j 0 ∷ []) xs (take (e - suc j) (drop (suc j) xs) ++ drop (e + by) xs) (j + by) (omega arith) in
+      let s = stored-behind (getD xs j 0 ∷ []) xs (take (e - suc j) (drop (suc j) xs) ++ drop (e + by) xs) (j + by) (omega arith) in
       rw (m, k, drop-cons xs j 0 (omega arith)) s
 
   shift-on : set (shifted (suc j) e by xs) (j + by) (getD (shifted (suc j) e by xs) j 0) ≡ shifted j e by xs
@@ -103,30 +83,20 @@ shift-turn (suc j) e by xs out h p q s = let k : suc j - 1 ≡ j = omega arith i
 
 pub insert-one : (i e b : ℕ) (xs : List ℕ) → i ≤ e → e + 1 ≤ length xs → set (shifted i e 1 xs) i b ≡ inserted i e (b ∷ []) xs
 unfolding shifted inserted
-insert-one i e b xs p q = stored (b ∷ []) xs (take (e - i) (drop i xs) ++ drop (e + 1) xs) i (omega arith)
+insert-one i e b xs p q = stored-behind (b ∷ []) xs (take (e - i) (drop i xs) ++ drop (e + 1) xs) i (omega arith)
 
 pub insert-two : (i e a b : ℕ) (xs : List ℕ) → i ≤ e → e + 2 ≤ length xs → set (set (shifted i e 2 xs) i a) (i + 1) b ≡ inserted i e (a ∷ b ∷ []) xs
 unfolding shifted inserted
 insert-two i e a b xs p q =
     let n : i + 1 ≡ suc i = omega arith in
-    rw n (stored (a ∷ b ∷ []) xs (take (e - i) (drop i xs) ++ drop (e + 2) xs) i (omega arith))
+    rw n (stored-behind (a ∷ b ∷ []) xs (take (e - i) (drop i xs) ++ drop (e + 2) xs) i (omega arith))
 
--- ---- five stores, and two
+-- ---- five stores
 
-pub put-five : (i a b c d e : ℕ) (xs : List ℕ) → i + 5 ≤ length xs → set (set (set (set (set xs i a) (i + 1) b) (i + 2) c) (i + 3) d) (i + 4) e ≡ placed i (a ∷ b ∷ c ∷ d ∷ e ∷ []) xs
-put-five i a b c d e xs h =
+pub five-stored : (i a b c d e : ℕ) (xs : List ℕ) → i + 5 ≤ length xs → set (set (set (set (set xs i a) (i + 1) b) (i + 2) c) (i + 3) d) (i + 4) e ≡ placedAt i (a ∷ b ∷ c ∷ d ∷ e ∷ []) xs
+five-stored i a b c d e xs h =
     let n₁ : i + 1 ≡ suc i = omega arith in
     let n₂ : i + 2 ≡ suc (suc i) = omega arith in
     let n₃ : i + 3 ≡ suc (suc (suc i)) = omega arith in
     let n₄ : i + 4 ≡ suc (suc (suc (suc i))) = omega arith in
-    rw (n₁, n₂, n₃, n₄) (sets-placed (a ∷ b ∷ c ∷ d ∷ e ∷ []) xs i h)
-
-pub put-two : (i a b : ℕ) (xs : List ℕ) → i + 2 ≤ length xs → set (set xs i a) (i + 1) b ≡ placed i (a ∷ b ∷ []) xs
-put-two i a b xs h = let n : i + 1 ≡ suc i = omega arith in rw n (sets-placed (a ∷ b ∷ []) xs i h)
-
-pub put-one : (i a : ℕ) (xs : List ℕ) → i + 1 ≤ length xs → set xs i a ≡ placed i (a ∷ []) xs
-put-one i a xs h = sets-placed (a ∷ []) xs i h
-
-pub put-seven : (a b c d e f g : ℕ) (xs : List ℕ) → 7 ≤ length xs → set (set (set (set (set (set (set xs 0 a) 1 b) 2 c) 3 d) 4 e) 5 f) 6 g ≡ onto (a ∷ b ∷ c ∷ d ∷ e ∷ f ∷ g ∷ []) xs
-unfolding onto placed
-put-seven a b c d e f g xs h = sets-placed (a ∷ b ∷ c ∷ d ∷ e ∷ f ∷ g ∷ []) xs 0 h
+    rw (n₁, n₂, n₃, n₄) (stored (a ∷ b ∷ c ∷ d ∷ e ∷ []) xs i h)

@@ -7,22 +7,24 @@ use native.Mathlib.Omega.{arith}
 use lib.Dec.{ltb}
 use lib.ListN.{length, drop, getD, length-append, drop-of-length-le}
 use borrow.Author.Tests.{ltb-false, not-false}
-use Rattle.decompiler.specs.declared.State.{State}
-use Rattle.decompiler.specs.Parts.{onto, header}
-use Rattle.decompiler.specs.State.{started}
-use Rattle.decompiler.specs.Walk.{Walk, Ready}
-use Rattle.decompiler.proofs.Lists.{length-onto, onto-onto}
+use Rattle.decompiler.specs.declared.Pass.{Pass}
+use Rattle.decompiler.specs.InnerParts.{jobHeader}
+use Rattle.delivery.specs.Delivered.{onto}
+use Rattle.decompiler.specs.InnerState.{firstState}
+use Rattle.decompiler.specs.InnerWalk.{Walk, Restorable}
+use Rattle.delivery.proofs.Places.{onto-length, onto-onto}
 use Rattle.decompiler.proofs.Next.{text-at-end}
 use Rattle.decompiler.proofs.Follow.{small, out-length}
-use Rattle.code.specs.Reader.{readOps, within, marked, readCode}
+use Rattle.code.specs.Reader.{readOps, within, codeMarked, readCode}
 use Rattle.code.proofs.Flat.{code-length}
 use Rattle.code.proofs.ReadBack.{onward-from, same, within-back, read-is-code}
-use Rattle.code.specs.Parts.{jobText, forksI}
+use Rattle.code.specs.InnerParts.{jobText, forksI}
 use Rattle.script.specs.Tree.{Tran, ValT, AddT, Read, Write, Proc, ValP, AddP, Atomic, Fork}
 use Rattle.script.specs.Count.{nodesT, nodesP, depthP, forks, codeT, codeP, codeLength}
 use Rattle.script.specs.Bytes.{Bytes, bytes16, bytesP, jobMark, jobBytes}
 use Rattle.script.specs.Outcome.{done}
-use Rattle.script.specs.Reader.{Job, number16, taken}
+use Rattle.script.specs.Jobs.{Job, number16}
+use Rattle.script.specs.Reader.{taken}
 use Rattle.script.proofs.Accepts.{passed}
 use Rattle.script.proofs.Numbers.{bytes16-number16}
 
@@ -53,7 +55,7 @@ pub code-reads : (code : List ℕ) (j : Job) → readCode code ≡ done j → Re
 unfolding readCode
 code-reads code j e =
     let t₁ = passed (ltb (length code) 5) 11 0 _ e in
-    let t₂ = passed (not (marked code)) 11 0 _ (t₁ .1) in
+    let t₂ = passed (not (codeMarked code)) 11 0 _ (t₁ .1) in
     let t₃ = passed (not (taken (number16 code 3))) 11 0 _ (t₂ .1) in
     let w = onward-from _ (readOps (suc (length code)) false [] [] 5 (drop 5 code)) j (t₃ .1) in
     let p = w .before in
@@ -71,29 +73,29 @@ code-reads code j e =
       narrow = l .2;
     })
 
-header-length : (code : List ℕ) (nodes : ℕ) → length (header code nodes) ≡ 7
-unfolding header jobMark bytes16
+header-length : (code : List ℕ) (nodes : ℕ) → length (jobHeader code nodes) ≡ 7
+unfolding jobHeader jobMark bytes16
 header-length code nodes = refl
 
 -- the header and the nodes are the job
-header-job : (code : List ℕ) (j : Job) (nodes : ℕ) → Bytes code → Reads code j → nodes ≡ nodesP (j .tree) → header code nodes ++ bytesP (j .tree) ≡ jobBytes (j .version) (j .tree)
-unfolding header jobBytes jobMark
+header-job : (code : List ℕ) (j : Job) (nodes : ℕ) → Bytes code → Reads code j → nodes ≡ nodesP (j .tree) → jobHeader code nodes ++ bytesP (j .tree) ≡ jobBytes (j .version) (j .tree)
+unfolding jobHeader jobBytes jobMark
 header-job code j nodes b r n =
     rw (n, r .version, bytes16-number16 (getD code 3 0) (getD code 4 0) (b .small 3 (omega (arith, r .long))) (b .small 4 (omega (arith, r .long))))
 
 -- the loop's invariant: the job that is read, and how far the pass has come
-pub record Inv (code : List ℕ) (nodes : ℕ) (before out : List ℕ) (s : State) : Type 0 where
+pub record PassInv (code : List ℕ) (nodes : ℕ) (before out : List ℕ) (s : Pass) : Type 0 where
   pub job : Job
   pub read : readCode code ≡ done job
   pub count : nodes ≡ nodesP (job .tree)
-  pub walk : Walk code (header code nodes) before (job .tree) out s
+  pub walk : Walk code (jobHeader code nodes) before (job .tree) out s
 
-module _ (code : List ℕ) (nodes : ℕ) (before : List ℕ) (bytes : Bytes code) (r : Ready code nodes before) where
+module _ (code : List ℕ) (nodes : ℕ) (before : List ℕ) (bytes : Bytes code) (r : Restorable code nodes before) where
   reading : Reads code (r .job)
   reading = code-reads code (r .job) (r .read)
 
   room : 7 + length (bytesP (r .job .tree)) ≤ length before
-  room = omega (arith, r .room, ap length (header-job code (r .job) nodes bytes reading (r .count)), length-append (header code nodes) (bytesP (r .job .tree)), header-length code nodes)
+  room = omega (arith, r .room, ap length (header-job code (r .job) nodes bytes reading (r .count)), length-append (jobHeader code nodes) (bytesP (r .job .tree)), header-length code nodes)
 
   pub header-fits : (5 ≤ length code) × (7 ≤ length before)
   header-fits = (reading .long, omega (arith, room))
@@ -105,15 +107,15 @@ module _ (code : List ℕ) (nodes : ℕ) (before : List ℕ) (bytes : Bytes code
       let n : length code ≡ 5 + codeP (r .job .tree) = ap length (c .text) ∙ code-length (r .job) in
       omega (arith, code-smallP (r .job .tree), reading .few)
 
-  pub inv-start : (out : List ℕ) → out ≡ onto (header code nodes) before → (s : State) → s ≡ started → Inv code nodes out out s
-  unfolding started jobText forksI
+  pub inv-start : (out : List ℕ) → out ≡ onto (jobHeader code nodes) before → (s : Pass) → s ≡ firstState → PassInv code nodes out out s
+  unfolding firstState jobText forksI
   inv-start out t s e =
-      let long : length out ≡ length before = ap length t ∙ length-onto (header code nodes) before (omega (arith, header-length code nodes, room)) in
+      let long : length out ≡ length before = ap length t ∙ onto-length (jobHeader code nodes) before (omega (arith, header-length code nodes, room)) in
       record {
         job = r .job;
         read = r .read;
         count = r .count;
-        walk = subst (Walk code (header code nodes) out (r .job .tree) out) (sym e) (record {
+        walk = subst (Walk code (jobHeader code nodes) out (r .job .tree) out) (sym e) (record {
           items = [];
           open′ = [];
           fuel = suc (length code);
@@ -141,30 +143,30 @@ module _ (code : List ℕ) (nodes : ℕ) (before : List ℕ) (bytes : Bytes code
         });
       }
     where
-      front : (l : List ℕ) → l ≡ onto (header code nodes) before → l ≡ onto (header code nodes ++ []) l
+      front : (l : List ℕ) → l ≡ onto (jobHeader code nodes) before → l ≡ onto (jobHeader code nodes ++ []) l
       front l q =
-          let a = onto-onto (header code nodes) [] before in
-          let b : onto (header code nodes ++ []) before ≡ onto (header code nodes) before = ap (λ (x : List ℕ). onto x before) (append-nil (header code nodes)) in
-          q ∙ sym (ap (onto (header code nodes ++ [])) q ∙ a ∙ b)
+          let a = onto-onto (jobHeader code nodes) [] before in
+          let b : onto (jobHeader code nodes ++ []) before ≡ onto (jobHeader code nodes) before = ap (λ (x : List ℕ). onto x before) (append-nil (jobHeader code nodes)) in
+          q ∙ sym (ap (onto (jobHeader code nodes ++ [])) q ∙ a ∙ b)
 
   -- the output keeps its length
-  pub inv-length : (first out : List ℕ) (s : State) → first ≡ onto (header code nodes) before → Inv code nodes first out s → length out ≡ length before
+  pub inv-length : (first out : List ℕ) (s : Pass) → first ≡ onto (jobHeader code nodes) before → PassInv code nodes first out s → length out ≡ length before
   inv-length first out s t inv =
       let w = inv .walk in
       let h = w .stands in
       let now = small (h .known) (w .fuel) (s .inside) (w .items) (w .open′) (s .place) (drop (s .place) code) (h .reads) (h .few) in
-      out-length (h .known) (w .items) (w .open′) out now (h .text) ∙ ap length t ∙ length-onto (header code nodes) before (omega (arith, header-length code nodes, room))
+      out-length (h .known) (w .items) (w .open′) out now (h .text) ∙ ap length t ∙ onto-length (jobHeader code nodes) before (omega (arith, header-length code nodes, room))
 
   -- the output behind the loop
-  pub inv-end : (first out : List ℕ) (s : State) → first ≡ onto (header code nodes) before → Inv code nodes first out s → length code ≤ s .place → (j : Job) → readCode code ≡ done j → out ≡ onto (jobBytes (j .version) (j .tree)) before
+  pub inv-end : (first out : List ℕ) (s : Pass) → first ≡ onto (jobHeader code nodes) before → PassInv code nodes first out s → length code ≤ s .place → (j : Job) → readCode code ≡ done j → out ≡ onto (jobBytes (j .version) (j .tree)) before
   inv-end first out s t inv l j e =
       let k : inv .job ≡ j = same (sym (inv .read) ∙ e) in
       let w = inv .walk in
       let none : drop (s .place) code ≡ [] = drop-of-length-le code l in
       let d : readOps (w .fuel) (s .inside) (w .items) (w .open′) (s .place) [] ≡ done (inv .job .tree) = rw none at (w .stands .reads) in
       let text : jobText (w .items) ≡ bytesP (inv .job .tree) = text-at-end (w .fuel) (s .inside) (w .items) (w .open′) (s .place) (inv .job .tree) d in
-      let whole : header code nodes ++ bytesP (inv .job .tree) ≡ jobBytes (inv .job .version) (inv .job .tree) = header-job code (inv .job) nodes bytes (code-reads code (inv .job) (inv .read)) (inv .count) in
-      let e₁ : out ≡ onto (header code nodes ++ bytesP (inv .job .tree)) first = w .stands .text ∙ ap (λ (x : List ℕ). onto (header code nodes ++ x) first) text in
-      let e₂ : onto (header code nodes ++ bytesP (inv .job .tree)) first ≡ onto (header code nodes ++ bytesP (inv .job .tree)) before = ap (onto (header code nodes ++ bytesP (inv .job .tree))) t ∙ onto-onto (header code nodes) (bytesP (inv .job .tree)) before in
-      let e₃ : onto (header code nodes ++ bytesP (inv .job .tree)) before ≡ onto (jobBytes (inv .job .version) (inv .job .tree)) before = ap (λ (x : List ℕ). onto x before) whole in
+      let whole : jobHeader code nodes ++ bytesP (inv .job .tree) ≡ jobBytes (inv .job .version) (inv .job .tree) = header-job code (inv .job) nodes bytes (code-reads code (inv .job) (inv .read)) (inv .count) in
+      let e₁ : out ≡ onto (jobHeader code nodes ++ bytesP (inv .job .tree)) first = w .stands .text ∙ ap (λ (x : List ℕ). onto (jobHeader code nodes ++ x) first) text in
+      let e₂ : onto (jobHeader code nodes ++ bytesP (inv .job .tree)) first ≡ onto (jobHeader code nodes ++ bytesP (inv .job .tree)) before = ap (onto (jobHeader code nodes ++ bytesP (inv .job .tree))) t ∙ onto-onto (jobHeader code nodes) (bytesP (inv .job .tree)) before in
+      let e₃ : onto (jobHeader code nodes ++ bytesP (inv .job .tree)) before ≡ onto (jobBytes (inv .job .version) (inv .job .tree)) before = ap (λ (x : List ℕ). onto x before) whole in
       e₁ ∙ e₂ ∙ e₃ ∙ ap (λ (x : Job). onto (jobBytes (x .version) (x .tree)) before) k

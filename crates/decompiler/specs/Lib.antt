@@ -1,5 +1,5 @@
 -- What the contracts of `decompiler` cite.
-pub mod Parts
-pub mod State
-pub mod Walk
+pub mod InnerParts
+pub mod InnerState
+pub mod InnerWalk
 pub mod ReadBackTo

@@ -5,7 +5,7 @@ use Rattle.code.specs.Reader.{readCode}
 use Rattle.delivery.specs.Delivered.{Delivered, delivered}
 use Rattle.script.specs.Bytes.{jobBytes}
 use Rattle.script.specs.Outcome.{mapped}
-use Rattle.script.specs.Reader.{Job}
+use Rattle.script.specs.Jobs.{Job}
 
 abbrev pub bytesOf : Job → List ℕ
 bytesOf j = jobBytes (j .version) (j .tree)

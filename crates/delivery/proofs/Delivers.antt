@@ -7,7 +7,7 @@ use borrow.Author.Tests.{le-ltb, lt-ltb}
 use lib.ListN.{length, drop}
 use lib.Seq.{drop-append-seam}
 use Rattle.delivery.specs.declared.Answer.the-variants.{Done, Refused}
-use Rattle.delivery.specs.Delivered.{onto, fitting, settled, delivered}
+use Rattle.delivery.specs.Delivered.{onto, roomFor, settled, delivered}
 use Rattle.script.specs.Outcome.{Outcome, refused, done, onward}
 
 settled-keeps : (o : Outcome (List ℕ)) (before : List ℕ) (n p : ℕ) → settled o before .answer ≡ Refused n p → settled o before .output ≡ before
@@ -17,7 +17,7 @@ settled-keeps (done result) before n p e = absurd (let z : _≡_ {A = ℕ} 0 1 =
 -- "A refusal .. alters no lent memory"
 pub refused-keeps : (o : Outcome (List ℕ)) (before : List ℕ) (n p : ℕ) → delivered o before .answer ≡ Refused n p → delivered o before .output ≡ before
 unfolding delivered
-refused-keeps o before n p e = settled-keeps (onward o (fitting before)) before n p e
+refused-keeps o before n p e = settled-keeps (onward o (roomFor before)) before n p e
 
 settled-behind : (o : Outcome (List ℕ)) (before : List ℕ) (n : ℕ) → settled o before .answer ≡ Done n → drop n (settled o before .output) ≡ drop n before
 settled-behind (refused number place) before n e = absurd (let z : _≡_ {A = ℕ} 0 1 = cc in omega arith)
@@ -28,7 +28,7 @@ settled-behind (done result) before n e =
 -- "only as many bytes of the output as they need, counted from its start"
 pub behind-keeps : (o : Outcome (List ℕ)) (before : List ℕ) (n : ℕ) → delivered o before .answer ≡ Done n → drop n (delivered o before .output) ≡ drop n before
 unfolding delivered
-behind-keeps o before n e = settled-behind (onward o (fitting before)) before n e
+behind-keeps o before n e = settled-behind (onward o (roomFor before)) before n e
 
 -- a result that the output is long enough for is delivered: 10 is "output shorter than the result", nothing else
 pub delivers : (r before : List ℕ) → length r ≤ length before → delivered (done r) before ≡ record { answer = Done (length r); output = onto r before }

@@ -16,8 +16,8 @@ abbrev pub onto : (result before : List ℕ) → List ℕ
 onto result before = result ++ drop (length result) before
 
 -- 10 at 0, "output shorter than the result"
-abbrev pub fitting : (before result : List ℕ) → Outcome (List ℕ)
-fitting before result = refuse (ltb (length before) (length result)) 10 0 (done result)
+abbrev pub roomFor : (before result : List ℕ) → Outcome (List ℕ)
+roomFor before result = refuse (ltb (length before) (length result)) 10 0 (done result)
 
 -- "A refusal returns its number and a place, and alters no lent memory"
 abbrev pub settled : Outcome (List ℕ) → (before : List ℕ) → Delivered
@@ -25,4 +25,4 @@ settled (refused number place) before = record { answer = Refused number place; 
 settled (done result) before = record { answer = Done (length result); output = onto result before }
 
 unfoldable pub delivered : Outcome (List ℕ) → (before : List ℕ) → Delivered
-delivered outcome before = settled (onward outcome (fitting before)) before
+delivered outcome before = settled (onward outcome (roomFor before)) before

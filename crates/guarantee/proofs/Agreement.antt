@@ -20,7 +20,8 @@ use Rattle.machine.proofs.Soups.{ended-halted}
 use Rattle.machine.proofs.Agrees.{does-one, step-fits, run-fits, has-soup, fresh-soup, pick-is-step, step-is-pick, pick-is-step-same, step-is-pick-same, run-is-steps}
 use Rattle.script.specs.Bytes.{Bytes}
 use Rattle.script.specs.Outcome.{done}
-use Rattle.script.specs.Reader.{Job, readJob}
+use Rattle.script.specs.Jobs.{Job}
+use Rattle.script.specs.Reader.{readJob}
 use Rattle.script.proofs.Same.{same-refl}
 use Rattle.stm.specs.Events.{Happened}
 

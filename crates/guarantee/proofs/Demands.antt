@@ -10,7 +10,8 @@ use Rattle.guarantee.proofs.Rows.{job-rows, compile-rows, back-rows}
 use Rattle.machine.proofs.Calls.{fresh-answers, step-answers, run-answers}
 use Rattle.script.specs.Bytes.{Bytes}
 use Rattle.script.specs.Outcome.{done}
-use Rattle.script.specs.Reader.{Job, readJob}
+use Rattle.script.specs.Jobs.{Job}
+use Rattle.script.specs.Reader.{readJob}
 use Rattle.script.specs.Turns.{Script, turn, idle, Turned, left, turns}
 use Rattle.script.proofs.Soups.{turn-steps, step-turns, turn-steps-same, step-turns-same}
 use Rattle.script.proofs.Transactions.{work-reached, work-only}

@@ -30,7 +30,8 @@ use Rattle.script.specs.Tree.{Proc, ValP}
 use Rattle.script.specs.Count.{forks, threads, bound}
 use Rattle.script.specs.Bytes.{Bytes}
 use Rattle.script.specs.Outcome.{Outcome, refused, done, refuse, onward, mapped}
-use Rattle.script.specs.Reader.{Job, readJob}
+use Rattle.script.specs.Jobs.{Job}
+use Rattle.script.specs.Reader.{readJob}
 use Rattle.script.specs.Refusal.{IsJob}
 use Rattle.script.specs.Turns.{initial, turns, CanTake, Result}
 use Rattle.script.proofs.Accepts.{accepted-is-job, passed}

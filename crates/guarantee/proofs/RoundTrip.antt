@@ -19,7 +19,8 @@ use Rattle.delivery.proofs.Delivers.{delivers}
 use Rattle.delivery.specs.Delivered.{onto, delivered}
 use Rattle.script.specs.Bytes.{Bytes}
 use Rattle.script.specs.Outcome.{Outcome, refused, done, mapped}
-use Rattle.script.specs.Reader.{Job, readJob}
+use Rattle.script.specs.Jobs.{Job}
+use Rattle.script.specs.Reader.{readJob}
 use Rattle.script.specs.Refusal.{IsJob}
 use Rattle.script.proofs.Accepts.{accepted-is-job, job-is-accepted}
 

@@ -24,7 +24,8 @@ use Rattle.job.specs.declared.Reading.{Reading}
 use Rattle.job.specs.declared.Reading.the-variants as reading
 use Rattle.script.specs.Bytes.{Bytes}
 use Rattle.script.specs.Outcome.{Outcome, refused, done, mapped}
-use Rattle.script.specs.Reader.{Job, readJob}
+use Rattle.script.specs.Jobs.{Job}
+use Rattle.script.specs.Reader.{readJob}
 use Rattle.script.specs.Refusal.{IsJob}
 use Rattle.script.proofs.Accepts.{accepted-is-job, job-is-accepted}
 use Rattle.script.proofs.Refuses.{refused-is-read, read-is-refused}

@@ -10,8 +10,8 @@ use lib.ListN.{drop, replicate}
 use Rattle.guarantee.specs.Histories.{Session, History}
 use Rattle.code.specs.Compile.{ε}
 use Rattle.code.specs.Bytes.{compiled}
-use Rattle.code.specs.Reader.{opAt}
-use Rattle.code.specs.Reader as code
+use Rattle.code.specs.Ops.{opAt}
+use Rattle.code.specs.Ops as code
 use Rattle.thread.specs.declared.Thread.{Thread}
 use Rattle.thread.specs.Threads.{exists, stale}
 use Rattle.machine.specs.Steps.{State, threadAt, pick, DoesOne, FirstStale, FoundIn, fresh, run}
@@ -20,7 +20,7 @@ use Rattle.machine.specs.Answers.{sumOf}
 use Rattle.machine.specs.Source.{SThread, StepM, StepsM}
 use Rattle.machine.specs.Soup.{Carries, Soup, StandsFor, ruleOf, IsFor, First, named, ByRule, load, PickOn}
 use Rattle.script.specs.Outcome.{done}
-use Rattle.script.specs.Reader.{Job}
+use Rattle.script.specs.Jobs.{Job}
 use Rattle.script.specs.Turns.{Registers}
 use Rattle.stm.specs.Events.{Source, idle, looked, committed, sentBack, Happened, isIdle}
 use Rattle.word.specs.Sum.{Rule}

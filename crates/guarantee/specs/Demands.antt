@@ -25,7 +25,8 @@ use Rattle.machine.specs.declared.StepReply.{StepReply}
 use Rattle.script.specs.Bytes.{Bytes}
 use Rattle.script.specs.Count.{bound}
 use Rattle.script.specs.Outcome.{done, mapped}
-use Rattle.script.specs.Reader.{Job, readJob}
+use Rattle.script.specs.Jobs.{Job}
+use Rattle.script.specs.Reader.{readJob}
 use Rattle.script.specs.Soup.{Same, StepOn}
 use Rattle.script.specs.Source.{StepsT, StepP}
 use Rattle.script.specs.Tree.{Tran, ValT, Proc}

@@ -13,7 +13,7 @@ use Rattle.machine.specs.Fits.{Exists, Typed, Ranged}
 use Rattle.machine.specs.Answers.{sumOf, stepOf, runOf, stepCall, runCall, stepCounts, runCounts}
 use Rattle.script.specs.Bytes.{Bytes}
 use Rattle.script.specs.Outcome.{Outcome, refused, done, mapped}
-use Rattle.script.specs.Reader.{Job}
+use Rattle.script.specs.Jobs.{Job}
 use Rattle.script.specs.Turns.{Script, initial, turns, CanTake, Result}
 
 -- a call, with what it is lent

@@ -9,7 +9,7 @@ use Rattle.delivery.specs.Delivered.{Delivered, onto}
 use Rattle.delivery.specs.declared.Answer.the-variants as answer
 use Rattle.job.specs.declared.Reading.{Reading}
 use Rattle.job.specs.declared.Reading.the-variants as reading
-use Rattle.script.specs.Reader.{Job}
+use Rattle.script.specs.Jobs.{Job}
 use Rattle.script.specs.Refusal.{IsJob, Refused}
 
 -- the job reader: 1 to 9, or the job's version and its code's length

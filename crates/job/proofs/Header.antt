@@ -8,7 +8,8 @@ use lib.ListN.{length, drop}
 use borrow.Author.Tests.{lt-ltb, le-ltb, eq-eqb, ne-eqb}
 use Rattle.job.specs.declared.Reading.the-variants.{Refused}
 use Rattle.job.specs.Answer.{answer}
-use Rattle.script.specs.Reader.{number16, readNodes, readJob, marked, taken, root, whole}
+use Rattle.script.specs.Jobs.{number16, root}
+use Rattle.script.specs.Reader.{readNodes, readJob, jobMarked, taken, whole}
 
 module _ (job : List ℕ) where
   pub cut : length job < 7 → Refused 1 (length job) ≡ answer (readJob job)
@@ -16,11 +17,11 @@ module _ (job : List ℕ) where
   cut h = rw (lt-ltb (length job) 7 h)
 
   module _ (long : 7 ≤ length job) where
-    pub bad-mark : marked job ≡ false → Refused 2 0 ≡ answer (readJob job)
+    pub bad-mark : jobMarked job ≡ false → Refused 2 0 ≡ answer (readJob job)
     unfolding readJob
     bad-mark e = rw (le-ltb (length job) 7 long, e)
 
-    module _ (mark : marked job ≡ true) where
+    module _ (mark : jobMarked job ≡ true) where
       pub bad-version : (number16 job 3 ≡ 1 → ⊥) → Refused 3 3 ≡ answer (readJob job)
       unfolding readJob taken
       bad-version n = rw (le-ltb (length job) 7 long, mark, ne-eqb (number16 job 3) 1 n)

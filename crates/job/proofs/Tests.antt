@@ -1,27 +1,27 @@
 -- The tests of one node, on the job and the place. Assumes nothing.
-use Prim.Native.Nat.{ℕ, zero, suc, _+_, _-_, _≤_, _<_}
-use mathlib.Core.Path.{_≡_, refl, sym, ap, subst, _∙_}
+use Prim.Native.Nat.{ℕ, suc, _+_, _-_, _≤_, _<_}
+use mathlib.Core.Path.{_≡_, refl, ap, _∙_}
 use mathlib.Core.Bool.{Bool, true, false, and-false}
-use mathlib.Core.List.{List, [], _∷_}
+use mathlib.Core.List.{List}
 use native.Mathlib.Omega.{arith}
-use lib.Dec.{eqb, leb}
+use lib.Dec.{eqb}
 use lib.ListN.{length, drop, getD, length-drop, drop-of-length-le}
 use lib.Seq.{drop-cons, getD-drop}
 use borrow.Author.Tests.{lt-ltb, le-ltb, le-leb, lt-leb, eq-eqb, ne-eqb}
-use Rattle.job.specs.declared.Found.{Found}
-use Rattle.job.specs.declared.Found.the-variants.{Kind, Refused}
-use Rattle.job.specs.Scan.{sortOf, kindOf, found}
-use Rattle.script.specs.Tree.{Sort, process, transaction}
-use Rattle.script.specs.Outcome.{Outcome, refused, done}
-use Rattle.script.specs.Reader.{permitted, operand, nodeOf, nodeAt}
+use Rattle.job.specs.declared.Tested.{Tested}
+use Rattle.job.specs.declared.Tested.the-variants.{Kind, Refused}
+use Rattle.job.specs.InnerScan.{sortOf, kindByte, tested}
+use Rattle.script.specs.Tree.{Sort}
+use Rattle.script.specs.Jobs.{operand}
+use Rattle.script.specs.Reader.{permitted, nodeOf, nodeAt}
 use Rattle.script.proofs.Nodes.{Kind as Kinds, valP, addP, atomic, fork, valT, addT, read, write, other, kind-of, permitted-no}
 
 -- the node of a permitted kind has that kind
-kind-is : (s : Sort) (k : ℕ) (rest : List ℕ) → permitted s k ≡ true → kindOf (nodeOf s k rest) ≡ k
-unfolding kindOf nodeOf
+kind-is : (s : Sort) (k : ℕ) (rest : List ℕ) → permitted s k ≡ true → kindByte (nodeOf s k rest) ≡ k
+unfolding kindByte nodeOf
 kind-is s k rest e = go s k (kind-of s k) e
   where
-    go : (s : Sort) (k : ℕ) → Kinds s k → permitted s k ≡ true → kindOf (nodeOf s k rest) ≡ k
+    go : (s : Sort) (k : ℕ) → Kinds s k → permitted s k ≡ true → kindByte (nodeOf s k rest) ≡ k
     go _ _ valP e = refl
     go _ _ addP e = refl
     go _ _ atomic e = refl
@@ -37,8 +37,8 @@ unfolding operand
 four-bare k o e = let z : _≡_ {A = ℕ} 0 1 = rw e at o in omega arith
 
 module _ (job : List ℕ) (place : ℕ) (t : Bool) (depth forks : ℕ) where
-  abbrev answered : Found
-  answered = found (nodeAt (record { sort = sortOf t; depth = depth }) forks place (drop place job))
+  abbrev answered : Tested
+  answered = tested (nodeAt (record { sort = sortOf t; depth = depth }) forks place (drop place job))
 
   pub no-byte : length job ≤ place → Refused 1 place ≡ answered
   unfolding nodeAt

@@ -1,26 +1,26 @@
 -- The reader's loop follows `readNodes`: what is due in its array, what it counts, and why it stays within its bounds. Assumes nothing.
 use Prim.Native.Nat.{ℕ, zero, suc, _+_, _*_, _-_, _%_, _≤_, _<_}
-use mathlib.Core.Path.{_≡_, refl, sym, ap, ap₂, subst, _∙_}
+use mathlib.Core.Path.{_≡_, refl, sym, ap, subst, _∙_}
 use mathlib.Core.Bool.{Bool, true, false, _||_}
-use mathlib.Core.List.{List, [], _∷_, _++_}
+use mathlib.Core.List.{List, [], _∷_}
 use native.Mathlib.Decide.{decLt}
 use native.Mathlib.Omega.{arith}
-use lib.Dec.{leb, ltb}
+use lib.Dec.{ltb}
 use lib.ListN.{length, drop, getD, set, replicate, length-set, length-drop, length-append}
 use lib.Seq.{getD-set-same, getD-set-other, drop-drop}
 use borrow.Author.Tests.{le-leb, lt-leb, eq-eqb, ne-eqb, le-ltb, ltb-false}
-use Rattle.job.specs.declared.Found.{Found}
-use Rattle.job.specs.declared.Found.the-variants.{Kind, Refused}
+use Rattle.job.specs.declared.Tested.the-variants.{Kind, Refused}
 use Rattle.job.specs.declared.Reading.{Reading}
 use Rattle.job.specs.declared.Reading.the-variants as reading
-use Rattle.job.specs.declared.Scan.{Scan}
+use Rattle.job.specs.declared.Reader.{Reader}
 use Rattle.job.specs.Answer.{answer}
-use Rattle.job.specs.Scan.{sortOf, kindOf, found, codeOf, started, pushed, below, popped, advanced, Ready, part, dueOf}
-use Rattle.script.specs.Tree.{Proc, Sort, process, transaction, Tree}
-use Rattle.script.specs.Count.{codeT, codeP, codeLength, code}
+use Rattle.job.specs.InnerScan.{kindByte, tested, codeOfKind, rootDue, duePushed, partDepth, popped, advanced, CanAdvance, heldPart, dueOf}
+use Rattle.script.specs.Tree.{Sort, process, transaction}
+use Rattle.script.specs.Count.{codeT, codeP, codeLength, codeSize}
 use Rattle.script.specs.Bytes.{Bytes, bytes32, Node, VALP, ADDP, ATOMIC, FORK, VALT, ADDT, READ, WRITE, nodeBytes}
 use Rattle.script.specs.Outcome.{Outcome, refused, done, mapped}
-use Rattle.script.specs.Reader.{Due, Forest, operand, nodeAt, partsThen, grown, forkOf, readNodes, Job, root, whole}
+use Rattle.script.specs.Jobs.{Due, operand, partsThen, forkOf, root}
+use Rattle.script.specs.Reader.{Forest, nodeAt, grown, readNodes, whole}
 use Rattle.script.proofs.Nodes.{Sees, good, node-sees, seen}
 use Rattle.script.proofs.Numbers.{bytes-drop}
 
@@ -31,21 +31,21 @@ unfolding dueOf
 due-set a zero m v h = refl
 due-set a (suc n) m v h = rw (getD-set-other a m n v 0 (omega arith), due-set a n m v (omega arith))
 
-due-push : (a : List ℕ) (n v : ℕ) → n < length a → dueOf (set a n v) (n + 1) ≡ part v ∷ dueOf a n
+due-push : (a : List ℕ) (n v : ℕ) → n < length a → dueOf (set a n v) (n + 1) ≡ heldPart v ∷ dueOf a n
 unfolding dueOf
 due-push a n v h =
     let e : n + 1 ≡ suc n = omega arith in
     rw (e, getD-set-same a n v 0 h, due-set a n n v (omega arith))
 
 -- a process and a transaction at the depth below n, as the array holds them
-part-process : (n : ℕ) → n ≤ 64 → part (n + 1) ≡ record { sort = process; depth = suc n }
-unfolding part
+part-process : (n : ℕ) → n ≤ 64 → heldPart (n + 1) ≡ record { sort = process; depth = suc n }
+unfolding heldPart
 part-process n h =
     let e : (n + 1) % 128 ≡ suc n = omega arith in
     rw (lt-leb 128 (n + 1) (omega arith), e)
 
-part-transaction : (n : ℕ) → n ≤ 64 → part (n + 1 + 128) ≡ record { sort = transaction; depth = suc n }
-unfolding part
+part-transaction : (n : ℕ) → n ≤ 64 → heldPart (n + 1 + 128) ≡ record { sort = transaction; depth = suc n }
+unfolding heldPart
 part-transaction n h =
     let e : (n + 1 + 128) % 128 ≡ suc n = omega arith in
     rw (le-leb 128 (n + 1 + 128) (omega arith), e)
@@ -54,10 +54,10 @@ part-transaction n h =
 
 abbrev codeF : (ds : List Due) → Forest ds → ℕ
 codeF [] ts = 0
-codeF (d ∷ ds) ts = code (d .sort) (ts .0) + codeF ds (ts .1)
+codeF (d ∷ ds) ts = codeSize (d .sort) (ts .0) + codeF ds (ts .1)
 
-grown-code : {s : Sort} (node : Node s) (n : ℕ) (ds : List Due) (ts : Forest (partsThen node n ds)) → codeF (record { sort = s; depth = n } ∷ ds) (grown node n ds ts) ≡ codeOf (kindOf node) + codeF (partsThen node n ds) ts
-unfolding grown codeP codeT codeOf kindOf
+grown-code : {s : Sort} (node : Node s) (n : ℕ) (ds : List Due) (ts : Forest (partsThen node n ds)) → codeF (record { sort = s; depth = n } ∷ ds) (grown node n ds ts) ≡ codeOfKind (kindByte node) + codeF (partsThen node n ds) ts
+unfolding grown codeP codeT codeOfKind kindByte
 grown-code (VALP z) n ds ts = omega arith
 grown-code ADDP n ds ts = omega arith
 grown-code ATOMIC n ds ts = omega arith
@@ -72,10 +72,10 @@ abbrev told : (version before : ℕ) (ds : List Due) → Outcome (Forest ds) →
 told version before ds (refused number place) = reading.Refused number place
 told version before ds (done ts) = reading.Accepted version (before + codeF ds ts)
 
-told-grown : {s : Sort} (version before : ℕ) (node : Node s) (n : ℕ) (ds : List Due) (o : Outcome (Forest (partsThen node n ds))) → told version before (record { sort = s; depth = n } ∷ ds) (mapped (grown node n ds) o) ≡ told version (before + codeOf (kindOf node)) (partsThen node n ds) o
+told-grown : {s : Sort} (version before : ℕ) (node : Node s) (n : ℕ) (ds : List Due) (o : Outcome (Forest (partsThen node n ds))) → told version before (record { sort = s; depth = n } ∷ ds) (mapped (grown node n ds) o) ≡ told version (before + codeOfKind (kindByte node)) (partsThen node n ds) o
 told-grown version before node n ds (refused number place) = refl
 told-grown {s} version before node n ds (done ts) =
-    let e : before + codeF (record { sort = s; depth = n } ∷ ds) (grown node n ds ts) ≡ before + codeOf (kindOf node) + codeF (partsThen node n ds) ts = omega (arith, grown-code node n ds ts) in
+    let e : before + codeF (record { sort = s; depth = n } ∷ ds) (grown node n ds ts) ≡ before + codeOfKind (kindByte node) + codeF (partsThen node n ds) ts = omega (arith, grown-code node n ds ts) in
     ap (reading.Accepted version) e
 
 told-root : (version : ℕ) (o : Outcome (Forest root)) → told version 5 root o ≡ answer (whole version o)
@@ -87,52 +87,52 @@ told-root version (done ts) = let e : 5 + (codeP (ts .0) + 0) ≡ 5 + codeP (ts 
 comes : (version before left forks place : ℕ) → List Due → List ℕ → Reading
 comes version before left forks place ds bs = told version before ds (readNodes left ds forks place bs)
 
-pub ahead : (version : ℕ) → List ℕ → Scan → Reading
+pub ahead : (version : ℕ) → List ℕ → Reader → Reading
 ahead version job s = comes version (s .code) (s .left) (s .forks) (s .place) (dueOf (s .due) (s .height)) (drop (s .place) job)
 
-pub ahead-start : (version : ℕ) (job : List ℕ) (count : ℕ) → ahead version job (started count) ≡ answer (whole version (readNodes count root 0 7 (drop 7 job)))
-unfolding ahead comes started dueOf part
+pub ahead-start : (version : ℕ) (job : List ℕ) (count : ℕ) → ahead version job (rootDue count) ≡ answer (whole version (readNodes count root 0 7 (drop 7 job)))
+unfolding ahead comes rootDue dueOf heldPart
 ahead-start version job count = told-root version (readNodes count root 0 7 (drop 7 job))
 
 -- ---- one node is read
 
-top-due : (a : List ℕ) (n : ℕ) → 1 ≤ n → dueOf a n ≡ part (getD a (n - 1) 0) ∷ dueOf a (n - 1)
+top-due : (a : List ℕ) (n : ℕ) → 1 ≤ n → dueOf a n ≡ heldPart (getD a (n - 1) 0) ∷ dueOf a (n - 1)
 unfolding dueOf
 top-due a zero h = absurd (omega arith)
 top-due a (suc n) h = let e : suc n - 1 ≡ n = omega arith in rw e
 
 -- the depth of the node on top
-abbrev pub level : Scan → ℕ
+abbrev pub level : Reader → ℕ
 level s = getD (s .due) (s .height - 1) 0 % 128
 
-two-due : (a : List ℕ) (n b : ℕ) → n + 1 < length a → dueOf (set (set a n b) (n + 1) b) (n + 1 + 1) ≡ part b ∷ part b ∷ dueOf a n
+two-due : (a : List ℕ) (n b : ℕ) → n + 1 < length a → dueOf (set (set a n b) (n + 1) b) (n + 1 + 1) ≡ heldPart b ∷ heldPart b ∷ dueOf a n
 two-due a n b h =
-    due-push (set a n b) (n + 1) b (rw (length-set a n b) h) ∙ ap (λ (l : List Due). part b ∷ l) (due-push a n b (omega arith))
+    due-push (set a n b) (n + 1) b (rw (length-set a n b) h) ∙ ap (λ (l : List Due). heldPart b ∷ l) (due-push a n b (omega arith))
 
-module _ (s : Scan) (some : 1 ≤ s .height) (room : s .height ≤ 64) (long : length (s .due) ≡ 65) (shallow : level s ≤ 64) where
-  advance-due : {t : Sort} (node : Node t) → dueOf (advanced s (kindOf node) .due) (advanced s (kindOf node) .height) ≡ partsThen node (level s) (dueOf (s .due) (s .height - 1))
-  unfolding advanced kindOf pushed popped
+module _ (s : Reader) (some : 1 ≤ s .height) (room : s .height ≤ 64) (long : length (s .due) ≡ 65) (shallow : level s ≤ 64) where
+  advance-due : {t : Sort} (node : Node t) → dueOf (advanced s (kindByte node) .due) (advanced s (kindByte node) .height) ≡ partsThen node (level s) (dueOf (s .due) (s .height - 1))
+  unfolding advanced kindByte duePushed popped
   advance-due (VALP z) = refl
   advance-due ADDP =
-      two-due (s .due) (s .height - 1) (below s) (omega arith)
+      two-due (s .due) (s .height - 1) (partDepth s) (omega arith)
       ∙ ap (λ (d : Due). d ∷ d ∷ dueOf (s .due) (s .height - 1)) (part-process (level s) shallow)
   advance-due ATOMIC =
-      due-push (s .due) (s .height - 1) (below s + 128) (omega arith)
+      due-push (s .due) (s .height - 1) (partDepth s + 128) (omega arith)
       ∙ ap (λ (d : Due). d ∷ dueOf (s .due) (s .height - 1)) (part-transaction (level s) shallow)
   advance-due FORK =
-      due-push (s .due) (s .height - 1) (below s) (omega arith)
+      due-push (s .due) (s .height - 1) (partDepth s) (omega arith)
       ∙ ap (λ (d : Due). d ∷ dueOf (s .due) (s .height - 1)) (part-process (level s) shallow)
   advance-due (VALT z) = refl
   advance-due ADDT =
-      two-due (s .due) (s .height - 1) (below s + 128) (omega arith)
+      two-due (s .due) (s .height - 1) (partDepth s + 128) (omega arith)
       ∙ ap (λ (d : Due). d ∷ d ∷ dueOf (s .due) (s .height - 1)) (part-transaction (level s) shallow)
   advance-due (READ v) = refl
   advance-due (WRITE v) =
-      due-push (s .due) (s .height - 1) (below s + 128) (omega arith)
+      due-push (s .due) (s .height - 1) (partDepth s + 128) (omega arith)
       ∙ ap (λ (d : Due). d ∷ dueOf (s .due) (s .height - 1)) (part-transaction (level s) shallow)
 
-size : {t : Sort} (node : Node t) → length (nodeBytes node) ≡ suc (operand (kindOf node))
-unfolding nodeBytes bytes32 operand kindOf
+size : {t : Sort} (node : Node t) → length (nodeBytes node) ≡ suc (operand (kindByte node))
+unfolding nodeBytes bytes32 operand kindByte
 size (VALP z) = refl
 size ADDP = refl
 size ATOMIC = refl
@@ -143,15 +143,15 @@ size (READ v) = refl
 size (WRITE v) = refl
 
 -- what else `advanced` changes
-pub record Counts (s : Scan) {t : Sort} (node : Node t) (a : Scan) : Type 0 where
+pub record CountsRead (s : Reader) {t : Sort} (node : Node t) (a : Reader) : Type 0 where
   pub left : a .left ≡ s .left - 1
   pub forks : a .forks ≡ s .forks + forkOf node
   pub place : a .place ≡ s .place + length (nodeBytes node)
-  pub code : a .code ≡ s .code + codeOf (kindOf node)
-  pub small : codeOf (kindOf node) ≤ 5
+  pub code : a .code ≡ s .code + codeOfKind (kindByte node)
+  pub small : codeOfKind (kindByte node) ≤ 5
 
-advance-counts : (s : Scan) {t : Sort} (node : Node t) → Counts s node (advanced s (kindOf node))
-unfolding advanced kindOf pushed popped forkOf nodeBytes bytes32 operand codeOf
+advance-counts : (s : Reader) {t : Sort} (node : Node t) → CountsRead s node (advanced s (kindByte node))
+unfolding advanced kindByte duePushed popped forkOf nodeBytes bytes32 operand codeOfKind
 advance-counts s (VALP z) = record { left = refl; forks = omega arith; place = omega arith; code = refl; small = omega arith }
 advance-counts s ADDP = record { left = refl; forks = omega arith; place = omega arith; code = refl; small = omega arith }
 advance-counts s ATOMIC = record { left = refl; forks = omega arith; place = omega arith; code = refl; small = omega arith }
@@ -168,19 +168,19 @@ pub record Stairs (a : List ℕ) (n : ℕ) : Type 0 where
   pub high : (i : ℕ) → i < n → i < getD a i 0 % 128
   pub low : (i : ℕ) → i < n → getD a i 0 % 128 ≤ 65
 
-pub record Fit (job : List ℕ) (s : Scan) : Type 0 where
+pub record ReaderFits (job : List ℕ) (s : Reader) : Type 0 where
   pub stairs : Stairs (s .due) (s .height)
   pub long : length (s .due) ≡ 65
   pub few : s .forks ≤ 15
   pub inside : s .place ≤ length job
   pub short : s .code + 5 * s .left ≤ 5005
 
-pub record Inv (job : List ℕ) (version count : ℕ) (s : Scan) : Type 0 where
-  pub fit : Fit job s
+pub record ReaderInv (job : List ℕ) (version count : ℕ) (s : Reader) : Type 0 where
+  pub fit : ReaderFits job s
   pub same : ahead version job s ≡ answer (whole version (readNodes count root 0 7 (drop 7 job)))
 
-pub inv-start : (job : List ℕ) (version count : ℕ) → 7 ≤ length job → count ≤ 1000 → Inv job version count (started count)
-unfolding started
+pub inv-start : (job : List ℕ) (version count : ℕ) → 7 ≤ length job → count ≤ 1000 → ReaderInv job version count (rootDue count)
+unfolding rootDue
 inv-start job version count h c =
     record {
       fit = record {
@@ -201,7 +201,7 @@ inv-start job version count h c =
     first-low zero l = omega arith
     first-low (suc i) l = absurd (omega arith)
 
-pub height-most : {job : List ℕ} {s : Scan} → Fit job s → s .height ≤ 65
+pub height-most : {job : List ℕ} {s : Reader} → ReaderFits job s → s .height ≤ 65
 height-most {s = s} f = go (decLt 65 (s .height))
   where
     go : Dec (65 < s .height) → s .height ≤ 65
@@ -222,7 +222,7 @@ stairs-push {a} {n} v h p q t = record { high = λ i l. high i l (decLt i n); lo
     low i l (yes m) = rw (getD-set-other a n i v 0 (omega arith)) (t .low i m)
     low i l (no m) = let e : i ≡ n = omega arith in rw (e, getD-set-same a n v 0 h) q
 
-module _ (job : List ℕ) (s : Scan) (some : 1 ≤ s .height) (f : Fit job s) (shallow : level s ≤ 64) where
+module _ (job : List ℕ) (s : Reader) (some : 1 ≤ s .height) (f : ReaderFits job s) (shallow : level s ≤ 64) where
   pub room : s .height ≤ 64
   room = omega (arith, f .stairs .high (s .height - 1) (omega arith))
 
@@ -238,19 +238,19 @@ module _ (job : List ℕ) (s : Scan) (some : 1 ≤ s .height) (f : Fit job s) (s
   two-stairs v e =
       stairs-push v (rw (length-set (s .due) (s .height - 1) v) (omega (arith, f .long, room))) (omega (arith, f .stairs .high (s .height - 1) (omega arith))) (omega arith) (one-stair v e)
 
-  advance-stairs : {t : Sort} (node : Node t) → Stairs (advanced s (kindOf node) .due) (advanced s (kindOf node) .height)
-  unfolding advanced kindOf pushed popped
+  advance-stairs : {t : Sort} (node : Node t) → Stairs (advanced s (kindByte node) .due) (advanced s (kindByte node) .height)
+  unfolding advanced kindByte duePushed popped
   advance-stairs (VALP z) = rest-stairs
-  advance-stairs ADDP = two-stairs (below s) (omega arith)
-  advance-stairs ATOMIC = one-stair (below s + 128) (omega arith)
-  advance-stairs FORK = one-stair (below s) (omega arith)
+  advance-stairs ADDP = two-stairs (partDepth s) (omega arith)
+  advance-stairs ATOMIC = one-stair (partDepth s + 128) (omega arith)
+  advance-stairs FORK = one-stair (partDepth s) (omega arith)
   advance-stairs (VALT z) = rest-stairs
-  advance-stairs ADDT = two-stairs (below s + 128) (omega arith)
+  advance-stairs ADDT = two-stairs (partDepth s + 128) (omega arith)
   advance-stairs (READ v) = rest-stairs
-  advance-stairs (WRITE v) = one-stair (below s + 128) (omega arith)
+  advance-stairs (WRITE v) = one-stair (partDepth s + 128) (omega arith)
 
-  advance-long : {t : Sort} (node : Node t) → length (advanced s (kindOf node) .due) ≡ 65
-  unfolding advanced kindOf pushed popped
+  advance-long : {t : Sort} (node : Node t) → length (advanced s (kindByte node) .due) ≡ 65
+  unfolding advanced kindByte duePushed popped
   advance-long (VALP z) = f .long
   advance-long ADDP = simp length-set (f .long)
   advance-long ATOMIC = simp length-set (f .long)
@@ -263,27 +263,27 @@ module _ (job : List ℕ) (s : Scan) (some : 1 ≤ s .height) (f : Fit job s) (s
 -- ---- the answers
 
 -- the node that is due on top
-abbrev pub due-node : (job : List ℕ) (s : Scan) → Outcome (Node (part (getD (s .due) (s .height - 1) 0) .sort))
-due-node job s = nodeAt (part (getD (s .due) (s .height - 1) 0)) (s .forks) (s .place) (drop (s .place) job)
+abbrev pub due-node : (job : List ℕ) (s : Reader) → Outcome (Node (heldPart (getD (s .due) (s .height - 1) 0) .sort))
+due-node job s = nodeAt (heldPart (getD (s .due) (s .height - 1) 0)) (s .forks) (s .place) (drop (s .place) job)
 
 -- a node that passed its tests
-record Passed {t : Sort} (n f : ℕ) (bs : List ℕ) (node : Node t) : Type 0 where
+record PassedTests {t : Sort} (n f : ℕ) (bs : List ℕ) (node : Node t) : Type 0 where
   flat : n ≤ 64
   few : f + forkOf node ≤ 15
   fits : length (nodeBytes node) ≤ length bs
 
-passed : (t : Sort) (n f p : ℕ) (bs : List ℕ) (node : Node t) → Bytes bs → f ≤ 15 → nodeAt (record { sort = t; depth = n }) f p bs ≡ done node → Passed n f bs node
+passed : (t : Sort) (n f p : ℕ) (bs : List ℕ) (node : Node t) → Bytes bs → f ≤ 15 → nodeAt (record { sort = t; depth = n }) f p bs ≡ done node → PassedTests n f bs node
 passed t n f p bs node b l e = let w = seen n f p t bs b l in go (w .outcome) (w .sees) (sym (node-sees (w .sees)) ∙ e)
   where
-    go : (o : Outcome (Node t)) → Sees n f p bs o → o ≡ done node → Passed n f bs node
+    go : (o : Outcome (Node t)) → Sees n f p bs o → o ≡ done node → PassedTests n f bs node
     go (refused k q) sees e = absurd (let z : _≡_ {A = ℕ} 0 1 = cc in omega arith)
     go (done _) (good node′ rest v h g text) e =
         subst
-        (Passed n f bs)
+        (PassedTests n f bs)
         (cc)
         (record { flat = h; few = g; fits = rw (text, length-append (nodeBytes node′) rest) (omega arith) })
 
-comes-on : (version before left forks place : ℕ) (d : Due) (ds : List Due) (bs : List ℕ) (node : Node (d .sort)) → nodeAt d forks place bs ≡ done node → comes version before (suc left) forks place (d ∷ ds) bs ≡ comes version (before + codeOf (kindOf node)) left (forks + forkOf node) (place + length (nodeBytes node)) (partsThen node (d .depth) ds) (drop (length (nodeBytes node)) bs)
+comes-on : (version before left forks place : ℕ) (d : Due) (ds : List Due) (bs : List ℕ) (node : Node (d .sort)) → nodeAt d forks place bs ≡ done node → comes version before (suc left) forks place (d ∷ ds) bs ≡ comes version (before + codeOfKind (kindByte node)) left (forks + forkOf node) (place + length (nodeBytes node)) (partsThen node (d .depth) ds) (drop (length (nodeBytes node)) bs)
 unfolding comes readNodes
 comes-on version before left forks place d ds bs node e =
     rw e (told-grown version before node (d .depth) ds (readNodes left (partsThen node (d .depth) ds) (forks + forkOf node) (place + length (nodeBytes node)) (drop (length (nodeBytes node)) bs)))
@@ -312,11 +312,11 @@ none-due : (a : List ℕ) (n : ℕ) → n ≡ 0 → dueOf a n ≡ []
 unfolding dueOf
 none-due a n e = rw e
 
-found-kind : {t : Sort} (o : Outcome (Node t)) (kind : ℕ) → found o ≡ Kind kind → (node : Node t) × (o ≡ done node) × (kindOf node ≡ kind)
+found-kind : {t : Sort} (o : Outcome (Node t)) (kind : ℕ) → tested o ≡ Kind kind → (node : Node t) × (o ≡ done node) × (kindByte node ≡ kind)
 found-kind (refused n p) kind e = absurd (let z : _≡_ {A = ℕ} 0 1 = cc in omega arith)
 found-kind (done node) kind e = (node, refl, cc)
 
-found-refused : {t : Sort} (o : Outcome (Node t)) (number at′ : ℕ) → found o ≡ Refused number at′ → o ≡ refused number at′
+found-refused : {t : Sort} (o : Outcome (Node t)) (number at′ : ℕ) → tested o ≡ Refused number at′ → o ≡ refused number at′
 found-refused (refused n p) number at′ e = cc
 found-refused (done node) number at′ e = absurd (let z : _≡_ {A = ℕ} 0 1 = cc in omega arith)
 
@@ -324,7 +324,7 @@ neither : (a b : Bool) → (a || b) ≡ false → (a ≡ false) × (b ≡ false)
 neither true b e = absurd (let z : _≡_ {A = ℕ} 0 1 = cc in omega arith)
 neither false b e = (refl, e)
 
-module _ (job : List ℕ) (version count : ℕ) (s : Scan) (b : Bytes job) (inv : Inv job version count s) where
+module _ (job : List ℕ) (version count : ℕ) (s : Reader) (b : Bytes job) (inv : ReaderInv job version count s) where
   -- the answer of the whole job
   abbrev final : Reading
   final = answer (whole version (readNodes count root 0 7 (drop 7 job)))
@@ -360,7 +360,7 @@ module _ (job : List ℕ) (version count : ℕ) (s : Scan) (b : Bytes job) (inv 
   -- a node is due
   module _ (some : 1 ≤ s .height) where
     abbrev top : Due
-    top = part (getD (s .due) (s .height - 1) 0)
+    top = heldPart (getD (s .due) (s .height - 1) 0)
 
     abbrev others : List Due
     others = dueOf (s .due) (s .height - 1)
@@ -370,26 +370,26 @@ module _ (job : List ℕ) (version count : ℕ) (s : Scan) (b : Bytes job) (inv 
         let d : dueOf (s .due) (s .height) ≡ top ∷ others = top-due (s .due) (s .height) some in
         cc (still, comes-used version (s .code) (s .forks) (s .place) top others (drop (s .place) job))
 
-    pub node-refused : 1 ≤ s .left → (number at′ : ℕ) → found (due-node job s) ≡ Refused number at′ → reading.Refused number at′ ≡ final
+    pub node-refused : 1 ≤ s .left → (number at′ : ℕ) → tested (due-node job s) ≡ Refused number at′ → reading.Refused number at′ ≡ final
     node-refused l number at′ e =
         let d : dueOf (s .due) (s .height) ≡ top ∷ others = top-due (s .due) (s .height) some in
         let n : s .left ≡ suc (s .left - 1) = omega arith in
         cc (still, comes-refused version (s .code) (s .left - 1) (s .forks) (s .place) top others (drop (s .place) job) number at′ (found-refused (due-node job s) number at′ e))
 
-    facts : (node : Node (top .sort)) → due-node job s ≡ done node → Passed (level s) (s .forks) (drop (s .place) job) node
-    unfolding part
+    facts : (node : Node (top .sort)) → due-node job s ≡ done node → PassedTests (level s) (s .forks) (drop (s .place) job) node
+    unfolding heldPart
     facts node e = passed (top .sort) (level s) (s .forks) (s .place) (drop (s .place) job) node (bytes-drop (s .place) b) (inv .fit .few) e
 
-    follows : 1 ≤ s .left → (node : Node (top .sort)) → due-node job s ≡ done node → level s ≤ 64 → Counts s node (advanced s (kindOf node)) → ahead version job (advanced s (kindOf node)) ≡ final
-    unfolding ahead part
+    follows : 1 ≤ s .left → (node : Node (top .sort)) → due-node job s ≡ done node → level s ≤ 64 → CountsRead s node (advanced s (kindByte node)) → ahead version job (advanced s (kindByte node)) ≡ final
+    unfolding ahead heldPart
     follows l node o flat c =
         let d : dueOf (s .due) (s .height) ≡ top ∷ others = top-due (s .due) (s .height) some in
         let n : s .left ≡ suc (s .left - 1) = omega arith in
         let a = advance-due s some (room job s some (inv .fit) flat) (inv .fit .long) flat node in
-        let t : drop (advanced s (kindOf node) .place) job ≡ drop (length (nodeBytes node)) (drop (s .place) job) = ap (λ (q : ℕ). drop q job) (c .place) ∙ sym (drop-drop (length (nodeBytes node)) (s .place) job) in
+        let t : drop (advanced s (kindByte node) .place) job ≡ drop (length (nodeBytes node)) (drop (s .place) job) = ap (λ (q : ℕ). drop q job) (c .place) ∙ sym (drop-drop (length (nodeBytes node)) (s .place) job) in
         cc (still, comes-on version (s .code) (s .left - 1) (s .forks) (s .place) top others (drop (s .place) job) node o)
 
-    pub node-ready : length job < 18446744073709551616 → 1 ≤ s .left → (kind : ℕ) → found (due-node job s) ≡ Kind kind → Ready s kind
+    pub node-ready : length job < 18446744073709551616 → 1 ≤ s .left → (kind : ℕ) → tested (due-node job s) ≡ Kind kind → CanAdvance s kind
     node-ready small l kind e =
         let k = found-kind (due-node job s) kind e in
         let p = facts (k .0) (k .1) in
@@ -403,13 +403,13 @@ module _ (job : List ℕ) (version count : ℕ) (s : Scan) (b : Bytes job) (inv 
           short = omega (arith, inv .fit .short);
         }
 
-    pub node-read : 1 ≤ s .left → (kind : ℕ) → found (due-node job s) ≡ Kind kind → Inv job version count (advanced s kind)
+    pub node-read : 1 ≤ s .left → (kind : ℕ) → tested (due-node job s) ≡ Kind kind → ReaderInv job version count (advanced s kind)
     node-read l kind e =
         let k = found-kind (due-node job s) kind e in
         let p = facts (k .0) (k .1) in
-        subst (λ (n : ℕ). Inv job version count (advanced s n)) (k .2) (read (k .0) (k .1) p (advance-counts s (k .0)))
+        subst (λ (n : ℕ). ReaderInv job version count (advanced s n)) (k .2) (read (k .0) (k .1) p (advance-counts s (k .0)))
       where
-        read : (node : Node (top .sort)) → due-node job s ≡ done node → Passed (level s) (s .forks) (drop (s .place) job) node → Counts s node (advanced s (kindOf node)) → Inv job version count (advanced s (kindOf node))
+        read : (node : Node (top .sort)) → due-node job s ≡ done node → PassedTests (level s) (s .forks) (drop (s .place) job) node → CountsRead s node (advanced s (kindByte node)) → ReaderInv job version count (advanced s (kindByte node))
         read node o p c =
             record {
               fit = record {

@@ -1,3 +1,3 @@
 -- What the contracts of `job` cite.
 pub mod Answer
-pub mod Scan
+pub mod InnerScan

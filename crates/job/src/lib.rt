@@ -1,13 +1,13 @@
 // The job reader: which bytes are a job, and what is refused with which number at which place.
-ghost use Prim.Native.Nat.{_*_, _+_, _<_, _≤_};
+ghost use Prim.Native.Nat.{_+_, _<_, _≤_};
 ghost use lib.Dec.{eqb, leb, ltb};
 ghost use lib.ListN.{drop, length};
 ghost use mathlib.Core.Bool.{_&&_, _||_};
 ghost use mathlib.Core.Path.{_≡_};
 ghost use Rattle.job.specs.Answer.{answer};
-ghost use Rattle.job.specs.Scan.{Ready, advanced, codeOf, found, pushed, sortOf, started};
-ghost use Rattle.script.specs.Reader.{nodeAt, readJob, readNodes, root, whole};
-ghost use Rattle.script.specs.Reader.{operand as size, permitted as may};
+ghost use Rattle.job.specs.InnerScan.{CanAdvance, advanced, codeOfKind, tested, duePushed, sortOf, rootDue};
+ghost use Rattle.script.specs.Jobs.{root, operand as size};
+ghost use Rattle.script.specs.Reader.{nodeAt, readJob, readNodes, whole, permitted as may};
 
 // What reading a job comes to.
 pub enum Reading {
@@ -18,13 +18,13 @@ pub enum Reading {
 }
 
 // What stands where a node is due: its kind, or why it is refused and where.
-enum Found {
+enum Tested {
     Kind(u8),
     Refused(u8, usize),
 }
 
 // How far the reader has come. A part that is due is held as the depth of its node, and 128 more for a transaction.
-struct Scan {
+struct Reader {
     due: [u8; 65],
     height: usize,
     left: usize,
@@ -57,7 +57,7 @@ fn operand(kind: u8) -> usize
 
 // How many bytes of code a node of this kind adds.
 fn code_bytes(kind: u8) -> usize
-    ensures { λ r. ⌜ r ≡ codeOf kind ⌝ }
+    ensures { λ r. ⌜ r ≡ codeOfKind kind ⌝ }
 {
     match kind {
         1 | 5 => 5,
@@ -68,46 +68,46 @@ fn code_bytes(kind: u8) -> usize
 }
 
 // The tests of a node that is due, in document 01's order.
-fn node(job: &[u8], place: usize, transaction: bool, depth: u8, forks: u8) -> Found
-    ensures { λ r. ⌜ r ≡ found (nodeAt (record { sort = sortOf transaction; depth = depth }) forks place (drop place (now (job .entry)))) ⌝ }
+fn node(job: &[u8], place: usize, transaction: bool, depth: u8, forks: u8) -> Tested
+    ensures { λ r. ⌜ r ≡ tested (nodeAt (record { sort = sortOf transaction; depth = depth }) forks place (drop place (now (job .entry)))) ⌝ }
 {
     let length = job.len();
     if place >= length {
-        return Found::Refused(1, place);
+        return Tested::Refused(1, place);
     }
     let kind = job[place];
     if !permitted(kind, transaction) {
-        return Found::Refused(5, place);
+        return Tested::Refused(5, place);
     }
     if depth > 64 {
-        return Found::Refused(7, place);
+        return Tested::Refused(7, place);
     }
     let size = operand(kind);
     if length - place - 1 < size {
-        return Found::Refused(1, length);
+        return Tested::Refused(1, length);
     }
     if size == 1 {
         if job[place + 1] >= 64 {
-            return Found::Refused(6, place + 1);
+            return Tested::Refused(6, place + 1);
         }
-        return Found::Kind(kind);
+        return Tested::Kind(kind);
     }
     if kind == 4 {
         if forks >= 15 {
-            return Found::Refused(8, place);
+            return Tested::Refused(8, place);
         }
     }
-    Found::Kind(kind)
+    Tested::Kind(kind)
 }
 
-impl Scan {
+impl Reader {
     // The root is due, at depth 1, behind the header of 7 bytes; its code has a header of 5.
-    fn start(count: usize) -> Scan
-        ensures { λ r. ⌜ r ≡ started count ⌝ }
+    fn start(count: usize) -> Reader
+        ensures { λ r. ⌜ r ≡ rootDue count ⌝ }
     {
         let mut due = [0u8; 65];
         due[0] = 1;
-        Scan {
+        Reader {
             due,
             height: 1,
             left: count,
@@ -118,9 +118,9 @@ impl Scan {
     }
 
     // One part of a node becomes due.
-    fn push(mut self, part: u8) -> Scan
+    fn push(mut self, part: u8) -> Reader
         requires { ⌜ self .height < 65 ⌝ }
-        ensures { λ r. ⌜ r ≡ pushed self part ⌝ }
+        ensures { λ r. ⌜ r ≡ duePushed self part ⌝ }
     {
         let height = self.height;
         self.due[height] = part;
@@ -129,8 +129,8 @@ impl Scan {
     }
 
     // The node on top is read, and its parts become due.
-    fn advance(mut self, kind: u8) -> Scan
-        requires { ⌜ Ready self kind ⌝ }
+    fn advance(mut self, kind: u8) -> Reader
+        requires { ⌜ CanAdvance self kind ⌝ }
         ensures { λ r. ⌜ r ≡ advanced self kind ⌝ }
     {
         let top = self.height - 1;
@@ -172,7 +172,7 @@ fn nodes(job: &[u8], version: u16, count: usize) -> Reading
     requires { ⌜ (7 ≤ length (now job)) × (count ≤ 1000) ⌝ }
     ensures { λ r. ⌜ r ≡ answer (whole version (readNodes count root 0 7 (drop 7 (now (job .entry))))) ⌝ }
 {
-    let mut s = Scan::start(count);
+    let mut s = Reader::start(count);
     while s.height > 0 {
         let place = s.place;
         if s.left == 0 {
@@ -182,10 +182,10 @@ fn nodes(job: &[u8], version: u16, count: usize) -> Reading
         let part = s.due[top];
         let found = node(job, place, part >= 128, part % 128, s.forks);
         match found {
-            Found::Kind(kind) => {
+            Tested::Kind(kind) => {
                 s = s.advance(kind);
             }
-            Found::Refused(number, at) => {
+            Tested::Refused(number, at) => {
                 return Reading::Refused(number, at);
             }
         }
@@ -206,7 +206,7 @@ pub fn read_job(job: &[u8]) -> Reading
     if length < 7 {
         return Reading::Refused(1, length);
     }
-    if !marked(job[0], job[1], job[2]) {
+    if !is_job_mark(job[0], job[1], job[2]) {
         return Reading::Refused(2, 0);
     }
     let version = word::number16(job[3], job[4]);
@@ -231,7 +231,7 @@ fn counted(count: u16) -> bool
 }
 
 // Whether the first three bytes are the mark `WSJ`.
-fn marked(a: u8, b: u8, c: u8) -> bool
+fn is_job_mark(a: u8, b: u8, c: u8) -> bool
     ensures { λ r. ⌜ r ≡ eqb a 0x57 && (eqb b 0x53 && eqb c 0x4A) ⌝ }
 {
     if a != 0x57 {

@@ -10,9 +10,9 @@ use lib.Dec.{ltb}
 use lib.ListN.{length, getD, set}
 use Rattle.code.specs.Compile.{Instruction, Code, ε, _⨾_, compileP}
 use Rattle.code.specs.Bytes.{IsCode}
-use Rattle.code.specs.Reader.{Op}
+use Rattle.code.specs.Ops.{Op}
 use Rattle.code.specs.Reader as code
-use Rattle.script.specs.Reader.{Job}
+use Rattle.script.specs.Jobs.{Job}
 use Rattle.script.specs.Turns.{Registers}
 use Rattle.script.specs.Soup.{Same}
 use Rattle.script.proofs.Same.{cut, picks-at, same-refl, same-sym, same-trans, take-both, same-left}

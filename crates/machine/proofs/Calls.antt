@@ -28,7 +28,7 @@ use Rattle.code.proofs.Foreign.{only-foreign, foreign-exactly}
 use Rattle.code.proofs.ReadBack.{code-read, read-is-code}
 use Rattle.script.specs.Bytes.{Bytes}
 use Rattle.script.specs.Outcome.{Outcome, refused, done, refuse, onward, mapped}
-use Rattle.script.specs.Reader.{Job}
+use Rattle.script.specs.Jobs.{Job}
 use Rattle.script.proofs.Accepts.{both, passed}
 use Rattle.word.specs.Sum.{wrapping}
 

@@ -12,8 +12,8 @@ use lib.ListN.{length, getD, set}
 use lib.Signed.{ltZ}
 use Rattle.code.specs.Compile.{Instruction, Code, PUSH, ADD, READ, WRITE, BEGIN, COMMIT, FORK, ε, _⨾_}
 use Rattle.code.specs.Bytes.{instructionsBytes}
-use Rattle.code.specs.Reader.{Op}
-use Rattle.code.specs.Reader as code
+use Rattle.code.specs.Ops.{Op}
+use Rattle.code.specs.Ops as code
 use Rattle.thread.specs.declared.Thread.{Thread}
 use Rattle.thread.specs.Threads.{zeros, spawned, push, add, begin, below, sourceOf, readFrom, noted, read, write, closed, stale, firstStale, overlaid, logOf, readLog, writeLog}
 use Rattle.stm.specs.Events.{Source, fromWrites, fromReads, fromTable, committed, sentBack}
@@ -21,12 +21,11 @@ use Rattle.machine.specs.Steps.{State, Stepped, numberOf, committing, co
 use Rattle.machine.specs.Fits.{nextPlace, TypedThread}
 use Rattle.machine.specs.Source.{Log, empty, updated, SThread, Looked, lookedUp, lookUp, agrees, consistent, entered, overridden, StepM, ForkM, PushM, AddM, BeginM, ReadM, WriteM, Committed, Failed}
 use Rattle.script.specs.Turns.{Registers}
-use Rattle.machine.specs.Soup.{Carries, ruleOf, named}
+use Rattle.machine.specs.Soup.{Carries, ruleOf, named, First}
 use Rattle.machine.specs.InnerStands.{opOf}
 use Rattle.machine.specs.Stands.{ValuedI, ValuedC, stackFrom}
 use Rattle.machine.proofs.Codes.{stands-next, stands-child}
 use Rattle.machine.proofs.Showings.{stack-suc, stack-push, stack-add, stack-closed, log-none, log-with}
-use Rattle.machine.specs.Soup.{First}
 use Rattle.word.specs.Registers.{member, with}
 use Rattle.word.specs.Sum.{Rule}
 

@@ -8,7 +8,7 @@ use lib.Seq.{drop-at}
 use Rattle.code.specs.Compile.{Instruction, Code, PUSH, ADD, READ, WRITE, BEGIN, COMMIT, FORK, ε, _⨾_, compileT, compileP}
 use Rattle.code.specs.Bytes.{instructionBytes, instructionsBytes, codeMark, codeBytes, compiled, IsCode}
 use Rattle.code.specs.Counts.{RunsIn, Takes, heightAfter}
-use Rattle.code.specs.Reader.{opAt}
+use Rattle.code.specs.Ops.{opAt}
 use Rattle.code.proofs.Ops.{opBytes, ValuedO, op-reads}
 use Rattle.code.proofs.Flat.{flatP, flat-proc, flat-lengthP}
 use Rattle.code.proofs.Heights.{runs-in-64}
@@ -16,7 +16,7 @@ use Rattle.code.proofs.ReadBack.{code-small}
 use Rattle.script.specs.Tree.{Tran, ValT, AddT, Read, Write, Proc, ValP, AddP, Atomic, Fork}
 use Rattle.script.specs.Count.{nodesP, codeP}
 use Rattle.script.specs.Limits.{ValuedT, ValuedP}
-use Rattle.script.specs.Reader.{Job}
+use Rattle.script.specs.Jobs.{Job}
 use Rattle.script.specs.Bytes.{bytes16, bytes32}
 use Rattle.script.specs.Outcome.{done}
 use Rattle.machine.specs.Fits.{nextPlace}

@@ -13,8 +13,8 @@ use Rattle.thread.specs.declared.Thread.{Thread}
 use Rattle.thread.specs.Threads.{exists, sourceOf, stale, firstStale}
 use Rattle.machine.specs.Steps.{State, Stepped, threadAt, committing, commit, act, settle, doing, pickAmong, FirstStale, FoundIn, in-writes, in-reads, in-table}
 use Rattle.machine.proofs.Picks.{no-record, missing-idle, ended-idle, busy}
-use Rattle.code.specs.Reader.{Op, opAt}
-use Rattle.code.specs.Reader as code
+use Rattle.code.specs.Ops.{Op, opAt}
+use Rattle.code.specs.Ops as code
 use Rattle.script.specs.Outcome.{Outcome, refused, done}
 use Rattle.stm.specs.Events.{Source, fromWrites, fromReads, fromTable, Event, idle, pushed, summed, forked, begun, looked, wrote, committed, sentBack}
 use Rattle.word.specs.Registers.{member}

@@ -7,7 +7,7 @@ use native.Mathlib.Omega.{arith}
 use lib.ListN.{length, getD, replicate}
 use Rattle.code.specs.Compile.{ε, compileP}
 use Rattle.code.specs.Bytes.{IsCode}
-use Rattle.script.specs.Reader.{Job}
+use Rattle.script.specs.Jobs.{Job}
 use Rattle.thread.specs.declared.Thread.{Thread}
 use Rattle.thread.specs.Threads.{blank, spawned, exists}
 use Rattle.machine.specs.Steps.{threadAt, fresh, Child}

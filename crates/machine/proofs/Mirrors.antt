@@ -11,7 +11,7 @@ use lib.IntN.{ℤ}
 use lib.ListN.{length, drop, getD, set, length-set, length-append, List·getD-eq-default}
 use lib.Seq.{getD-set-same, getD-set-other, set-getD, getD-append-seam}
 use Rattle.code.specs.Compile.{Instruction, Code, ε, _⨾_}
-use Rattle.code.specs.Reader.{opAt}
+use Rattle.code.specs.Ops.{opAt}
 use Rattle.script.specs.Outcome.{done}
 use Rattle.thread.specs.declared.Thread.{Thread}
 use Rattle.thread.specs.Threads.{blank, spawned, exists}

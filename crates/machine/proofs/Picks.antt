@@ -13,8 +13,8 @@ use Rattle.thread.specs.declared.Thread.{Thread}
 use Rattle.thread.specs.Threads.{exists}
 use Rattle.machine.specs.Steps.{State, Acted, committing, commit, act, Stepped, numberOf, threadAt, settle, doing, pickAmong, pick, Ran, run}
 use Rattle.stm.specs.Events.{idle, isIdle, isCommit, Counts, more, tally, countsOf}
-use Rattle.code.specs.Reader.{Op, opAt}
-use Rattle.code.specs.Reader as code
+use Rattle.code.specs.Ops.{Op, opAt}
+use Rattle.code.specs.Ops as code
 use Rattle.script.specs.Outcome.{Outcome, refused, done}
 use Rattle.word.specs.Sum.{Rule}
 

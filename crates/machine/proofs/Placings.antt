@@ -14,8 +14,8 @@ use Rattle.thread.specs.declared.Thread.{Thread}
 use Rattle.thread.specs.Threads.{zeros, spawned, push, add, begin, below, sourceOf, readFrom, noted, read, write, closed}
 use Rattle.stm.specs.Events.{Source, fromWrites, fromReads, fromTable}
 use Rattle.machine.specs.Fits.{Walked, unmoved, undone, walkOp, nextPlace, Walks, starts, passes, Placed, TypedThread}
-use Rattle.code.specs.Reader.{Op, opAt}
-use Rattle.code.specs.Reader as code
+use Rattle.code.specs.Ops.{Op, opAt}
+use Rattle.code.specs.Ops as code
 use Rattle.script.specs.Outcome.{done}
 use Rattle.word.specs.Registers.{member, with}
 use Rattle.word.specs.Sum.{Rule}

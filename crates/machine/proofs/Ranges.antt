@@ -13,7 +13,7 @@ use Rattle.code.specs.Bytes.{instructionsBytes, IsCode}
 use Rattle.code.proofs.Flat.{code-length}
 use Rattle.code.proofs.ReadBack.{code-small}
 use Rattle.script.specs.Count.{codeLength}
-use Rattle.script.specs.Reader.{Job}
+use Rattle.script.specs.Jobs.{Job}
 use Rattle.thread.specs.declared.Thread.{Thread}
 use Rattle.thread.specs.Threads.{blank, spawned, push, add, begin, below, sourceOf, readFrom, noted, read, write, closed, firstStale, overlaid, exists}
 use Rattle.machine.specs.Steps.{State, Stepped, numberOf, threadAt, instruction, pick, fresh, run, act, settle, committing, commit, seated, Acted, Child}

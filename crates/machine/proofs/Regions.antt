@@ -9,11 +9,11 @@ use lib.ListN.{length, drop, length-append}
 use Rattle.code.specs.Compile.{Instruction, Code, PUSH, ADD, READ, WRITE, BEGIN, COMMIT, FORK, ε, _⨾_, compileP}
 use Rattle.code.specs.Bytes.{instructionBytes, instructionsBytes, IsCode}
 use Rattle.code.specs.Counts.{heightAfter}
-use Rattle.code.specs.Reader.{Op, opAt}
-use Rattle.code.specs.Reader as code
+use Rattle.code.specs.Ops.{Op, opAt}
+use Rattle.code.specs.Ops as code
 use Rattle.script.specs.Bytes.{bytes16}
 use Rattle.script.specs.Outcome.{done}
-use Rattle.script.specs.Reader.{Job}
+use Rattle.script.specs.Jobs.{Job}
 use Rattle.machine.specs.Steps.{State, threadAt, Child}
 use Rattle.machine.specs.Fits.{Walked, walkOp, nextPlace, Walks, starts, passes, In, here, there, ownCode, Exists, Forked, Fits, Typed}
 use Rattle.machine.proofs.Walking.{not-before}

@@ -5,7 +5,7 @@ use mathlib.Core.List.{List}
 use native.Mathlib.Omega.{arith}
 use lib.ListN.{drop}
 use Rattle.code.specs.Compile.{Instruction, Code, PUSH, ADD, READ, WRITE, BEGIN, COMMIT, FORK, ε, _⨾_}
-use Rattle.code.specs.Reader.{Op, opAt}
+use Rattle.code.specs.Ops.{Op, opAt}
 use Rattle.script.specs.Outcome.{Outcome, done}
 use Rattle.machine.specs.Fits.{Walked, notes, shut, undone, walkOp, nextPlace, Walks, starts, passes}
 use Rattle.machine.proofs.Walking.{not-before}

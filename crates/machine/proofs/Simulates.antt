@@ -13,7 +13,7 @@ use lib.ListN.{length, getD, set}
 use Rattle.code.specs.Compile.{Instruction, Code, PUSH, ADD, READ, WRITE, BEGIN, COMMIT, FORK, _⨾_}
 use Rattle.code.specs.Bytes.{instructionsBytes}
 use Rattle.code.specs.Counts.{Takes}
-use Rattle.code.specs.Reader as code
+use Rattle.code.specs.Ops as code
 use Rattle.thread.specs.declared.Thread.{Thread}
 use Rattle.thread.specs.Threads.{zeros, spawned, push, add, begin, below, sourceOf, readFrom, noted, read, write, closed, firstStale, overlaid, logOf, readLog, writeLog}
 use Rattle.stm.specs.Events.{Source, fromWrites, fromReads, fromTable, summed, looked, sentBack, committed}

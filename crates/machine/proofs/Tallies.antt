@@ -10,7 +10,7 @@ use Rattle.machine.specs.InnerStands.{registerCells}
 use Rattle.machine.specs.InnerTally.{Progress, advanced, Tallied, turned, tallied}
 use Rattle.machine.proofs.Runs.{mirror, pick-keeps}
 use Rattle.machine.proofs.Agrees.{outer, step-fits}
-use Rattle.script.specs.Reader.{Job}
+use Rattle.script.specs.Jobs.{Job}
 use Rattle.stm.specs.Events.{Event, isFork, more, Counts, tally, countsOf, together, uncounted}
 use Rattle.stm.specs.InnerTasks.{System, did, next}
 use Rattle.stm.proofs.Sizes.{next-number}

@@ -10,8 +10,8 @@ use lib.Dec.{eqb, ltb}
 use lib.ListN.{drop}
 use Rattle.machine.specs.Fits.{Walked, unmoved, walkOp, nextPlace, Walks, starts, passes}
 use Rattle.machine.specs.FitTest.{goingOn, walk}
-use Rattle.code.specs.Reader.{Op, opAt}
-use Rattle.code.specs.Reader as code
+use Rattle.code.specs.Ops.{Op, opAt}
+use Rattle.code.specs.Ops as code
 use Rattle.script.specs.Outcome.{Outcome, refused, done}
 
 pub next-after : (op : Op) (q : ℕ) → q < nextPlace op q

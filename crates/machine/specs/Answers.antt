@@ -15,7 +15,7 @@ use Rattle.machine.specs.FitTest.{fits}
 use Rattle.code.specs.Bytes.{IsCode, Foreign}
 use Rattle.code.specs.Reader.{readCode}
 use Rattle.script.specs.Outcome.{Outcome, refused, done, refuse, onward}
-use Rattle.script.specs.Reader.{Job}
+use Rattle.script.specs.Jobs.{Job}
 use Rattle.word.specs.Sum.{Rule, wrapping}
 
 -- the rule for sums of a job's version

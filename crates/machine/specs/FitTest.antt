@@ -11,7 +11,7 @@ use Rattle.thread.specs.declared.Thread.{Thread}
 use Rattle.thread.specs.Threads.{exists}
 use Rattle.machine.specs.Steps.{State, threadAt, Child}
 use Rattle.machine.specs.Fits.{Walked, unmoved, walkOp, nextPlace, ownCode}
-use Rattle.code.specs.Reader.{Op, opAt}
+use Rattle.code.specs.Ops.{Op, opAt}
 use Rattle.script.specs.Outcome.{Outcome, refused, done}
 use Rattle.word.specs.Registers.{member}
 use Rattle.word.specs.Registers as registers

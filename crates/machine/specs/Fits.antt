@@ -8,8 +8,8 @@ use lib.ListN.{length, drop, getD}
 use Rattle.thread.specs.declared.Thread.{Thread}
 use Rattle.thread.specs.Threads.{blank, exists}
 use Rattle.machine.specs.Steps.{State, threadAt, Child}
-use Rattle.code.specs.Reader.{Op, opAt}
-use Rattle.code.specs.Reader as code
+use Rattle.code.specs.Ops.{Op, opAt}
+use Rattle.code.specs.Ops as code
 use Rattle.script.specs.Outcome.{done}
 use Rattle.word.specs.Registers.{none, member}
 use Rattle.word.specs.Sum.{InRange, Rule}

@@ -5,8 +5,8 @@ use lib.ListN.{length}
 use Rattle.code.specs.Compile.{Instruction, Code, PUSH, ADD, READ, WRITE, BEGIN, COMMIT, FORK}
 use Rattle.code.specs.Bytes.{instructionsBytes}
 use Rattle.code.specs.Counts.{RunsIn}
-use Rattle.code.specs.Reader.{Op}
-use Rattle.code.specs.Reader as code
+use Rattle.code.specs.Ops.{Op}
+use Rattle.code.specs.Ops as code
 use Rattle.machine.specs.Stands.{Stands, ValuedC}
 use Rattle.machine.specs.Steps.{State}
 use Rattle.stm.specs.InnerCells.{Cells, byValue}

@@ -6,7 +6,7 @@ use native.Mathlib.Omega.{arith}
 use lib.ListN.{getD}
 use borrow.Author.Tests.{lt-ltb, le-ltb, eq-eqb, ne-eqb}
 use Rattle.scan.specs.declared.Scan.{Scan}
-use Rattle.scan.specs.View.{bad, placed, setTo, kindAt, reachAt, addTo, writeTo, commitTo, joined, closeTo, opened, forkTo, finishTo}
+use Rattle.scan.specs.InnerView.{bad, itemPut, setTo, kindAt, reachAt, addTo, writeTo, commitTo, joined, closeTo, opened, forkTo, finishTo}
 
 module _ (s : Scan) (h k r : ℕ) (i : Bool) (n f z : ℕ) where
   pub set-deep : 64 < r → bad s ≡ setTo s h k r i n f z
@@ -21,7 +21,7 @@ module _ (s : Scan) (h k r : ℕ) (i : Bool) (n f z : ℕ) where
   unfolding setTo
   set-forks d m g = rw (le-ltb 64 r d, le-ltb 1000 (s .nodes + n) m, lt-ltb 15 (s .forks + f) g)
 
-  pub set-done : r ≤ 64 → s .nodes + n ≤ 1000 → s .forks + f ≤ 15 → placed s h k r i n f z ≡ setTo s h k r i n f z
+  pub set-done : r ≤ 64 → s .nodes + n ≤ 1000 → s .forks + f ≤ 15 → itemPut s h k r i n f z ≡ setTo s h k r i n f z
   unfolding setTo
   set-done d m g = rw (le-ltb 64 r d, le-ltb 1000 (s .nodes + n) m, le-ltb 15 (s .forks + f) g)
 

@@ -1,15 +1,14 @@
 -- A good scan stays within its arrays and its limits. Assumes nothing.
-use Prim.Native.Nat.{ℕ, zero, suc, _+_, _*_, _-_, _≤_, _<_, max}
+use Prim.Native.Nat.{ℕ, _+_, _*_, _-_, _≤_, _<_, max}
 use mathlib.Core.Path.{_≡_, refl, sym, ap, subst, _∙_}
 use mathlib.Core.Bool.{Bool, true, false, cond}
-use mathlib.Core.List.{List}
 use native.Mathlib.Decide.{decLt, ℕ-discrete}
 use native.Mathlib.Omega.{arith}
-use lib.ListN.{length, getD, set, length-set}
+use lib.ListN.{length-set}
 use Rattle.scan.specs.declared.Op.the-variants as op
 use Rattle.scan.specs.declared.Scan.{Scan}
-use Rattle.scan.specs.View.{Fit, bad, placed, setTo, topTo, kindAt, reachAt, addTo, writeTo, commitTo, joined, closeTo, movedTo, opened, forkTo, erase, stepTo}
-use Rattle.code.specs.Reader.{Op, push, add, read, write, begin, commit, fork, sizeOf}
+use Rattle.scan.specs.InnerView.{GoodScan, bad, itemPut, setTo, topTo, kindAt, reachAt, addTo, writeTo, commitTo, joined, closeTo, movedTo, opened, forkTo, erase, stepTo}
+use Rattle.code.specs.Ops.{Op, push, add, read, write, begin, commit, fork, sizeOf}
 use Rattle.scan.proofs.Branches.{add-low, add-part, add-other, add-done, write-low, write-outside, write-other, write-done, commit-low, commit-outside, commit-above, commit-below, commit-done, close-low, close-above, close-below, close-done, fork-bad, fork-done, when-true, when-false}
 use Rattle.scan.proofs.Steps.{set-good, top-place, add-place, write-place, commit-place, top-forked, top-forks}
 
@@ -24,8 +23,8 @@ never-good s e g =
     let z : _≡_ {A = ℕ} 0 1 = cc in
     omega arith
 
-placed-fit : (s : Scan) (h k r : ℕ) (i : Bool) (n f z : ℕ) → Fit s → h < 64 → s .nodes + n ≤ 1000 → s .forks + f ≤ 15 → z ≤ 5 * n → Fit (placed s h k r i n f z)
-unfolding placed
+placed-fit : (s : Scan) (h k r : ℕ) (i : Bool) (n f z : ℕ) → GoodScan s → h < 64 → s .nodes + n ≤ 1000 → s .forks + f ≤ 15 → z ≤ 5 * n → GoodScan (itemPut s h k r i n f z)
+unfolding itemPut
 placed-fit s h k r i n f z t l m q w =
     record {
       kinds = length-set (s .kinds) h k ∙ t .kinds;
@@ -39,68 +38,68 @@ placed-fit s h k r i n f z t l m q w =
       early = t .early;
     }
 
-set-fit : (s : Scan) (h k r : ℕ) (i : Bool) (n f z : ℕ) → Fit s → (r ≤ 64 → h < 64) → z ≤ 5 * n → setTo s h k r i n f z .good ≡ true → Fit (setTo s h k r i n f z)
+set-fit : (s : Scan) (h k r : ℕ) (i : Bool) (n f z : ℕ) → GoodScan s → (r ≤ 64 → h < 64) → z ≤ 5 * n → setTo s h k r i n f z .good ≡ true → GoodScan (setTo s h k r i n f z)
 set-fit s h k r i n f z t room w g =
     let p = set-good s h k r i n f z g in
-    subst Fit (sym (p .3)) (placed-fit s h k r i n f z t (room (p .0)) (p .1) (p .2) w)
+    subst GoodScan (sym (p .3)) (placed-fit s h k r i n f z t (room (p .0)) (p .1) (p .2) w)
 
-top-fit : (s : Scan) (k : ℕ) (i : Bool) (f z : ℕ) → Fit s → z ≤ 5 → topTo s k i f z .good ≡ true → Fit (topTo s k i f z)
+top-fit : (s : Scan) (k : ℕ) (i : Bool) (f z : ℕ) → GoodScan s → z ≤ 5 → topTo s k i f z .good ≡ true → GoodScan (topTo s k i f z)
 unfolding topTo
 top-fit s k i f z t w g = set-fit s (s .height) k (s .height + 1) i 1 f z t (λ l. omega arith) (omega arith) g
 
-module _ (s : Scan) (t : Fit s) where
-  add-fit : addTo s .good ≡ true → Fit (addTo s)
+module _ (s : Scan) (t : GoodScan s) where
+  add-fit : addTo s .good ≡ true → GoodScan (addTo s)
   add-fit g = height (decLt (s .height) 2)
     where
-      alike : 2 ≤ s .height → 2 ≤ kindAt s 2 → Dec (kindAt s 1 ≡ kindAt s 2) → Fit (addTo s)
+      alike : 2 ≤ s .height → 2 ≤ kindAt s 2 → Dec (kindAt s 1 ≡ kindAt s 2) → GoodScan (addTo s)
       alike h k (yes e) =
           let d = add-done s h k e in
-          subst Fit d (set-fit s (s .height - 2) (kindAt s 2) (max (reachAt s 2 + 1) (reachAt s 1)) (s .inside) 1 0 1 t (λ l. omega (arith, t .low)) (omega arith) (ap good-of d ∙ g))
+          subst GoodScan d (set-fit s (s .height - 2) (kindAt s 2) (max (reachAt s 2 + 1) (reachAt s 1)) (s .inside) 1 0 1 t (λ l. omega (arith, t .low)) (omega arith) (ap good-of d ∙ g))
       alike h k (no n) = absurd (never-good s (add-other s h k n) g)
 
-      parts : 2 ≤ s .height → Dec (kindAt s 2 < 2) → Fit (addTo s)
+      parts : 2 ≤ s .height → Dec (kindAt s 2 < 2) → GoodScan (addTo s)
       parts h (yes k) = absurd (never-good s (add-part s h k) g)
       parts h (no k) = alike h (omega arith) (ℕ-discrete (kindAt s 1) (kindAt s 2))
 
-      height : Dec (s .height < 2) → Fit (addTo s)
+      height : Dec (s .height < 2) → GoodScan (addTo s)
       height (yes h) = absurd (never-good s (add-low s h) g)
       height (no h) = parts (omega arith) (decLt (kindAt s 2) 2)
 
-  write-fit : writeTo s .good ≡ true → Fit (writeTo s)
+  write-fit : writeTo s .good ≡ true → GoodScan (writeTo s)
   write-fit g = height (decLt (s .height) 1)
     where
-      kind : 1 ≤ s .height → s .inside ≡ true → Dec (kindAt s 1 ≡ 3) → Fit (writeTo s)
+      kind : 1 ≤ s .height → s .inside ≡ true → Dec (kindAt s 1 ≡ 3) → GoodScan (writeTo s)
       kind h i (yes e) =
           let d = write-done s h i e in
-          subst Fit d (set-fit s (s .height - 1) 3 (reachAt s 1 + 1) true 1 0 2 t (λ l. omega (arith, t .low)) (omega arith) (ap good-of d ∙ g))
+          subst GoodScan d (set-fit s (s .height - 1) 3 (reachAt s 1 + 1) true 1 0 2 t (λ l. omega (arith, t .low)) (omega arith) (ap good-of d ∙ g))
       kind h i (no n) = absurd (never-good s (write-other s h i n) g)
 
-      inside : 1 ≤ s .height → (b : Bool) → s .inside ≡ b → Fit (writeTo s)
+      inside : 1 ≤ s .height → (b : Bool) → s .inside ≡ b → GoodScan (writeTo s)
       inside h true i = kind h i (ℕ-discrete (kindAt s 1) 3)
       inside h false i = absurd (never-good s (write-outside s h i) g)
 
-      height : Dec (s .height < 1) → Fit (writeTo s)
+      height : Dec (s .height < 1) → GoodScan (writeTo s)
       height (yes h) = absurd (never-good s (write-low s h) g)
       height (no h) = inside (omega arith) (s .inside) refl
 
-  commit-fit : commitTo s .good ≡ true → Fit (commitTo s)
+  commit-fit : commitTo s .good ≡ true → GoodScan (commitTo s)
   commit-fit g = height (decLt (s .height) 2)
     where
-      below : 2 ≤ s .height → s .inside ≡ true → kindAt s 1 ≡ 3 → Dec (kindAt s 2 ≡ 0) → Fit (commitTo s)
+      below : 2 ≤ s .height → s .inside ≡ true → kindAt s 1 ≡ 3 → Dec (kindAt s 2 ≡ 0) → GoodScan (commitTo s)
       below h i e (yes f) =
           let d = commit-done s h i e f in
-          subst Fit d (set-fit s (s .height - 2) 2 (reachAt s 1) false 0 0 0 t (λ l. omega (arith, t .low)) (omega arith) (ap good-of d ∙ g))
+          subst GoodScan d (set-fit s (s .height - 2) 2 (reachAt s 1) false 0 0 0 t (λ l. omega (arith, t .low)) (omega arith) (ap good-of d ∙ g))
       below h i e (no n) = absurd (never-good s (commit-below s h i e n) g)
 
-      above : 2 ≤ s .height → s .inside ≡ true → Dec (kindAt s 1 ≡ 3) → Fit (commitTo s)
+      above : 2 ≤ s .height → s .inside ≡ true → Dec (kindAt s 1 ≡ 3) → GoodScan (commitTo s)
       above h i (yes e) = below h i e (ℕ-discrete (kindAt s 2) 0)
       above h i (no n) = absurd (never-good s (commit-above s h i n) g)
 
-      inside : 2 ≤ s .height → (b : Bool) → s .inside ≡ b → Fit (commitTo s)
+      inside : 2 ≤ s .height → (b : Bool) → s .inside ≡ b → GoodScan (commitTo s)
       inside h true i = above h i (ℕ-discrete (kindAt s 1) 3)
       inside h false i = absurd (never-good s (commit-outside s h i) g)
 
-      height : Dec (s .height < 2) → Fit (commitTo s)
+      height : Dec (s .height < 2) → GoodScan (commitTo s)
       height (yes h) = absurd (never-good s (commit-low s h) g)
       height (no h) = inside (omega arith) (s .inside) refl
 
@@ -126,7 +125,7 @@ module _ (s : Scan) (t : Fit s) where
       height (yes h) = absurd (never-good s (close-low s h) g)
       height (no h) = above (omega arith) (ℕ-discrete (kindAt s 1) 2)
 
-  joined-fit : 2 ≤ s .height → Fit (joined s)
+  joined-fit : 2 ≤ s .height → GoodScan (joined s)
   unfolding joined
   joined-fit h =
       record {
@@ -141,10 +140,10 @@ module _ (s : Scan) (t : Fit s) where
         early = t .early;
       }
 
-  pub close-fit : closeTo s .good ≡ true → Fit (closeTo s)
-  close-fit g = let c = closing g in subst Fit (c .is) (joined-fit (c .high))
+  pub close-fit : closeTo s .good ≡ true → GoodScan (closeTo s)
+  close-fit g = let c = closing g in subst GoodScan (c .is) (joined-fit (c .high))
 
-moved-fit : (s : Scan) (size : ℕ) → Fit s → s .place + size ≤ 5005 → Fit (movedTo s size)
+moved-fit : (s : Scan) (size : ℕ) → GoodScan s → s .place + size ≤ 5005 → GoodScan (movedTo s size)
 unfolding movedTo
 moved-fit s size t l =
     record { kinds = t .kinds; reaches = t .reaches; ends = t .ends; low = t .low; some = t .some; few = t .few; noded = t .noded; sized = t .sized; early = l }
@@ -153,53 +152,53 @@ moved-good : (s : Scan) (size : ℕ) → movedTo s size .good ≡ true → s .go
 unfolding movedTo
 moved-good s size g = g
 
-opened-fit : (s : Scan) (n : ℕ) → Fit s → s .forked + 1 ≤ s .forks → s .place + 3 ≤ 5005 → Fit (opened s n)
+opened-fit : (s : Scan) (n : ℕ) → GoodScan s → s .forked + 1 ≤ s .forks → s .place + 3 ≤ 5005 → GoodScan (opened s n)
 unfolding opened
 opened-fit s n t q l =
     record { kinds = t .kinds; reaches = t .reaches; ends = length-set (s .ends) (s .forked) (s .place + 3 + n) ∙ t .ends; low = t .low; some = q; few = t .few; noded = t .noded; sized = t .sized; early = l }
 
 -- one instruction
-pub step-fit : (s : Scan) (o : Op) → Fit s → stepTo s (erase o) .good ≡ true → s .place + sizeOf o ≤ 5005 → Fit (stepTo s (erase o))
+pub step-fit : (s : Scan) (o : Op) → GoodScan s → stepTo s (erase o) .good ≡ true → s .place + sizeOf o ≤ 5005 → GoodScan (stepTo s (erase o))
 unfolding stepTo
 step-fit s (push n) t g l = go (s .inside) refl
   where
-    topped : (k : ℕ) (i : Bool) → movedTo (topTo s k i 0 5) 5 .good ≡ true → Fit (movedTo (topTo s k i 0 5) 5)
+    topped : (k : ℕ) (i : Bool) → movedTo (topTo s k i 0 5) 5 .good ≡ true → GoodScan (movedTo (topTo s k i 0 5) 5)
     topped k i h = moved-fit (topTo s k i 0 5) 5 (top-fit s k i 0 5 t (omega arith) (moved-good (topTo s k i 0 5) 5 h)) (omega (arith, top-place s k i 0 5))
 
-    go : (b : Bool) → s .inside ≡ b → Fit (cond (s .inside) (movedTo (topTo s 3 true 0 5) 5) (movedTo (topTo s 2 false 0 5) 5))
-    go true i = let d = when-true (s .inside) (movedTo (topTo s 3 true 0 5) 5) (movedTo (topTo s 2 false 0 5) 5) i in subst Fit d (topped 3 true (ap good-of d ∙ g))
-    go false i = let d = when-false (s .inside) (movedTo (topTo s 3 true 0 5) 5) (movedTo (topTo s 2 false 0 5) 5) i in subst Fit d (topped 2 false (ap good-of d ∙ g))
+    go : (b : Bool) → s .inside ≡ b → GoodScan (cond (s .inside) (movedTo (topTo s 3 true 0 5) 5) (movedTo (topTo s 2 false 0 5) 5))
+    go true i = let d = when-true (s .inside) (movedTo (topTo s 3 true 0 5) 5) (movedTo (topTo s 2 false 0 5) 5) i in subst GoodScan d (topped 3 true (ap good-of d ∙ g))
+    go false i = let d = when-false (s .inside) (movedTo (topTo s 3 true 0 5) 5) (movedTo (topTo s 2 false 0 5) 5) i in subst GoodScan d (topped 2 false (ap good-of d ∙ g))
 step-fit s add t g l = moved-fit (addTo s) 1 (add-fit s t (moved-good (addTo s) 1 g)) (omega (arith, add-place s))
 step-fit s (read v) t g l = go (s .inside) refl
   where
-    go : (b : Bool) → s .inside ≡ b → Fit (cond (s .inside) (movedTo (topTo s 3 true 0 2) 2) (bad s))
+    go : (b : Bool) → s .inside ≡ b → GoodScan (cond (s .inside) (movedTo (topTo s 3 true 0 2) 2) (bad s))
     go true i =
         let d = when-true (s .inside) (movedTo (topTo s 3 true 0 2) 2) (bad s) i in
-        subst Fit d (moved-fit (topTo s 3 true 0 2) 2 (top-fit s 3 true 0 2 t (omega arith) (moved-good (topTo s 3 true 0 2) 2 (ap good-of d ∙ g))) (omega (arith, top-place s 3 true 0 2)))
+        subst GoodScan d (moved-fit (topTo s 3 true 0 2) 2 (top-fit s 3 true 0 2 t (omega arith) (moved-good (topTo s 3 true 0 2) 2 (ap good-of d ∙ g))) (omega (arith, top-place s 3 true 0 2)))
     go false i = absurd (never-good s (when-false (s .inside) (movedTo (topTo s 3 true 0 2) 2) (bad s) i) g)
 step-fit s (write v) t g l = moved-fit (writeTo s) 2 (write-fit s t (moved-good (writeTo s) 2 g)) (omega (arith, write-place s))
 step-fit s begin t g l = go (s .inside) refl
   where
-    go : (b : Bool) → s .inside ≡ b → Fit (cond (s .inside) (bad s) (movedTo (topTo s 0 true 0 1) 1))
+    go : (b : Bool) → s .inside ≡ b → GoodScan (cond (s .inside) (bad s) (movedTo (topTo s 0 true 0 1) 1))
     go true i = absurd (never-good s (when-true (s .inside) (bad s) (movedTo (topTo s 0 true 0 1) 1) i) g)
     go false i =
         let d = when-false (s .inside) (bad s) (movedTo (topTo s 0 true 0 1) 1) i in
-        subst Fit d (moved-fit (topTo s 0 true 0 1) 1 (top-fit s 0 true 0 1 t (omega arith) (moved-good (topTo s 0 true 0 1) 1 (ap good-of d ∙ g))) (omega (arith, top-place s 0 true 0 1)))
+        subst GoodScan d (moved-fit (topTo s 0 true 0 1) 1 (top-fit s 0 true 0 1 t (omega arith) (moved-good (topTo s 0 true 0 1) 1 (ap good-of d ∙ g))) (omega (arith, top-place s 0 true 0 1)))
 step-fit s commit t g l = moved-fit (commitTo s) 1 (commit-fit s t (moved-good (commitTo s) 1 g)) (omega (arith, commit-place s))
 step-fit s (fork n) t g l = go (s .inside) refl
   where
     u : Scan
     u = topTo s 1 false 1 1
 
-    opens : (b : Bool) → u .good ≡ b → forkTo u n .good ≡ true → Fit (forkTo u n)
+    opens : (b : Bool) → u .good ≡ b → forkTo u n .good ≡ true → GoodScan (forkTo u n)
     opens true h k =
         let f = top-fit s 1 false 1 1 t (omega arith) h in
-        subst Fit (fork-done u n h) (opened-fit u n f (omega (arith, top-forked s 1 false 1 1 h, top-forks s 1 false 1 1 h, t .some)) (omega (arith, top-place s 1 false 1 1)))
+        subst GoodScan (fork-done u n h) (opened-fit u n f (omega (arith, top-forked s 1 false 1 1 h, top-forks s 1 false 1 1 h, t .some)) (omega (arith, top-place s 1 false 1 1)))
     opens false h k = absurd (let e : false ≡ true = sym h ∙ (ap good-of (fork-bad u n h) ∙ k) in let z : _≡_ {A = ℕ} 0 1 = cc in omega arith)
 
-    go : (b : Bool) → s .inside ≡ b → Fit (cond (s .inside) (bad s) (forkTo u n))
+    go : (b : Bool) → s .inside ≡ b → GoodScan (cond (s .inside) (bad s) (forkTo u n))
     go true i = absurd (never-good s (when-true (s .inside) (bad s) (forkTo u n) i) g)
-    go false i = let d = when-false (s .inside) (bad s) (forkTo u n) i in subst Fit d (opens (u .good) refl (ap good-of d ∙ g))
+    go false i = let d = when-false (s .inside) (bad s) (forkTo u n) i in subst GoodScan d (opens (u .good) refl (ap good-of d ∙ g))
 
 pub foreign-bad : (s : Scan) → stepTo s op.Foreign .good ≡ true → ⊥
 unfolding stepTo

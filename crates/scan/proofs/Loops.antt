@@ -11,18 +11,18 @@ use lib.Seq.{drop-drop}
 use borrow.Author.Tests.{eq-eqb, ne-eqb, eqb-false}
 use Rattle.scan.specs.declared.Op.{Op as Instruction}
 use Rattle.scan.specs.declared.Scan.{Scan}
-use Rattle.scan.specs.View.{marksOf, endsOf, view, ifGood, viewed, Fit, started, joined, closeTo, erase, erased, Small, stepTo, finishTo, kindAt, reachAt, Settled}
-use Rattle.code.specs.Reader.{foreign, Op, push, add, read, write, begin, commit, fork, opAt, sizeOf}
-use Rattle.code.specs.Scan.{Mark, twoTop, oneTop, scanOp, moved, closes, finished, scanOps}
-use Rattle.code.specs.Scan as list
+use Rattle.scan.specs.InnerView.{stackOf, endsOf, view, ifGood, viewed, GoodScan, emptyScan, joined, closeTo, erase, erased, ShortFork, stepTo, finishTo, kindAt, reachAt, Settled}
+use Rattle.code.specs.Ops.{foreign, Op, push, add, read, write, begin, commit, fork, opAt, sizeOf}
+use Rattle.code.specs.InnerScan.{ScanItem, twoTop, oneTop, scanOp, movedPast, closes, finished, scanOps}
+use Rattle.code.specs.InnerScan as list
 use Rattle.code.proofs.Ops.{opBytes, ValuedO, op-length, op-reads, Sees, good, bad, seen}
 use Rattle.code.proofs.Foreign.{Eleven, op-eleven}
 use Rattle.script.proofs.Numbers.{bytes-drop}
 use Rattle.script.specs.Bytes.{Bytes}
 use Rattle.script.specs.Outcome.{Outcome, refused, done, refuse, onward, mapped}
-use Rattle.scan.proofs.Branches.{close-low, close-above, close-below, close-done, finish-open, finish-more, finish-other, finish-done}
-use Rattle.scan.proofs.Views.{bad-viewed, good-viewed, marks-push, marks-one, marks-length, two-top, two-low, one-top, one-low, at-index, both-bad, fails, passes, both-true, left-false, right-false, step-viewed}
-use Rattle.scan.proofs.Fits.{good-of, Closing, closing, close-fit, step-fit, step-place, foreign-bad}
+use Rattle.scan.proofs.Branches.{close-done, finish-open, finish-more, finish-other, finish-done}
+use Rattle.scan.proofs.Views.{good-viewed, stack-push, stack-length, two-top, two-low, one-top, one-low, at-index, both-bad, fails, passes, both-true, left-false, right-false, step-viewed}
+use Rattle.scan.proofs.Fits.{good-of, closing, step-fit, step-place, foreign-bad}
 
 -- ---- the children that end at a place
 
@@ -36,15 +36,15 @@ unfolding endsOf
 ends-none e n h = rw h
 
 -- the scan with other ends
-abbrev with-ends : Scan → List ℕ → list.Scan
+abbrev with-ends : Scan → List ℕ → list.ListScan
 with-ends s es =
-    record { marks = marksOf (s .kinds) (s .reaches) (s .height); inside = s .inside; ends = es; place = s .place; nodes = s .nodes; forks = s .forks; size = s .size }
+    record { stack = stackOf (s .kinds) (s .reaches) (s .height); inside = s .inside; ends = es; place = s .place; nodes = s .nodes; forks = s .forks; size = s .size }
 
 -- what is still to be closed
-unfoldable pub remaining : Scan → Outcome list.Scan
+unfoldable pub remaining : Scan → Outcome list.ListScan
 remaining s = closes (endsOf (s .ends) (s .forked)) (view s)
 
-module _ (s : Scan) (g : s .good ≡ true) (fit : Fit s) where
+module _ (s : Scan) (g : s .good ≡ true) (fit : GoodScan s) where
   -- none is open
   pub none-open : s .forked ≡ 0 → viewed s ≡ remaining s
   unfolding remaining closes
@@ -70,15 +70,15 @@ module _ (s : Scan) (g : s .good ≡ true) (fit : Fit s) where
         let c : closes (last ∷ others) (view s) ≡ done (with-ends s (last ∷ others)) = rw (t, closes) in
         good-viewed s g ∙ (ap (λ (es : List ℕ). done (with-ends s es)) ends-are ∙ (sym c ∙ ap (λ (es : List ℕ). closes es (view s)) (sym ends-are)))
 
-    abbrev of-close : Mark → Mark → List Mark → Outcome list.Scan
+    abbrev of-close : ScanItem → ScanItem → List ScanItem → Outcome list.ListScan
     of-close p f below =
-        refuse (not (eqb (p .kind) 2 && eqb (f .kind) 1)) 11 0 (closes others (record { marks = record { kind = 2; reach = p .reach } ∷ below; inside = s .inside; ends = others; place = s .place; nodes = s .nodes; forks = s .forks; size = s .size }))
+        refuse (not (eqb (p .kind) 2 && eqb (f .kind) 1)) 11 0 (closes others (record { stack = record { kind = 2; reach = p .reach } ∷ below; inside = s .inside; ends = others; place = s .place; nodes = s .nodes; forks = s .forks; size = s .size }))
 
-    closes-here : last ≡ s .place → remaining s ≡ twoTop (view s) (marksOf (s .kinds) (s .reaches) (s .height)) of-close
+    closes-here : last ≡ s .place → remaining s ≡ twoTop (view s) (stackOf (s .kinds) (s .reaches) (s .height)) of-close
     unfolding remaining closes
     closes-here e =
         let t : eqb (s .place) last ≡ true = eq-eqb (s .place) last (sym e) in
-        let c : closes (last ∷ others) (view s) ≡ twoTop (view s) (marksOf (s .kinds) (s .reaches) (s .height)) of-close = rw (t, closes) in
+        let c : closes (last ∷ others) (view s) ≡ twoTop (view s) (stackOf (s .kinds) (s .reaches) (s .height)) of-close = rw (t, closes) in
         ap (λ (es : List ℕ). closes es (view s)) ends-are ∙ c
 
     -- it ends here, and the code is foreign
@@ -86,15 +86,15 @@ module _ (s : Scan) (g : s .good ≡ true) (fit : Fit s) where
     unfolding joined
     close-bad e b = ap (λ (t : Bool). ifGood t (view (closeTo s))) b ∙ (sym (height (decLt (s .height) 2)) ∙ sym (closes-here e))
       where
-        below : (h : 2 ≤ s .height) → kindAt s 1 ≡ 2 → Dec (kindAt s 2 ≡ 1) → twoTop (view s) (marksOf (s .kinds) (s .reaches) (s .height)) of-close ≡ foreign
+        below : (h : 2 ≤ s .height) → kindAt s 1 ≡ 2 → Dec (kindAt s 2 ≡ 1) → twoTop (view s) (stackOf (s .kinds) (s .reaches) (s .height)) of-close ≡ foreign
         below h k (yes f) = absurd (let t : true ≡ false = sym g ∙ (ap good-of (close-done s h k f) ∙ b) in let z : _≡_ {A = ℕ} 0 1 = cc in omega arith)
         below h k (no n) = two-top s g fit of-close h ∙ fails _ (right-false (eqb (kindAt s 1) 2) (ne-eqb (kindAt s 2) 1 n))
 
-        above : 2 ≤ s .height → Dec (kindAt s 1 ≡ 2) → twoTop (view s) (marksOf (s .kinds) (s .reaches) (s .height)) of-close ≡ foreign
+        above : 2 ≤ s .height → Dec (kindAt s 1 ≡ 2) → twoTop (view s) (stackOf (s .kinds) (s .reaches) (s .height)) of-close ≡ foreign
         above h (yes e) = below h e (ℕ-discrete (kindAt s 2) 1)
         above h (no n) = two-top s g fit of-close h ∙ fails _ (left-false (eqb (kindAt s 2) 1) (ne-eqb (kindAt s 1) 2 n))
 
-        height : Dec (s .height < 2) → twoTop (view s) (marksOf (s .kinds) (s .reaches) (s .height)) of-close ≡ foreign
+        height : Dec (s .height < 2) → twoTop (view s) (stackOf (s .kinds) (s .reaches) (s .height)) of-close ≡ foreign
         height (yes h) = two-low s g fit of-close h
         height (no h) = above (omega arith) (ℕ-discrete (kindAt s 1) 2)
 
@@ -104,8 +104,8 @@ module _ (s : Scan) (g : s .good ≡ true) (fit : Fit s) where
     close-good e b =
         let c = closing s fit b in
         let l : s .height - 1 ≡ s .height - 2 + 1 = omega (arith, c .high) in
-        let m : marksOf (set (s .kinds) (s .height - 2) 2) (set (s .reaches) (s .height - 2) (reachAt s 1)) (s .height - 1) ≡ record { kind = 2; reach = reachAt s 1 } ∷ marksOf (s .kinds) (s .reaches) (s .height - 2) = ap (λ (n : ℕ). marksOf (set (s .kinds) (s .height - 2) 2) (set (s .reaches) (s .height - 2) (reachAt s 1)) n) l ∙ marks-push (s .kinds) (s .reaches) (s .height - 2) 2 (reachAt s 1) (omega (arith, fit .kinds, fit .low, c .high)) (omega (arith, fit .reaches, fit .low, c .high)) in
-        ap remaining (sym (c .is)) ∙ (ap (λ (n : List Mark). closes others (record { marks = n; inside = s .inside; ends = others; place = s .place; nodes = s .nodes; forks = s .forks; size = s .size })) m ∙ (sym (passes (both-true (eq-eqb (kindAt s 1) 2 (c .above)) (eq-eqb (kindAt s 2) 1 (c .below)))) ∙ (sym (two-top s g fit of-close (c .high)) ∙ sym (closes-here e))))
+        let m : stackOf (set (s .kinds) (s .height - 2) 2) (set (s .reaches) (s .height - 2) (reachAt s 1)) (s .height - 1) ≡ record { kind = 2; reach = reachAt s 1 } ∷ stackOf (s .kinds) (s .reaches) (s .height - 2) = ap (λ (n : ℕ). stackOf (set (s .kinds) (s .height - 2) 2) (set (s .reaches) (s .height - 2) (reachAt s 1)) n) l ∙ stack-push (s .kinds) (s .reaches) (s .height - 2) 2 (reachAt s 1) (omega (arith, fit .kinds, fit .low, c .high)) (omega (arith, fit .reaches, fit .low, c .high)) in
+        ap remaining (sym (c .is)) ∙ (ap (λ (n : List ScanItem). closes others (record { stack = n; inside = s .inside; ends = others; place = s .place; nodes = s .nodes; forks = s .forks; size = s .size })) m ∙ (sym (passes (both-true (eq-eqb (kindAt s 1) 2 (c .above)) (eq-eqb (kindAt s 2) 1 (c .below)))) ∙ (sym (two-top s g fit of-close (c .high)) ∙ sym (closes-here e))))
 
     pub one-less : closeTo s .good ≡ true → closeTo s .forked ≡ s .forked - 1
     unfolding joined
@@ -116,47 +116,47 @@ module _ (s : Scan) (g : s .good ≡ true) (fit : Fit s) where
 
 -- what holds at the head of the loop that closes
 pub record Closes (s₀ s : Scan) : Type 0 where
-  pub fit : Fit s
+  pub fit : GoodScan s
   pub good : s .good ≡ true
   pub same : remaining s ≡ remaining s₀
   pub place : s .place ≡ s₀ .place
 
 -- ---- the end of the code
 
-abbrev of-finish : Scan → Mark → List Mark → Outcome list.Scan
+abbrev of-finish : Scan → ScanItem → List ScanItem → Outcome list.ListScan
 of-finish s p below = refuse (not (eqb (p .kind) 2 && eqb (length below) 0)) 11 0 (done (view s))
 
 finished-open : (s : Scan) → 1 ≤ s .forked → finished (view s) ≡ foreign
 unfolding finished
 finished-open s h = rw (ends-one (s .ends) (s .forked) h)
 
-finished-none : (s : Scan) → s .forked ≡ 0 → finished (view s) ≡ oneTop (view s) (marksOf (s .kinds) (s .reaches) (s .height)) (of-finish s)
+finished-none : (s : Scan) → s .forked ≡ 0 → finished (view s) ≡ oneTop (view s) (stackOf (s .kinds) (s .reaches) (s .height)) (of-finish s)
 unfolding finished
 finished-none s h = go (endsOf (s .ends) (s .forked)) (ends-none (s .ends) (s .forked) h)
   where
-    go : (es : List ℕ) → es ≡ [] → (elim es as (λ (x : List ℕ). Outcome list.Scan) [ [] ↦ oneTop (view s) (marksOf (s .kinds) (s .reaches) (s .height)) (of-finish s) | end ∷ ends ↦ foreign ]) ≡ oneTop (view s) (marksOf (s .kinds) (s .reaches) (s .height)) (of-finish s)
+    go : (es : List ℕ) → es ≡ [] → (elim es as (λ (x : List ℕ). Outcome list.ListScan) [ [] ↦ oneTop (view s) (stackOf (s .kinds) (s .reaches) (s .height)) (of-finish s) | end ∷ ends ↦ foreign ]) ≡ oneTop (view s) (stackOf (s .kinds) (s .reaches) (s .height)) (of-finish s)
     go [] e = refl
     go (x ∷ es) e = absurd (let z : _≡_ {A = ℕ} 0 1 = cc in omega arith)
 
-pub finish-viewed : (s : Scan) → s .good ≡ true → Fit s → viewed (finishTo s) ≡ finished (view s)
+pub finish-viewed : (s : Scan) → s .good ≡ true → GoodScan s → viewed (finishTo s) ≡ finished (view s)
 finish-viewed s g fit = opens (ℕ-discrete (s .forked) 0)
   where
-    kind : s .forked ≡ 0 → s .height ≡ 1 → Dec (getD (s .kinds) 0 0 ≡ 2) → viewed (finishTo s) ≡ of-finish s (at-index (s .kinds) (s .reaches) (s .height - 1)) (marksOf (s .kinds) (s .reaches) (s .height - 1))
+    kind : s .forked ≡ 0 → s .height ≡ 1 → Dec (getD (s .kinds) 0 0 ≡ 2) → viewed (finishTo s) ≡ of-finish s (at-index (s .kinds) (s .reaches) (s .height - 1)) (stackOf (s .kinds) (s .reaches) (s .height - 1))
     kind e h (yes k) =
         let i : s .height - 1 ≡ 0 = omega arith in
         let k′ : getD (s .kinds) (s .height - 1) 0 ≡ 2 = ap (λ (n : ℕ). getD (s .kinds) n 0) i ∙ k in
-        ap viewed (sym (finish-done s e h k)) ∙ (good-viewed s g ∙ sym (passes (both-true (eq-eqb (getD (s .kinds) (s .height - 1) 0) 2 k′) (eq-eqb (length (marksOf (s .kinds) (s .reaches) (s .height - 1))) 0 (marks-length (s .kinds) (s .reaches) (s .height - 1) ∙ i)))))
+        ap viewed (sym (finish-done s e h k)) ∙ (good-viewed s g ∙ sym (passes (both-true (eq-eqb (getD (s .kinds) (s .height - 1) 0) 2 k′) (eq-eqb (length (stackOf (s .kinds) (s .reaches) (s .height - 1))) 0 (stack-length (s .kinds) (s .reaches) (s .height - 1) ∙ i)))))
     kind e h (no n) =
         let i : s .height - 1 ≡ 0 = omega arith in
-        both-bad s g fit (finish-other s e h n) (fails (done (view s)) (left-false (eqb (length (marksOf (s .kinds) (s .reaches) (s .height - 1))) 0) (ne-eqb (getD (s .kinds) (s .height - 1) 0) 2 (λ k. n (ap (λ (m : ℕ). getD (s .kinds) m 0) (sym i) ∙ k)))))
+        both-bad s g fit (finish-other s e h n) (fails (done (view s)) (left-false (eqb (length (stackOf (s .kinds) (s .reaches) (s .height - 1))) 0) (ne-eqb (getD (s .kinds) (s .height - 1) 0) 2 (λ k. n (ap (λ (m : ℕ). getD (s .kinds) m 0) (sym i) ∙ k)))))
 
-    more : s .forked ≡ 0 → (s .height ≡ 1 → ⊥) → Dec (s .height < 1) → viewed (finishTo s) ≡ oneTop (view s) (marksOf (s .kinds) (s .reaches) (s .height)) (of-finish s)
+    more : s .forked ≡ 0 → (s .height ≡ 1 → ⊥) → Dec (s .height < 1) → viewed (finishTo s) ≡ oneTop (view s) (stackOf (s .kinds) (s .reaches) (s .height)) (of-finish s)
     more e n (yes h) = both-bad s g fit (finish-more s e n) (one-low s g fit (of-finish s) h)
     more e n (no h) =
         let h′ : 1 ≤ s .height = omega arith in
-        both-bad s g fit (finish-more s e n) (one-top s g fit (of-finish s) h′ ∙ fails (done (view s)) (right-false (eqb (getD (s .kinds) (s .height - 1) 0) 2) (ne-eqb (length (marksOf (s .kinds) (s .reaches) (s .height - 1))) 0 (omega (arith, marks-length (s .kinds) (s .reaches) (s .height - 1))))))
+        both-bad s g fit (finish-more s e n) (one-top s g fit (of-finish s) h′ ∙ fails (done (view s)) (right-false (eqb (getD (s .kinds) (s .height - 1) 0) 2) (ne-eqb (length (stackOf (s .kinds) (s .reaches) (s .height - 1))) 0 (omega (arith, stack-length (s .kinds) (s .reaches) (s .height - 1))))))
 
-    height : s .forked ≡ 0 → Dec (s .height ≡ 1) → viewed (finishTo s) ≡ oneTop (view s) (marksOf (s .kinds) (s .reaches) (s .height)) (of-finish s)
+    height : s .forked ≡ 0 → Dec (s .height ≡ 1) → viewed (finishTo s) ≡ oneTop (view s) (stackOf (s .kinds) (s .reaches) (s .height)) (of-finish s)
     height e (yes h) = kind e h (ℕ-discrete (getD (s .kinds) 0 0) 2) ∙ sym (one-top s g fit (of-finish s) (omega arith))
     height e (no n) = more e n (decLt (s .height) 1)
 
@@ -180,28 +180,28 @@ onward-mapped f (refused n p) k = refl
 onward-mapped f (done a) k = refl
 
 -- no instruction is refused but as foreign
-op-foreign : (bs : List ℕ) (n p : ℕ) → opAt bs ≡ refused n p → _≡_ {A = Outcome list.Scan} foreign (refused n p)
+op-foreign : (bs : List ℕ) (n p : ℕ) → opAt bs ≡ refused n p → _≡_ {A = Outcome list.ListScan} foreign (refused n p)
 op-foreign bs n p e = let h = subst Eleven e (op-eleven bs) in sym (ap₂ refused (h .0) (h .1))
 
 -- what comes of the code once the children that end here are closed
-abbrev behind : ℕ → List ℕ → list.Scan → Outcome list.Scan
+abbrev behind : ℕ → List ℕ → list.ListScan → Outcome list.ListScan
 behind fuel bs now =
     elim (eqb (length bs) 0) [
       | true ↦ finished now
-      | false ↦ onward (opAt bs) (λ op. onward (scanOp op now) (λ next. scanOps fuel (moved op next) (drop (sizeOf op) bs)))
+      | false ↦ onward (opAt bs) (λ op. onward (scanOp op now) (λ next. scanOps fuel (movedPast op next) (drop (sizeOf op) bs)))
     ]
 
-pub scan-fuel : (f k : ℕ) (v : list.Scan) (bs : List ℕ) → length bs < f → length bs < k → scanOps f v bs ≡ scanOps k v bs
+pub scan-fuel : (f k : ℕ) (v : list.ListScan) (bs : List ℕ) → length bs < f → length bs < k → scanOps f v bs ≡ scanOps k v bs
 unfolding scanOps
 scan-fuel zero k v bs p q = absurd (omega arith)
 scan-fuel (suc f) zero v bs p q = absurd (omega arith)
 scan-fuel (suc f) (suc k) v bs p q = ap (onward (closes (v .ends) v)) (fun-ext (λ now. go now (eqb (length bs) 0) refl (λ w cs a b. scan-fuel f k w cs a b)))
   where
-    go : (now : list.Scan) (b : Bool) → eqb (length bs) 0 ≡ b → ((w : list.Scan) (cs : List ℕ) → length cs < f → length cs < k → scanOps f w cs ≡ scanOps k w cs) → behind f bs now ≡ behind k bs now
+    go : (now : list.ListScan) (b : Bool) → eqb (length bs) 0 ≡ b → ((w : list.ListScan) (cs : List ℕ) → length cs < f → length cs < k → scanOps f w cs ≡ scanOps k w cs) → behind f bs now ≡ behind k bs now
     go now true e ih = rw (e, behind)
     go now false e ih =
         let some : length bs ≡ 0 → ⊥ = eqb-false (length bs) 0 e in
-        rw (e, behind) (ap (onward (opAt bs)) (fun-ext (λ op. ap (onward (scanOp op now)) (fun-ext (λ next. ih (moved op next) (drop (sizeOf op) bs) (rw (length-drop (sizeOf op) bs) (omega (arith, size-some op))) (rw (length-drop (sizeOf op) bs) (omega (arith, size-some op))))))))
+        rw (e, behind) (ap (onward (opAt bs)) (fun-ext (λ op. ap (onward (scanOp op now)) (fun-ext (λ next. ih (movedPast op next) (drop (sizeOf op) bs) (rw (length-drop (sizeOf op) bs) (omega (arith, size-some op))) (rw (length-drop (sizeOf op) bs) (omega (arith, size-some op))))))))
 
 -- ---- the instructions
 
@@ -217,18 +217,18 @@ op-fits bs b o e = go (seen bs b)
     go (bad f) = absurd (let z : _≡_ {A = ℕ} 0 1 = cc in omega arith)
 
 -- what the scan still comes to
-unfoldable pub ahead : List ℕ → list.Scan → Outcome list.Scan
+unfoldable pub ahead : List ℕ → list.ListScan → Outcome list.ListScan
 ahead bs v = scanOps (suc (length bs)) v bs
 
 -- what holds at the loop's head
 pub record Loop (code : List ℕ) (s : Scan) : Type 0 where
-  pub fit : Fit s
+  pub fit : GoodScan s
   pub good : s .good ≡ true
   pub within : s .place ≤ length code
-  pub same : ahead (drop (s .place) code) (view s) ≡ ahead (drop 5 code) list.started
+  pub same : ahead (drop (s .place) code) (view s) ≡ ahead (drop 5 code) list.scanStart
 
-pub loop-start : (code : List ℕ) → 5 ≤ length code → Loop code started
-unfolding started list.started endsOf marksOf
+pub loop-start : (code : List ℕ) → 5 ≤ length code → Loop code emptyScan
+unfolding emptyScan list.scanStart endsOf stackOf
 loop-start code h =
     record {
       fit = record { kinds = refl; reaches = refl; ends = refl; low = omega arith; some = omega arith; few = omega arith; noded = omega arith; sized = omega arith; early = omega arith };
@@ -241,25 +241,25 @@ module _ (code : List ℕ) (bytes : Bytes code) (small : length code ≤ 5005) (
   abbrev bs : List ℕ
   bs = drop (s .place) code
 
-  abbrev final : Outcome list.Scan
-  final = ahead (drop 5 code) list.started
+  abbrev final : Outcome list.ListScan
+  final = ahead (drop 5 code) list.scanStart
 
   settled : onward (viewed r) (behind (length bs) bs) ≡ final
   unfolding ahead scanOps
-  settled = ap (λ (o : Outcome list.Scan). onward o (behind (length bs) bs)) (done-s .same) ∙ loop .same
+  settled = ap (λ (o : Outcome list.ListScan). onward o (behind (length bs) bs)) (done-s .same) ∙ loop .same
 
   -- the code is foreign where a child ends
   pub settle-bad : r .good ≡ false → viewed r ≡ final
   settle-bad b =
       let v : viewed r ≡ foreign = ap (λ (t : Bool). ifGood t (view r)) b in
-      v ∙ (ap (λ (o : Outcome list.Scan). onward o (behind (length bs) bs)) (sym v) ∙ settled)
+      v ∙ (ap (λ (o : Outcome list.ListScan). onward o (behind (length bs) bs)) (sym v) ∙ settled)
 
   module _ (g : r .good ≡ true) where
-    fit-r : Fit r
+    fit-r : GoodScan r
     fit-r = done-s .fit g
 
     behind-is : behind (length bs) bs (view r) ≡ final
-    behind-is = ap (λ (o : Outcome list.Scan). onward o (behind (length bs) bs)) (sym (good-viewed r g)) ∙ settled
+    behind-is = ap (λ (o : Outcome list.ListScan). onward o (behind (length bs) bs)) (sym (good-viewed r g)) ∙ settled
 
     -- the code ends
     pub at-end : length code ≤ r .place → viewed (finishTo r) ≡ final
@@ -273,9 +273,9 @@ module _ (code : List ℕ) (bytes : Bytes code) (small : length code ≤ 5005) (
       some : length bs ≡ 0 → ⊥
       some e = omega (arith, length-drop (s .place) code, done-s .place)
 
-      opens : onward (opAt bs) (λ op. onward (scanOp op (view r)) (λ next. scanOps (length bs) (moved op next) (drop (sizeOf op) bs))) ≡ final
+      opens : onward (opAt bs) (λ op. onward (scanOp op (view r)) (λ next. scanOps (length bs) (movedPast op next) (drop (sizeOf op) bs))) ≡ final
       opens =
-          let b : behind (length bs) bs (view r) ≡ onward (opAt bs) (λ op. onward (scanOp op (view r)) (λ next. scanOps (length bs) (moved op next) (drop (sizeOf op) bs))) = rw (ne-eqb (length bs) 0 some, behind) in
+          let b : behind (length bs) bs (view r) ≡ onward (opAt bs) (λ op. onward (scanOp op (view r)) (λ next. scanOps (length bs) (movedPast op next) (drop (sizeOf op) bs))) = rw (ne-eqb (length bs) 0 some, behind) in
           sym b ∙ behind-is
 
       same-bytes : drop (r .place) code ≡ bs
@@ -284,9 +284,9 @@ module _ (code : List ℕ) (bytes : Bytes code) (small : length code ≤ 5005) (
       -- what comes of an instruction that is there
       one-op : (o : Op) → opAt bs ≡ done o → onward (viewed (stepTo r (erase o))) (λ v. scanOps (length bs) v (drop (sizeOf o) bs)) ≡ final
       one-op o e =
-          ap (λ (x : Outcome list.Scan). onward x (λ v. scanOps (length bs) v (drop (sizeOf o) bs))) (step-viewed r g fit-r o)
-          ∙ (onward-mapped (moved o) (scanOp o (view r)) (λ v. scanOps (length bs) v (drop (sizeOf o) bs))
-          ∙ (ap (λ (x : Outcome Op). onward x (λ op. onward (scanOp op (view r)) (λ next. scanOps (length bs) (moved op next) (drop (sizeOf op) bs)))) (sym e) ∙ opens))
+          ap (λ (x : Outcome list.ListScan). onward x (λ v. scanOps (length bs) v (drop (sizeOf o) bs))) (step-viewed r g fit-r o)
+          ∙ (onward-mapped (movedPast o) (scanOp o (view r)) (λ v. scanOps (length bs) v (drop (sizeOf o) bs))
+          ∙ (ap (λ (x : Outcome Op). onward x (λ op. onward (scanOp op (view r)) (λ next. scanOps (length bs) (movedPast op next) (drop (sizeOf op) bs)))) (sym e) ∙ opens))
 
       -- the code is foreign there
       pub step-bad : (i : Instruction) → i ≡ erased (opAt (drop (r .place) code)) → stepTo r i .good ≡ false → viewed (stepTo r i) ≡ final
@@ -301,11 +301,11 @@ module _ (code : List ℕ) (bytes : Bytes code) (small : length code ≤ 5005) (
           go : (o : Outcome Op) → opAt bs ≡ o → viewed (stepTo r i) ≡ final
           go (refused n p) a =
               let f = op-foreign bs n p a in
-              v ∙ (f ∙ (ap (λ (x : Outcome Op). onward x (λ op. onward (scanOp op (view r)) (λ next. scanOps (length bs) (moved op next) (drop (sizeOf op) bs)))) (sym a) ∙ opens))
+              v ∙ (f ∙ (ap (λ (x : Outcome Op). onward x (λ op. onward (scanOp op (view r)) (λ next. scanOps (length bs) (movedPast op next) (drop (sizeOf op) bs)))) (sym a) ∙ opens))
           go (done o) a =
               let k : i ≡ erase o = e′ ∙ ap erased a in
               let w : viewed (stepTo r (erase o)) ≡ foreign = subst (λ (j : Instruction). viewed (stepTo r j) ≡ foreign) k v in
-              v ∙ (ap (λ (x : Outcome list.Scan). onward x (λ u. scanOps (length bs) u (drop (sizeOf o) bs))) (sym w) ∙ one-op o a)
+              v ∙ (ap (λ (x : Outcome list.ListScan). onward x (λ u. scanOps (length bs) u (drop (sizeOf o) bs))) (sym w) ∙ one-op o a)
 
       goes-on : (o : Op) → opAt bs ≡ done o → stepTo r (erase o) .good ≡ true → Loop code (stepTo r (erase o))
       unfolding ahead
@@ -316,7 +316,7 @@ module _ (code : List ℕ) (bytes : Bytes code) (small : length code ≤ 5005) (
           let l : length bs ≡ length code - s .place = length-drop (s .place) code in
           let at-s : r .place ≡ s .place = done-s .place in
           let t : drop (u .place) code ≡ drop (sizeOf o) bs = ap (λ (n : ℕ). drop n code) (place ∙ ap (λ (n : ℕ). n + sizeOf o) at-s) ∙ sym (drop-drop (sizeOf o) (s .place) code) in
-          let m : scanOps (length bs) (view u) (drop (sizeOf o) bs) ≡ final = ap (λ (x : Outcome list.Scan). onward x (λ v. scanOps (length bs) v (drop (sizeOf o) bs))) (sym (good-viewed u b)) ∙ one-op o a in
+          let m : scanOps (length bs) (view u) (drop (sizeOf o) bs) ≡ final = ap (λ (x : Outcome list.ListScan). onward x (λ v. scanOps (length bs) v (drop (sizeOf o) bs))) (sym (good-viewed u b)) ∙ one-op o a in
           let d : length (drop (sizeOf o) bs) ≡ length bs - sizeOf o = length-drop (sizeOf o) bs in
           record {
             fit = step-fit r o fit-r b (omega arith);
@@ -349,10 +349,10 @@ module _ (code : List ℕ) (bytes : Bytes code) (small : length code ≤ 5005) (
               subst (λ (j : Instruction). s .place < stepTo r j .place) (sym k) (omega (arith, step-place r o (subst (λ (j : Instruction). stepTo r j .good ≡ true) k b), size-some o, done-s .place))
 
 -- a FORK's length is one of 16 bits
-pub op-small : (bs : List ℕ) → Bytes bs → Small (erased (opAt bs))
+pub op-small : (bs : List ℕ) → Bytes bs → ShortFork (erased (opAt bs))
 op-small bs b = go (seen bs b)
   where
-    small : (o : Op) → ValuedO o → Small (erase o)
+    small : (o : Op) → ValuedO o → ShortFork (erase o)
     small (push n) v = tt
     small add v = tt
     small (read r) v = tt
@@ -361,6 +361,6 @@ op-small bs b = go (seen bs b)
     small commit v = tt
     small (fork n) v = omega arith
 
-    go : Sees bs → Small (erased (opAt bs))
+    go : Sees bs → ShortFork (erased (opAt bs))
     go (good op rest v t) = rw (t, op-reads op rest v) (small op v)
     go (bad f) = rw f tt

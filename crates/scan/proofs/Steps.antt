@@ -10,7 +10,7 @@ use Rattle.scan.specs.declared.Op.{Op}
 use Rattle.scan.specs.declared.Op.the-variants as op
 use Rattle.scan.specs.declared.Scan.{Scan}
 use Rattle.scan.proofs.Branches.{when-true, when-false}
-use Rattle.scan.specs.View.{bad, placed, setTo, topTo, kindAt, reachAt, addTo, writeTo, commitTo, joined, closeTo, movedTo, forkTo, stepTo}
+use Rattle.scan.specs.InnerView.{bad, itemPut, setTo, topTo, kindAt, reachAt, addTo, writeTo, commitTo, joined, closeTo, movedTo, forkTo, stepTo}
 
 -- a choice between scans at one place is at that place
 two : (b : Bool) (x y : Scan) (p : ℕ) → x .place ≡ p → y .place ≡ p → cond b x y .place ≡ p
@@ -23,7 +23,7 @@ bad-place s = refl
 
 module _ (s : Scan) where
   pub set-place : (h k r : ℕ) (i : Bool) (n f z : ℕ) → setTo s h k r i n f z .place ≡ s .place
-  unfolding setTo placed
+  unfolding setTo itemPut
   set-place h k r i n f z =
       two (ltb 64 r) (bad s) _ (s .place) (bad-place s) (two (ltb 1000 (s .nodes + n)) (bad s) _ (s .place) (bad-place s) (two (ltb 15 (s .forks + f)) (bad s) _ (s .place) (bad-place s) refl))
 
@@ -52,11 +52,11 @@ module _ (s : Scan) where
       two (ltb (s .height) 2) (bad s) _ (s .place) (bad-place s) (two (eqb (kindAt s 1) 2) _ (bad s) (s .place) (two (eqb (kindAt s 2) 1) (joined s) (bad s) (s .place) refl (bad-place s)) (bad-place s))
 
   -- a scan that is still good passed the limits
-  pub set-good : (h k r : ℕ) (i : Bool) (n f z : ℕ) → setTo s h k r i n f z .good ≡ true → (r ≤ 64) × (s .nodes + n ≤ 1000) × (s .forks + f ≤ 15) × (setTo s h k r i n f z ≡ placed s h k r i n f z)
+  pub set-good : (h k r : ℕ) (i : Bool) (n f z : ℕ) → setTo s h k r i n f z .good ≡ true → (r ≤ 64) × (s .nodes + n ≤ 1000) × (s .forks + f ≤ 15) × (setTo s h k r i n f z ≡ itemPut s h k r i n f z)
   unfolding setTo bad
   set-good h k r i n f z g = go (ltb 64 r) refl (ltb 1000 (s .nodes + n)) refl (ltb 15 (s .forks + f)) refl
     where
-      go : (a : Bool) → ltb 64 r ≡ a → (b : Bool) → ltb 1000 (s .nodes + n) ≡ b → (c : Bool) → ltb 15 (s .forks + f) ≡ c → (r ≤ 64) × (s .nodes + n ≤ 1000) × (s .forks + f ≤ 15) × (setTo s h k r i n f z ≡ placed s h k r i n f z)
+      go : (a : Bool) → ltb 64 r ≡ a → (b : Bool) → ltb 1000 (s .nodes + n) ≡ b → (c : Bool) → ltb 15 (s .forks + f) ≡ c → (r ≤ 64) × (s .nodes + n ≤ 1000) × (s .forks + f ≤ 15) × (setTo s h k r i n f z ≡ itemPut s h k r i n f z)
       go true a b b′ c c′ = absurd (let e : false ≡ true = rw a at g in let z : _≡_ {A = ℕ} 0 1 = cc in omega arith)
       go false a true b c c′ = absurd (let e : false ≡ true = rw (a, b) at g in let z : _≡_ {A = ℕ} 0 1 = cc in omega arith)
       go false a false b true c = absurd (let e : false ≡ true = rw (a, b, c) at g in let z : _≡_ {A = ℕ} 0 1 = cc in omega arith)
@@ -67,21 +67,21 @@ module _ (s : Scan) where
   top-few k i f z g = set-good (s .height) k (s .height + 1) i 1 f z g .2
 
   pub top-forked : (k : ℕ) (i : Bool) (f z : ℕ) → topTo s k i f z .good ≡ true → topTo s k i f z .forked ≡ s .forked
-  unfolding topTo placed
+  unfolding topTo itemPut
   top-forked k i f z g = ap forked (set-good (s .height) k (s .height + 1) i 1 f z g .3)
     where
       forked : Scan → ℕ
       forked t = t .forked
 
   pub top-forks : (k : ℕ) (i : Bool) (f z : ℕ) → topTo s k i f z .good ≡ true → topTo s k i f z .forks ≡ s .forks + f
-  unfolding topTo placed
+  unfolding topTo itemPut
   top-forks k i f z g = ap forks (set-good (s .height) k (s .height + 1) i 1 f z g .3)
     where
       forks : Scan → ℕ
       forks t = t .forks
 
   pub top-ends : (k : ℕ) (i : Bool) (f z : ℕ) → topTo s k i f z .good ≡ true → topTo s k i f z .ends ≡ s .ends
-  unfolding topTo placed
+  unfolding topTo itemPut
   top-ends k i f z g = ap ends (set-good (s .height) k (s .height + 1) i 1 f z g .3)
     where
       ends : Scan → List ℕ

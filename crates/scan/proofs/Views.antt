@@ -1,57 +1,57 @@
--- The scan's arrays follow the lists of code/specs/Scan.antt, instruction by instruction. Assumes nothing.
-use Prim.Native.Nat.{ℕ, zero, suc, _+_, _*_, _-_, _≤_, _<_, max}
-use mathlib.Core.Path.{_≡_, refl, sym, ap, ap₂, subst, _∙_}
+-- The scan's arrays follow the lists of code/specs/InnerScan.antt, instruction by instruction. Assumes nothing.
+use Prim.Native.Nat.{ℕ, zero, suc, _+_, _-_, _≤_, _<_, max}
+use mathlib.Core.Path.{_≡_, refl, sym, ap, ap₂, _∙_}
 use mathlib.Core.Bool.{Bool, true, false, cond, not, _&&_}
-use mathlib.Core.List.{List, [], _∷_}
+use mathlib.Core.List.{List, _∷_}
 use native.Mathlib.Decide.{decLt, ℕ-discrete}
 use native.Mathlib.Omega.{arith}
-use lib.Dec.{eqb, leb, ltb}
+use lib.Dec.{eqb, leb}
 use lib.IntN.{ℤ}
-use lib.ListN.{length, getD, set, length-set}
+use lib.ListN.{length, getD, set}
 use lib.Seq.{getD-set-same, getD-set-other}
 use borrow.Author.Tests.{lt-ltb, le-ltb, le-leb, lt-leb, eq-eqb, ne-eqb}
 use Rattle.scan.specs.declared.Scan.{Scan}
-use Rattle.scan.specs.View.{marksOf, endsOf, view, ifGood, viewed, Fit, Room, bad, placed, setTo, topTo, kindAt, reachAt, addTo, writeTo, commitTo, joined, closeTo, movedTo, opened, forkTo, erase, stepTo, finishTo}
-use Rattle.code.specs.Reader.{foreign, Op, push, add, read, write, begin, commit, fork, sizeOf, endsAfter}
-use Rattle.code.specs.Scan.{Mark, bounded, topped, merged, twoTop, oneTop, scanOp, moved, closes, finished}
-use Rattle.code.specs.Scan as list
-use Rattle.script.specs.Outcome.{Outcome, refused, done, refuse, onward, mapped}
-use Rattle.scan.proofs.Branches.{add-low, add-part, add-other, add-done, write-low, write-outside, write-other, write-done, commit-low, commit-outside, commit-above, commit-below, commit-done, close-low, close-above, close-below, close-done, fork-bad, fork-done, when-true, when-false}
-use Rattle.scan.proofs.Steps.{set-good, top-few, top-forked, top-ends}
+use Rattle.scan.specs.InnerView.{stackOf, endsOf, view, ifGood, viewed, GoodScan, ItemRoom, bad, itemPut, setTo, topTo, kindAt, reachAt, addTo, writeTo, commitTo, movedTo, opened, forkTo, erase, stepTo}
+use Rattle.code.specs.Ops.{foreign, Op, push, add, read, write, begin, commit, fork}
+use Rattle.code.specs.InnerScan.{ScanItem, bounded, topped, merged, twoTop, oneTop, scanOp, movedPast}
+use Rattle.code.specs.InnerScan as list
+use Rattle.script.specs.Outcome.{Outcome, done, refuse, mapped}
+use Rattle.scan.proofs.Branches.{add-low, add-part, add-other, add-done, write-low, write-outside, write-other, write-done, commit-low, commit-outside, commit-above, commit-below, commit-done, fork-bad, fork-done, when-true, when-false}
+use Rattle.scan.proofs.Steps.{top-few, top-forked, top-ends}
 
 -- ---- the stack in the arrays
 
-marks-set : (k r : List ℕ) (n m a b : ℕ) → n ≤ m → marksOf (set k m a) (set r m b) n ≡ marksOf k r n
-unfolding marksOf
-marks-set k r zero m a b h = refl
-marks-set k r (suc n) m a b h =
-    rw (getD-set-other k m n a 0 (omega arith), getD-set-other r m n b 0 (omega arith), marks-set k r n m a b (omega arith))
+stack-set : (k r : List ℕ) (n m a b : ℕ) → n ≤ m → stackOf (set k m a) (set r m b) n ≡ stackOf k r n
+unfolding stackOf
+stack-set k r zero m a b h = refl
+stack-set k r (suc n) m a b h =
+    rw (getD-set-other k m n a 0 (omega arith), getD-set-other r m n b 0 (omega arith), stack-set k r n m a b (omega arith))
 
-pub marks-push : (k r : List ℕ) (n a b : ℕ) → n < length k → n < length r → marksOf (set k n a) (set r n b) (n + 1) ≡ record { kind = a; reach = b } ∷ marksOf k r n
-unfolding marksOf
-marks-push k r n a b p q =
+pub stack-push : (k r : List ℕ) (n a b : ℕ) → n < length k → n < length r → stackOf (set k n a) (set r n b) (n + 1) ≡ record { kind = a; reach = b } ∷ stackOf k r n
+unfolding stackOf
+stack-push k r n a b p q =
     let e : n + 1 ≡ suc n = omega arith in
-    rw (e, getD-set-same k n a 0 p, getD-set-same r n b 0 q, marks-set k r n n a b (omega arith))
+    rw (e, getD-set-same k n a 0 p, getD-set-same r n b 0 q, stack-set k r n n a b (omega arith))
 
-pub marks-length : (k r : List ℕ) (n : ℕ) → length (marksOf k r n) ≡ n
-unfolding marksOf
-marks-length k r zero = refl
-marks-length k r (suc n) = ap suc (marks-length k r n)
+pub stack-length : (k r : List ℕ) (n : ℕ) → length (stackOf k r n) ≡ n
+unfolding stackOf
+stack-length k r zero = refl
+stack-length k r (suc n) = ap suc (stack-length k r n)
 
 -- the item at an index
-abbrev pub at-index : List ℕ → List ℕ → ℕ → Mark
+abbrev pub at-index : List ℕ → List ℕ → ℕ → ScanItem
 at-index k r i = record { kind = getD k i 0; reach = getD r i 0 }
 
-pub marks-one : (k r : List ℕ) (n : ℕ) → 1 ≤ n → marksOf k r n ≡ at-index k r (n - 1) ∷ marksOf k r (n - 1)
-unfolding marksOf
-marks-one k r zero h = absurd (omega arith)
-marks-one k r (suc n) h = let e : suc n - 1 ≡ n = omega arith in rw e
+pub stack-one : (k r : List ℕ) (n : ℕ) → 1 ≤ n → stackOf k r n ≡ at-index k r (n - 1) ∷ stackOf k r (n - 1)
+unfolding stackOf
+stack-one k r zero h = absurd (omega arith)
+stack-one k r (suc n) h = let e : suc n - 1 ≡ n = omega arith in rw e
 
-marks-two : (k r : List ℕ) (n : ℕ) → 2 ≤ n → marksOf k r n ≡ at-index k r (n - 1) ∷ at-index k r (n - 2) ∷ marksOf k r (n - 2)
-unfolding marksOf
-marks-two k r zero h = absurd (omega arith)
-marks-two k r (suc zero) h = absurd (omega arith)
-marks-two k r (suc (suc n)) h =
+stack-two : (k r : List ℕ) (n : ℕ) → 2 ≤ n → stackOf k r n ≡ at-index k r (n - 1) ∷ at-index k r (n - 2) ∷ stackOf k r (n - 2)
+unfolding stackOf
+stack-two k r zero h = absurd (omega arith)
+stack-two k r (suc zero) h = absurd (omega arith)
+stack-two k r (suc (suc n)) h =
     let e : suc (suc n) - 1 ≡ suc n = omega arith in
     let f : suc (suc n) - 2 ≡ n = omega arith in
     rw (e, f)
@@ -68,19 +68,19 @@ pub right-false : (a : Bool) {b : Bool} → b ≡ false → (a && b) ≡ false
 right-false true e = e
 right-false false e = refl
 
-pub passes : {t : Bool} {o : Outcome list.Scan} → t ≡ true → refuse (not t) 11 0 o ≡ o
+pub passes : {t : Bool} {o : Outcome list.ListScan} → t ≡ true → refuse (not t) 11 0 o ≡ o
 passes {o = o} e = ap (λ (b : Bool). refuse (not b) 11 0 o) e
 
-pub fails : {t : Bool} (o : Outcome list.Scan) → t ≡ false → refuse (not t) 11 0 o ≡ foreign
+pub fails : {t : Bool} (o : Outcome list.ListScan) → t ≡ false → refuse (not t) 11 0 o ≡ foreign
 fails o e = ap (λ (b : Bool). refuse (not b) 11 0 o) e
 
 -- ---- the limits
 
 -- a scan with one item in place of those from a height on
-abbrev laid : Scan → (h k r : ℕ) → Bool → (n f z : ℕ) → list.Scan
+abbrev laid : Scan → (h k r : ℕ) → Bool → (n f z : ℕ) → list.ListScan
 laid s h k r i n f z =
     record {
-      marks = record { kind = k; reach = r } ∷ marksOf (s .kinds) (s .reaches) h;
+      stack = record { kind = k; reach = r } ∷ stackOf (s .kinds) (s .reaches) h;
       inside = i;
       ends = endsOf (s .ends) (s .forked);
       place = s .place;
@@ -96,13 +96,13 @@ bad-viewed s = refl
 pub good-viewed : (s : Scan) → s .good ≡ true → viewed s ≡ done (view s)
 good-viewed s g = ap (λ (b : Bool). ifGood b (view s)) g
 
-module _ (s : Scan) (g : s .good ≡ true) (fit : Fit s) where
-  set-viewed : (h k r : ℕ) (i : Bool) (n f z : ℕ) → Room h r → viewed (setTo s h k r i n f z) ≡ bounded (laid s h k r i n f z) r
-  unfolding setTo placed
+module _ (s : Scan) (g : s .good ≡ true) (fit : GoodScan s) where
+  set-viewed : (h k r : ℕ) (i : Bool) (n f z : ℕ) → ItemRoom h r → viewed (setTo s h k r i n f z) ≡ bounded (laid s h k r i n f z) r
+  unfolding setTo itemPut
   set-viewed h k r i n f z room = deep (decLt 64 r)
     where
-      kept : r ≤ 64 → viewed (placed s h k r i n f z) ≡ done (laid s h k r i n f z)
-      kept l = good-viewed (placed s h k r i n f z) g ∙ ap done (ap (λ (m : List Mark). record { marks = m; inside = i; ends = endsOf (s .ends) (s .forked); place = s .place; nodes = s .nodes + n; forks = s .forks + f; size = s .size + z }) (marks-push (s .kinds) (s .reaches) h k r (omega (arith, fit .kinds, room l)) (omega (arith, fit .reaches, room l))))
+      kept : r ≤ 64 → viewed (itemPut s h k r i n f z) ≡ done (laid s h k r i n f z)
+      kept l = good-viewed (itemPut s h k r i n f z) g ∙ ap done (ap (λ (m : List ScanItem). record { stack = m; inside = i; ends = endsOf (s .ends) (s .forked); place = s .place; nodes = s .nodes + n; forks = s .forks + f; size = s .size + z }) (stack-push (s .kinds) (s .reaches) h k r (omega (arith, fit .kinds, room l)) (omega (arith, fit .reaches, room l))))
 
       forked : r ≤ 64 → s .nodes + n ≤ 1000 → Dec (15 < s .forks + f) → viewed (setTo s h k r i n f z) ≡ bounded (laid s h k r i n f z) r
       forked l m (yes q) = rw (le-ltb 64 r l, le-ltb 1000 (s .nodes + n) m, lt-ltb 15 (s .forks + f) q, le-leb r 64 l, le-leb (s .nodes + n) 1000 m, lt-leb (s .forks + f) 15 q) (bad-viewed s)
@@ -121,47 +121,47 @@ module _ (s : Scan) (g : s .good ≡ true) (fit : Fit s) where
   top-viewed : (k : ℕ) (i : Bool) (f z : ℕ) → viewed (topTo s k i f z) ≡ topped (view s) k i f z
   unfolding topTo
   top-viewed k i f z =
-      let e : s .height + 1 ≡ suc (length (marksOf (s .kinds) (s .reaches) (s .height))) = omega (arith, marks-length (s .kinds) (s .reaches) (s .height)) in
+      let e : s .height + 1 ≡ suc (length (stackOf (s .kinds) (s .reaches) (s .height))) = omega (arith, stack-length (s .kinds) (s .reaches) (s .height)) in
       set-viewed (s .height) k (s .height + 1) i 1 f z (λ l. omega arith) ∙ ap (λ (r : ℕ). bounded (laid s (s .height) k r i 1 f z) r) e
 
   -- items become one, with no FORK more
-  merge-viewed : (h k r : ℕ) (i : Bool) (n z : ℕ) → h < 64 → viewed (setTo s h k r i n 0 z) ≡ merged (view s) k r (marksOf (s .kinds) (s .reaches) h) i n z
+  merge-viewed : (h k r : ℕ) (i : Bool) (n z : ℕ) → h < 64 → viewed (setTo s h k r i n 0 z) ≡ merged (view s) k r (stackOf (s .kinds) (s .reaches) h) i n z
   merge-viewed h k r i n z l =
       let e : s .forks + 0 ≡ s .forks = omega arith in
-      set-viewed h k r i n 0 z (λ _. l) ∙ ap (λ (f : ℕ). bounded (record { marks = record { kind = k; reach = r } ∷ marksOf (s .kinds) (s .reaches) h; inside = i; ends = endsOf (s .ends) (s .forked); place = s .place; nodes = s .nodes + n; forks = f; size = s .size + z }) r) e
+      set-viewed h k r i n 0 z (λ _. l) ∙ ap (λ (f : ℕ). bounded (record { stack = record { kind = k; reach = r } ∷ stackOf (s .kinds) (s .reaches) h; inside = i; ends = endsOf (s .ends) (s .forked); place = s .place; nodes = s .nodes + n; forks = f; size = s .size + z }) r) e
 
   -- the two topmost items, and the topmost
-  abbrev pub on-two : (Mark → Mark → List Mark → Outcome list.Scan) → Outcome list.Scan
-  on-two f = f (at-index (s .kinds) (s .reaches) (s .height - 1)) (at-index (s .kinds) (s .reaches) (s .height - 2)) (marksOf (s .kinds) (s .reaches) (s .height - 2))
+  abbrev pub on-two : (ScanItem → ScanItem → List ScanItem → Outcome list.ListScan) → Outcome list.ListScan
+  on-two f = f (at-index (s .kinds) (s .reaches) (s .height - 1)) (at-index (s .kinds) (s .reaches) (s .height - 2)) (stackOf (s .kinds) (s .reaches) (s .height - 2))
 
-  pub two-top : (f : Mark → Mark → List Mark → Outcome list.Scan) → 2 ≤ s .height → twoTop (view s) (marksOf (s .kinds) (s .reaches) (s .height)) f ≡ on-two f
-  two-top f h = ap (λ (m : List Mark). twoTop (view s) m f) (marks-two (s .kinds) (s .reaches) (s .height) h)
+  pub two-top : (f : ScanItem → ScanItem → List ScanItem → Outcome list.ListScan) → 2 ≤ s .height → twoTop (view s) (stackOf (s .kinds) (s .reaches) (s .height)) f ≡ on-two f
+  two-top f h = ap (λ (m : List ScanItem). twoTop (view s) m f) (stack-two (s .kinds) (s .reaches) (s .height) h)
 
-  pub two-low : (f : Mark → Mark → List Mark → Outcome list.Scan) → s .height < 2 → twoTop (view s) (marksOf (s .kinds) (s .reaches) (s .height)) f ≡ foreign
-  unfolding marksOf
+  pub two-low : (f : ScanItem → ScanItem → List ScanItem → Outcome list.ListScan) → s .height < 2 → twoTop (view s) (stackOf (s .kinds) (s .reaches) (s .height)) f ≡ foreign
+  unfolding stackOf
   two-low f h = few (s .height) h
     where
-      few : (n : ℕ) → n < 2 → twoTop (view s) (marksOf (s .kinds) (s .reaches) n) f ≡ foreign
+      few : (n : ℕ) → n < 2 → twoTop (view s) (stackOf (s .kinds) (s .reaches) n) f ≡ foreign
       few zero l = refl
       few (suc zero) l = refl
       few (suc (suc n)) l = absurd (omega arith)
 
-  pub one-top : (f : Mark → List Mark → Outcome list.Scan) → 1 ≤ s .height → oneTop (view s) (marksOf (s .kinds) (s .reaches) (s .height)) f ≡ f (at-index (s .kinds) (s .reaches) (s .height - 1)) (marksOf (s .kinds) (s .reaches) (s .height - 1))
-  one-top f h = ap (λ (m : List Mark). oneTop (view s) m f) (marks-one (s .kinds) (s .reaches) (s .height) h)
+  pub one-top : (f : ScanItem → List ScanItem → Outcome list.ListScan) → 1 ≤ s .height → oneTop (view s) (stackOf (s .kinds) (s .reaches) (s .height)) f ≡ f (at-index (s .kinds) (s .reaches) (s .height - 1)) (stackOf (s .kinds) (s .reaches) (s .height - 1))
+  one-top f h = ap (λ (m : List ScanItem). oneTop (view s) m f) (stack-one (s .kinds) (s .reaches) (s .height) h)
 
-  pub one-low : (f : Mark → List Mark → Outcome list.Scan) → s .height < 1 → oneTop (view s) (marksOf (s .kinds) (s .reaches) (s .height)) f ≡ foreign
-  unfolding marksOf
+  pub one-low : (f : ScanItem → List ScanItem → Outcome list.ListScan) → s .height < 1 → oneTop (view s) (stackOf (s .kinds) (s .reaches) (s .height)) f ≡ foreign
+  unfolding stackOf
   one-low f h = few (s .height) h
     where
-      few : (n : ℕ) → n < 1 → oneTop (view s) (marksOf (s .kinds) (s .reaches) n) f ≡ foreign
+      few : (n : ℕ) → n < 1 → oneTop (view s) (stackOf (s .kinds) (s .reaches) n) f ≡ foreign
       few zero l = refl
       few (suc n) l = absurd (omega arith)
 
   -- a scan that is bad, where the lists are foreign
-  pub both-bad : {r : Scan} {o : Outcome list.Scan} → bad s ≡ r → o ≡ foreign → viewed r ≡ o
+  pub both-bad : {r : Scan} {o : Outcome list.ListScan} → bad s ≡ r → o ≡ foreign → viewed r ≡ o
   both-bad e f = ap viewed (sym e) ∙ (bad-viewed s ∙ sym f)
 
-  abbrev of-add : Mark → Mark → List Mark → Outcome list.Scan
+  abbrev of-add : ScanItem → ScanItem → List ScanItem → Outcome list.ListScan
   of-add b a below = refuse (not (leb 2 (a .kind) && eqb (b .kind) (a .kind))) 11 0 (merged (view s) (a .kind) (max (suc (a .reach)) (b .reach)) below (s .inside) 1 1)
 
   add-viewed : viewed (addTo s) ≡ scanOp add (view s)
@@ -178,38 +178,38 @@ module _ (s : Scan) (g : s .good ≡ true) (fit : Fit s) where
       parts h (yes k) = both-bad (add-part s h k) (rw (lt-leb 2 (kindAt s 2) k))
       parts h (no k) = alike h (omega arith) (ℕ-discrete (kindAt s 1) (kindAt s 2))
 
-      height : Dec (s .height < 2) → viewed (addTo s) ≡ twoTop (view s) (marksOf (s .kinds) (s .reaches) (s .height)) of-add
+      height : Dec (s .height < 2) → viewed (addTo s) ≡ twoTop (view s) (stackOf (s .kinds) (s .reaches) (s .height)) of-add
       height (yes h) = both-bad (add-low s h) (two-low of-add h)
       height (no h) = parts (omega arith) (decLt (kindAt s 2) 2) ∙ sym (two-top of-add (omega arith))
 
-  abbrev of-write : Mark → List Mark → Outcome list.Scan
+  abbrev of-write : ScanItem → List ScanItem → Outcome list.ListScan
   of-write a below = refuse (not (s .inside && eqb (a .kind) 3)) 11 0 (merged (view s) 3 (suc (a .reach)) below true 1 2)
 
-  abbrev written-one : Outcome list.Scan
-  written-one = merged (view s) 3 (suc (reachAt s 1)) (marksOf (s .kinds) (s .reaches) (s .height - 1)) true 1 2
+  abbrev written-one : Outcome list.ListScan
+  written-one = merged (view s) 3 (suc (reachAt s 1)) (stackOf (s .kinds) (s .reaches) (s .height - 1)) true 1 2
 
   write-viewed : (v : ℕ) → viewed (writeTo s) ≡ scanOp (write v) (view s)
   unfolding scanOp
   write-viewed v = height (decLt (s .height) 1)
     where
-      kind : 1 ≤ s .height → s .inside ≡ true → Dec (kindAt s 1 ≡ 3) → viewed (writeTo s) ≡ of-write (at-index (s .kinds) (s .reaches) (s .height - 1)) (marksOf (s .kinds) (s .reaches) (s .height - 1))
+      kind : 1 ≤ s .height → s .inside ≡ true → Dec (kindAt s 1 ≡ 3) → viewed (writeTo s) ≡ of-write (at-index (s .kinds) (s .reaches) (s .height - 1)) (stackOf (s .kinds) (s .reaches) (s .height - 1))
       kind h i (yes e) =
           let r : reachAt s 1 + 1 ≡ suc (reachAt s 1) = omega arith in
-          ap viewed (sym (write-done s h i e)) ∙ (merge-viewed (s .height - 1) 3 (reachAt s 1 + 1) true 1 2 (omega (arith, fit .low)) ∙ (ap (λ (m : ℕ). merged (view s) 3 m (marksOf (s .kinds) (s .reaches) (s .height - 1)) true 1 2) r ∙ sym (passes (both-true i (eq-eqb (kindAt s 1) 3 e)))))
+          ap viewed (sym (write-done s h i e)) ∙ (merge-viewed (s .height - 1) 3 (reachAt s 1 + 1) true 1 2 (omega (arith, fit .low)) ∙ (ap (λ (m : ℕ). merged (view s) 3 m (stackOf (s .kinds) (s .reaches) (s .height - 1)) true 1 2) r ∙ sym (passes (both-true i (eq-eqb (kindAt s 1) 3 e)))))
       kind h i (no n) = both-bad (write-other s h i n) (fails written-one (right-false (s .inside) (ne-eqb (kindAt s 1) 3 n)))
 
-      inside : 1 ≤ s .height → (b : Bool) → s .inside ≡ b → viewed (writeTo s) ≡ of-write (at-index (s .kinds) (s .reaches) (s .height - 1)) (marksOf (s .kinds) (s .reaches) (s .height - 1))
+      inside : 1 ≤ s .height → (b : Bool) → s .inside ≡ b → viewed (writeTo s) ≡ of-write (at-index (s .kinds) (s .reaches) (s .height - 1)) (stackOf (s .kinds) (s .reaches) (s .height - 1))
       inside h true i = kind h i (ℕ-discrete (kindAt s 1) 3)
       inside h false i = both-bad (write-outside s h i) (fails written-one (left-false (eqb (kindAt s 1) 3) i))
 
-      height : Dec (s .height < 1) → viewed (writeTo s) ≡ oneTop (view s) (marksOf (s .kinds) (s .reaches) (s .height)) of-write
+      height : Dec (s .height < 1) → viewed (writeTo s) ≡ oneTop (view s) (stackOf (s .kinds) (s .reaches) (s .height)) of-write
       height (yes h) = both-bad (write-low s h) (one-low of-write h)
       height (no h) = inside (omega arith) (s .inside) refl ∙ sym (one-top of-write (omega arith))
 
-  abbrev committed-two : Outcome list.Scan
-  committed-two = merged (view s) 2 (reachAt s 1) (marksOf (s .kinds) (s .reaches) (s .height - 2)) false 0 0
+  abbrev committed-two : Outcome list.ListScan
+  committed-two = merged (view s) 2 (reachAt s 1) (stackOf (s .kinds) (s .reaches) (s .height - 2)) false 0 0
 
-  abbrev of-commit : Mark → Mark → List Mark → Outcome list.Scan
+  abbrev of-commit : ScanItem → ScanItem → List ScanItem → Outcome list.ListScan
   of-commit t b below = refuse (not (s .inside && (eqb (t .kind) 3 && eqb (b .kind) 0))) 11 0 (merged (view s) 2 (t .reach) below false 0 0)
 
   commit-viewed : viewed (commitTo s) ≡ scanOp commit (view s)
@@ -229,7 +229,7 @@ module _ (s : Scan) (g : s .good ≡ true) (fit : Fit s) where
       inside h true i = above h i (ℕ-discrete (kindAt s 1) 3)
       inside h false i = both-bad (commit-outside s h i) (fails committed-two (left-false (eqb (kindAt s 1) 3 && eqb (kindAt s 2) 0) i))
 
-      height : Dec (s .height < 2) → viewed (commitTo s) ≡ twoTop (view s) (marksOf (s .kinds) (s .reaches) (s .height)) of-commit
+      height : Dec (s .height < 2) → viewed (commitTo s) ≡ twoTop (view s) (stackOf (s .kinds) (s .reaches) (s .height)) of-commit
       height (yes h) = both-bad (commit-low s h) (two-low of-commit h)
       height (no h) = inside (omega arith) (s .inside) refl ∙ sym (two-top of-commit (omega arith))
 
@@ -253,75 +253,75 @@ ends-push e n v h =
     rw (i, getD-set-same e n v 0 h, ends-set e n n v (omega arith))
 
 -- the next place, of a scan that is good or not
-on-good : (b : Bool) (v w : list.Scan) (f : list.Scan → list.Scan) → w ≡ f v → ifGood b w ≡ mapped f (ifGood b v)
+on-good : (b : Bool) (v w : list.ListScan) (f : list.ListScan → list.ListScan) → w ≡ f v → ifGood b w ≡ mapped f (ifGood b v)
 on-good true v w f e = ap done e
 on-good false v w f e = refl
 
 module _ (t : Scan) where
-  push-moved : (n : ℤ) → viewed (movedTo t 5) ≡ mapped (moved (push n)) (viewed t)
-  unfolding movedTo moved
-  push-moved n = on-good (t .good) (view t) (view (movedTo t 5)) (moved (push n)) refl
+  push-moved : (n : ℤ) → viewed (movedTo t 5) ≡ mapped (movedPast (push n)) (viewed t)
+  unfolding movedTo movedPast
+  push-moved n = on-good (t .good) (view t) (view (movedTo t 5)) (movedPast (push n)) refl
 
-  add-moved : viewed (movedTo t 1) ≡ mapped (moved add) (viewed t)
-  unfolding movedTo moved
-  add-moved = on-good (t .good) (view t) (view (movedTo t 1)) (moved add) refl
+  add-moved : viewed (movedTo t 1) ≡ mapped (movedPast add) (viewed t)
+  unfolding movedTo movedPast
+  add-moved = on-good (t .good) (view t) (view (movedTo t 1)) (movedPast add) refl
 
-  read-moved : (v : ℕ) → viewed (movedTo t 2) ≡ mapped (moved (read v)) (viewed t)
-  unfolding movedTo moved
-  read-moved v = on-good (t .good) (view t) (view (movedTo t 2)) (moved (read v)) refl
+  read-moved : (v : ℕ) → viewed (movedTo t 2) ≡ mapped (movedPast (read v)) (viewed t)
+  unfolding movedTo movedPast
+  read-moved v = on-good (t .good) (view t) (view (movedTo t 2)) (movedPast (read v)) refl
 
-  write-moved : (v : ℕ) → viewed (movedTo t 2) ≡ mapped (moved (write v)) (viewed t)
-  unfolding movedTo moved
-  write-moved v = on-good (t .good) (view t) (view (movedTo t 2)) (moved (write v)) refl
+  write-moved : (v : ℕ) → viewed (movedTo t 2) ≡ mapped (movedPast (write v)) (viewed t)
+  unfolding movedTo movedPast
+  write-moved v = on-good (t .good) (view t) (view (movedTo t 2)) (movedPast (write v)) refl
 
-  begin-moved : viewed (movedTo t 1) ≡ mapped (moved begin) (viewed t)
-  unfolding movedTo moved
-  begin-moved = on-good (t .good) (view t) (view (movedTo t 1)) (moved begin) refl
+  begin-moved : viewed (movedTo t 1) ≡ mapped (movedPast begin) (viewed t)
+  unfolding movedTo movedPast
+  begin-moved = on-good (t .good) (view t) (view (movedTo t 1)) (movedPast begin) refl
 
-  commit-moved : viewed (movedTo t 1) ≡ mapped (moved commit) (viewed t)
-  unfolding movedTo moved
-  commit-moved = on-good (t .good) (view t) (view (movedTo t 1)) (moved commit) refl
+  commit-moved : viewed (movedTo t 1) ≡ mapped (movedPast commit) (viewed t)
+  unfolding movedTo movedPast
+  commit-moved = on-good (t .good) (view t) (view (movedTo t 1)) (movedPast commit) refl
 
-  fork-moved : (n : ℕ) → (t .good ≡ true → t .forked < length (t .ends)) → viewed (forkTo t n) ≡ mapped (moved (fork n)) (viewed t)
-  unfolding forkTo opened moved
+  fork-moved : (n : ℕ) → (t .good ≡ true → t .forked < length (t .ends)) → viewed (forkTo t n) ≡ mapped (movedPast (fork n)) (viewed t)
+  unfolding forkTo opened movedPast
   fork-moved n room = go (t .good) refl
     where
-      go : (b : Bool) → t .good ≡ b → viewed (forkTo t n) ≡ mapped (moved (fork n)) (viewed t)
+      go : (b : Bool) → t .good ≡ b → viewed (forkTo t n) ≡ mapped (movedPast (fork n)) (viewed t)
       go true g =
-          ap viewed (sym (fork-done t n g)) ∙ (on-good (t .good) (view t) (view (opened t n)) (moved (fork n)) (ap (λ (e : List ℕ). record { marks = marksOf (t .kinds) (t .reaches) (t .height); inside = t .inside; ends = e; place = t .place + 3; nodes = t .nodes; forks = t .forks; size = t .size }) (ends-push (t .ends) (t .forked) (t .place + 3 + n) (room g))))
-      go false g = ap viewed (sym (fork-bad t n g)) ∙ (ap (λ (b : Bool). ifGood b (view t)) g ∙ ap (λ (b : Bool). mapped (moved (fork n)) (ifGood b (view t))) (sym g))
+          ap viewed (sym (fork-done t n g)) ∙ (on-good (t .good) (view t) (view (opened t n)) (movedPast (fork n)) (ap (λ (e : List ℕ). record { stack = stackOf (t .kinds) (t .reaches) (t .height); inside = t .inside; ends = e; place = t .place + 3; nodes = t .nodes; forks = t .forks; size = t .size }) (ends-push (t .ends) (t .forked) (t .place + 3 + n) (room g))))
+      go false g = ap viewed (sym (fork-bad t n g)) ∙ (ap (λ (b : Bool). ifGood b (view t)) g ∙ ap (λ (b : Bool). mapped (movedPast (fork n)) (ifGood b (view t))) (sym g))
 
-module _ (s : Scan) (g : s .good ≡ true) (fit : Fit s) where
-  pub step-viewed : (o : Op) → viewed (stepTo s (erase o)) ≡ mapped (moved o) (scanOp o (view s))
+module _ (s : Scan) (g : s .good ≡ true) (fit : GoodScan s) where
+  pub step-viewed : (o : Op) → viewed (stepTo s (erase o)) ≡ mapped (movedPast o) (scanOp o (view s))
   unfolding stepTo scanOp
   step-viewed (push n) = go (s .inside) refl
     where
-      go : (b : Bool) → s .inside ≡ b → viewed (cond (s .inside) (movedTo (topTo s 3 true 0 5) 5) (movedTo (topTo s 2 false 0 5) 5)) ≡ mapped (moved (push n)) (topped (view s) (cond (s .inside) 3 2) (s .inside) 0 5)
+      go : (b : Bool) → s .inside ≡ b → viewed (cond (s .inside) (movedTo (topTo s 3 true 0 5) 5) (movedTo (topTo s 2 false 0 5) 5)) ≡ mapped (movedPast (push n)) (topped (view s) (cond (s .inside) 3 2) (s .inside) 0 5)
       go true i =
-          ap viewed (sym (when-true (s .inside) _ _ i)) ∙ (push-moved (topTo s 3 true 0 5) n ∙ (ap (mapped (moved (push n))) (top-viewed s g fit 3 true 0 5) ∙ ap (λ (b : Bool). mapped (moved (push n)) (topped (view s) (cond b 3 2) b 0 5)) (sym i)))
+          ap viewed (sym (when-true (s .inside) _ _ i)) ∙ (push-moved (topTo s 3 true 0 5) n ∙ (ap (mapped (movedPast (push n))) (top-viewed s g fit 3 true 0 5) ∙ ap (λ (b : Bool). mapped (movedPast (push n)) (topped (view s) (cond b 3 2) b 0 5)) (sym i)))
       go false i =
-          ap viewed (sym (when-false (s .inside) _ _ i)) ∙ (push-moved (topTo s 2 false 0 5) n ∙ (ap (mapped (moved (push n))) (top-viewed s g fit 2 false 0 5) ∙ ap (λ (b : Bool). mapped (moved (push n)) (topped (view s) (cond b 3 2) b 0 5)) (sym i)))
-  step-viewed add = add-moved (addTo s) ∙ ap (mapped (moved add)) (add-viewed s g fit)
+          ap viewed (sym (when-false (s .inside) _ _ i)) ∙ (push-moved (topTo s 2 false 0 5) n ∙ (ap (mapped (movedPast (push n))) (top-viewed s g fit 2 false 0 5) ∙ ap (λ (b : Bool). mapped (movedPast (push n)) (topped (view s) (cond b 3 2) b 0 5)) (sym i)))
+  step-viewed add = add-moved (addTo s) ∙ ap (mapped (movedPast add)) (add-viewed s g fit)
   step-viewed (read v) = go (s .inside) refl
     where
-      go : (b : Bool) → s .inside ≡ b → viewed (cond (s .inside) (movedTo (topTo s 3 true 0 2) 2) (bad s)) ≡ mapped (moved (read v)) (refuse (not (s .inside)) 11 0 (topped (view s) 3 true 0 2))
+      go : (b : Bool) → s .inside ≡ b → viewed (cond (s .inside) (movedTo (topTo s 3 true 0 2) 2) (bad s)) ≡ mapped (movedPast (read v)) (refuse (not (s .inside)) 11 0 (topped (view s) 3 true 0 2))
       go true i =
-          ap viewed (sym (when-true (s .inside) _ _ i)) ∙ (read-moved (topTo s 3 true 0 2) v ∙ (ap (mapped (moved (read v))) (top-viewed s g fit 3 true 0 2) ∙ ap (λ (b : Bool). mapped (moved (read v)) (refuse (not b) 11 0 (topped (view s) 3 true 0 2))) (sym i)))
-      go false i = ap viewed (sym (when-false (s .inside) _ _ i)) ∙ (bad-viewed s ∙ ap (λ (b : Bool). mapped (moved (read v)) (refuse (not b) 11 0 (topped (view s) 3 true 0 2))) (sym i))
-  step-viewed (write v) = write-moved (writeTo s) v ∙ ap (mapped (moved (write v))) (write-viewed s g fit v)
+          ap viewed (sym (when-true (s .inside) _ _ i)) ∙ (read-moved (topTo s 3 true 0 2) v ∙ (ap (mapped (movedPast (read v))) (top-viewed s g fit 3 true 0 2) ∙ ap (λ (b : Bool). mapped (movedPast (read v)) (refuse (not b) 11 0 (topped (view s) 3 true 0 2))) (sym i)))
+      go false i = ap viewed (sym (when-false (s .inside) _ _ i)) ∙ (bad-viewed s ∙ ap (λ (b : Bool). mapped (movedPast (read v)) (refuse (not b) 11 0 (topped (view s) 3 true 0 2))) (sym i))
+  step-viewed (write v) = write-moved (writeTo s) v ∙ ap (mapped (movedPast (write v))) (write-viewed s g fit v)
   step-viewed begin = go (s .inside) refl
     where
-      go : (b : Bool) → s .inside ≡ b → viewed (cond (s .inside) (bad s) (movedTo (topTo s 0 true 0 1) 1)) ≡ mapped (moved begin) (refuse (s .inside) 11 0 (topped (view s) 0 true 0 1))
-      go true i = ap viewed (sym (when-true (s .inside) _ _ i)) ∙ (bad-viewed s ∙ ap (λ (b : Bool). mapped (moved begin) (refuse b 11 0 (topped (view s) 0 true 0 1))) (sym i))
+      go : (b : Bool) → s .inside ≡ b → viewed (cond (s .inside) (bad s) (movedTo (topTo s 0 true 0 1) 1)) ≡ mapped (movedPast begin) (refuse (s .inside) 11 0 (topped (view s) 0 true 0 1))
+      go true i = ap viewed (sym (when-true (s .inside) _ _ i)) ∙ (bad-viewed s ∙ ap (λ (b : Bool). mapped (movedPast begin) (refuse b 11 0 (topped (view s) 0 true 0 1))) (sym i))
       go false i =
-          ap viewed (sym (when-false (s .inside) _ _ i)) ∙ (begin-moved (topTo s 0 true 0 1) ∙ (ap (mapped (moved begin)) (top-viewed s g fit 0 true 0 1) ∙ ap (λ (b : Bool). mapped (moved begin) (refuse b 11 0 (topped (view s) 0 true 0 1))) (sym i)))
-  step-viewed commit = commit-moved (commitTo s) ∙ ap (mapped (moved commit)) (commit-viewed s g fit)
+          ap viewed (sym (when-false (s .inside) _ _ i)) ∙ (begin-moved (topTo s 0 true 0 1) ∙ (ap (mapped (movedPast begin)) (top-viewed s g fit 0 true 0 1) ∙ ap (λ (b : Bool). mapped (movedPast begin) (refuse b 11 0 (topped (view s) 0 true 0 1))) (sym i)))
+  step-viewed commit = commit-moved (commitTo s) ∙ ap (mapped (movedPast commit)) (commit-viewed s g fit)
   step-viewed (fork n) = go (s .inside) refl
     where
       room : topTo s 1 false 1 1 .good ≡ true → topTo s 1 false 1 1 .forked < length (topTo s 1 false 1 1 .ends)
       room h = omega (arith, top-forked s 1 false 1 1 h, top-few s 1 false 1 1 h, ap length (top-ends s 1 false 1 1 h), fit .ends, fit .some)
 
-      go : (b : Bool) → s .inside ≡ b → viewed (cond (s .inside) (bad s) (forkTo (topTo s 1 false 1 1) n)) ≡ mapped (moved (fork n)) (refuse (s .inside) 11 0 (topped (view s) 1 false 1 1))
-      go true i = ap viewed (sym (when-true (s .inside) _ _ i)) ∙ (bad-viewed s ∙ ap (λ (b : Bool). mapped (moved (fork n)) (refuse b 11 0 (topped (view s) 1 false 1 1))) (sym i))
+      go : (b : Bool) → s .inside ≡ b → viewed (cond (s .inside) (bad s) (forkTo (topTo s 1 false 1 1) n)) ≡ mapped (movedPast (fork n)) (refuse (s .inside) 11 0 (topped (view s) 1 false 1 1))
+      go true i = ap viewed (sym (when-true (s .inside) _ _ i)) ∙ (bad-viewed s ∙ ap (λ (b : Bool). mapped (movedPast (fork n)) (refuse b 11 0 (topped (view s) 1 false 1 1))) (sym i))
       go false i =
-          ap viewed (sym (when-false (s .inside) _ _ i)) ∙ (fork-moved (topTo s 1 false 1 1) n room ∙ (ap (mapped (moved (fork n))) (top-viewed s g fit 1 false 1 1) ∙ ap (λ (b : Bool). mapped (moved (fork n)) (refuse b 11 0 (topped (view s) 1 false 1 1))) (sym i)))
+          ap viewed (sym (when-false (s .inside) _ _ i)) ∙ (fork-moved (topTo s 1 false 1 1) n room ∙ (ap (mapped (movedPast (fork n))) (top-viewed s g fit 1 false 1 1) ∙ ap (λ (b : Bool). mapped (movedPast (fork n)) (refuse b 11 0 (topped (view s) 1 false 1 1))) (sym i)))

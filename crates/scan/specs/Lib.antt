@@ -1,3 +1,3 @@
 -- What the contracts of `scan` cite.
 pub mod Answer
-pub mod View
+pub mod InnerView

@@ -1,20 +1,21 @@
 // Whether code is foreign, and what is known of the job that compiles to it: one pass over the code, with a stack of 64 items.
-ghost use Prim.Native.Nat.{_*_, _+_, _<_, _≤_, max, suc};
+ghost use Prim.Native.Nat.{_+_, _<_, _≤_, max, suc};
 ghost use lib.Dec.{eqb};
 ghost use lib.ListN.{drop, length};
 ghost use mathlib.Core.Bool.{_&&_, true};
 ghost use mathlib.Core.Path.{_≡_};
-ghost use Rattle.code.specs.Reader.{opAt, operand as operandOf, readCode};
+ghost use Rattle.code.specs.Ops.{opAt, opcodeOperand};
+ghost use Rattle.code.specs.Reader.{readCode};
 ghost use Rattle.scan.specs.Answer.{told};
-ghost use Rattle.code.specs.Scan.{scanOps, started as begun};
-ghost use Rattle.scan.specs.View.{Fit, Room, Settled, Small, addTo, bad, closeTo, commitTo, erased, finishTo, forkTo, movedTo, setTo, started, stepTo, topTo, viewed, writeTo};
+ghost use Rattle.code.specs.InnerScan.{scanOps, scanStart};
+ghost use Rattle.scan.specs.InnerView.{GoodScan, ItemRoom, Settled, ShortFork, addTo, bad, closeTo, commitTo, erased, finishTo, forkTo, movedTo, setTo, emptyScan, stepTo, topTo, viewed, writeTo};
 
 // What scanning code comes to.
 pub enum Scanned {
     // the job's version, its node count, and its length in bytes
     Job(u16, usize, usize),
-    // no accepted job compiles to this code
-    Foreign,
+    // document 01's number, and the place: 11 at 0, no accepted job compiles to this code
+    Refused(u8, usize),
 }
 
 // An instruction as it stands in the code; a FORK has its child's length.
@@ -48,7 +49,7 @@ struct Scan {
 
 // How many bytes an opcode's operand has.
 fn operand(opcode: u8) -> usize
-    ensures { λ r. ⌜ r ≡ operandOf opcode ⌝ }
+    ensures { λ r. ⌜ r ≡ opcodeOperand opcode ⌝ }
 {
     match opcode {
         1 => 4,
@@ -74,15 +75,12 @@ fn op_at(code: &[u8], place: usize) -> Op
     match opcode {
         1 => Op::Push,
         2 => Op::Add,
-        3 => {
+        3 | 4 => {
             if code[place + 1] >= 64 {
                 return Op::Foreign;
             }
-            Op::Read
-        }
-        4 => {
-            if code[place + 1] >= 64 {
-                return Op::Foreign;
+            if opcode == 3 {
+                return Op::Read;
             }
             Op::Write
         }
@@ -113,7 +111,7 @@ fn greater(a: usize, b: usize) -> usize
 impl Scan {
     // Before the first instruction, behind the code's header of 5 bytes; the job has a header of 7.
     fn start() -> Scan
-        ensures { λ r. ⌜ r ≡ started ⌝ }
+        ensures { λ r. ⌜ r ≡ emptyScan ⌝ }
     {
         Scan {
             kinds: [0; 64],
@@ -149,7 +147,7 @@ impl Scan {
         forks: usize,
         size: usize,
     ) -> Scan
-        requires { ⌜ Fit self × Room height reach × (nodes ≤ 1) × (forks ≤ 1) × (size ≤ 5) ⌝ }
+        requires { ⌜ GoodScan self × ItemRoom height reach × (nodes ≤ 1) × (forks ≤ 1) × (size ≤ 5) ⌝ }
         ensures { λ r. ⌜ r ≡ setTo self height kind reach inside nodes forks size ⌝ }
     {
         if reach > 64 {
@@ -176,7 +174,7 @@ impl Scan {
 
     // A new item on top.
     fn top(self, kind: u8, inside: bool, forks: usize, size: usize) -> Scan
-        requires { ⌜ Fit self × (forks ≤ 1) × (size ≤ 5) ⌝ }
+        requires { ⌜ GoodScan self × (forks ≤ 1) × (size ≤ 5) ⌝ }
         ensures { λ r. ⌜ r ≡ topTo self kind inside forks size ⌝ }
     {
         let height = self.height;
@@ -185,7 +183,7 @@ impl Scan {
 
     // ADD: the two topmost items are both processes or both transactions.
     fn add(self) -> Scan
-        requires { ⌜ Fit self ⌝ }
+        requires { ⌜ GoodScan self ⌝ }
         ensures { λ r. ⌜ r ≡ addTo self ⌝ }
     {
         let height = self.height;
@@ -209,7 +207,7 @@ impl Scan {
 
     // WRITE: the topmost item is a transaction.
     fn write(self) -> Scan
-        requires { ⌜ Fit self ⌝ }
+        requires { ⌜ GoodScan self ⌝ }
         ensures { λ r. ⌜ r ≡ writeTo self ⌝ }
     {
         let height = self.height;
@@ -229,7 +227,7 @@ impl Scan {
 
     // COMMIT: a transaction stands behind its BEGIN.
     fn commit(self) -> Scan
-        requires { ⌜ Fit self ⌝ }
+        requires { ⌜ GoodScan self ⌝ }
         ensures { λ r. ⌜ r ≡ commitTo self ⌝ }
     {
         let height = self.height;
@@ -253,7 +251,7 @@ impl Scan {
 
     // The end of a FORK's child: a process stands behind its FORK.
     fn close(mut self) -> Scan
-        requires { ⌜ Fit self × (1 ≤ self .forked) ⌝ }
+        requires { ⌜ GoodScan self × (1 ≤ self .forked) ⌝ }
         ensures { λ r. ⌜ r ≡ closeTo self ⌝ }
     {
         let height = self.height;
@@ -305,7 +303,7 @@ impl Scan {
 
     // One instruction.
     fn step(self, op: Op) -> Scan
-        requires { ⌜ Fit self × Small op ⌝ }
+        requires { ⌜ GoodScan self × ShortFork op ⌝ }
         ensures { λ r. ⌜ r ≡ stepTo self op ⌝ }
     {
         let inside = self.inside;
@@ -345,7 +343,7 @@ impl Scan {
 impl Scan {
     // The children that end at this place.
     fn settle(self) -> Scan
-        requires { ⌜ Fit self × (self .good ≡ true) ⌝ }
+        requires { ⌜ GoodScan self × (self .good ≡ true) ⌝ }
         ensures { λ r. ⌜ Settled self r ⌝ }
     {
         let mut s = self;
@@ -364,7 +362,7 @@ impl Scan {
 
     // The end of the code: no FORK is open, and one process is left.
     fn finish(self) -> Scan
-        requires { ⌜ Fit self ⌝ }
+        requires { ⌜ GoodScan self ⌝ }
         ensures { λ r. ⌜ r ≡ finishTo self ⌝ }
     {
         if self.forked != 0 {
@@ -383,7 +381,7 @@ impl Scan {
 // The instructions behind the header.
 fn instructions(code: &[u8]) -> Scan
     requires { ⌜ (5 ≤ length (now code)) × (length (now code) ≤ 5005) ⌝ }
-    ensures { λ r. ⌜ viewed r ≡ scanOps (suc (length (drop 5 (now (code .entry))))) begun (drop 5 (now (code .entry))) ⌝ }
+    ensures { λ r. ⌜ viewed r ≡ scanOps (suc (length (drop 5 (now (code .entry))))) scanStart (drop 5 (now (code .entry))) ⌝ }
 {
     let mut s = Scan::start();
     loop {
@@ -404,7 +402,7 @@ fn instructions(code: &[u8]) -> Scan
 }
 
 // Whether the first three bytes are the mark `WSC`.
-fn marked(a: u8, b: u8, c: u8) -> bool
+fn is_code_mark(a: u8, b: u8, c: u8) -> bool
     ensures { λ r. ⌜ r ≡ eqb a 0x57 && (eqb b 0x53 && eqb c 0x43) ⌝ }
 {
     if a != 0x57 {
@@ -422,21 +420,21 @@ pub fn scan_code(code: &[u8]) -> Scanned
 {
     let length = code.len();
     if length < 5 {
-        return Scanned::Foreign;
+        return Scanned::Refused(11, 0);
     }
     if length > 5005 {
-        return Scanned::Foreign;
+        return Scanned::Refused(11, 0);
     }
-    if !marked(code[0], code[1], code[2]) {
-        return Scanned::Foreign;
+    if !is_code_mark(code[0], code[1], code[2]) {
+        return Scanned::Refused(11, 0);
     }
     let version = word::number16(code[3], code[4]);
     if version != 1 {
-        return Scanned::Foreign;
+        return Scanned::Refused(11, 0);
     }
     let s = instructions(code);
     if !s.good {
-        return Scanned::Foreign;
+        return Scanned::Refused(11, 0);
     }
     let nodes = s.nodes;
     let size = s.size;

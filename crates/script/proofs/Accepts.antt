@@ -12,7 +12,8 @@ use Rattle.script.specs.Count.{nodesP, forks}
 use Rattle.script.specs.Limits.{Within}
 use Rattle.script.specs.Bytes.{Bytes, bytes16, bytesP, jobMark, jobBytes}
 use Rattle.script.specs.Outcome.{Outcome, done, refuse, mapped}
-use Rattle.script.specs.Reader.{readNodes, Job, marked, taken, root, readJob}
+use Rattle.script.specs.Jobs.{Job, root}
+use Rattle.script.specs.Reader.{readNodes, jobMarked, taken, readJob}
 use Rattle.script.specs.Refusal.{Taken, IsJob}
 use Rattle.script.proofs.Numbers.{bytes16-number16, bytes-head, bytes-tail, bytes-drop}
 use Rattle.script.proofs.Reading.{read-proc, read-sound, mapped-from}
@@ -34,7 +35,7 @@ tree-read t w =
 
 -- the bytes of a tree within the limits are read, and give that tree
 pub bytes-read : (j : Job) → Taken (j .version) → Within (j .tree) → readJob (jobBytes (j .version) (j .tree)) ≡ done j
-unfolding readJob jobBytes jobMark bytes16 marked taken
+unfolding readJob jobBytes jobMark bytes16 jobMarked taken
 bytes-read j v w =
     let t = j .tree in
     let few : nodesP t ≤ 1000 = w .few in
@@ -68,11 +69,11 @@ text-of t a b c d e f g rest small p q s n r =
     rw (p, q, s, ← n, bytes16-number16 f g (bytes-head b₂) (bytes-head b₃), bytes16-number16 d e (bytes-head small) (bytes-head b₁), r)
 
 sound-long : (a b c d e f g : ℕ) (rest : List ℕ) (j : Job) → Bytes (a ∷ b ∷ c ∷ d ∷ e ∷ f ∷ g ∷ rest) → readJob (a ∷ b ∷ c ∷ d ∷ e ∷ f ∷ g ∷ rest) ≡ done j → IsJob (a ∷ b ∷ c ∷ d ∷ e ∷ f ∷ g ∷ rest) j
-unfolding readJob marked taken
+unfolding readJob jobMarked taken
 sound-long a b c d e f g rest j small h =
     let bs : List ℕ = a ∷ b ∷ c ∷ d ∷ e ∷ f ∷ g ∷ rest in
     let t₁ = passed (ltb (length bs) 7) 1 (length bs) _ h in
-    let t₂ = passed (not (marked bs)) 2 0 _ (t₁ .1) in
+    let t₂ = passed (not (jobMarked bs)) 2 0 _ (t₁ .1) in
     let t₃ = passed (not (taken (d * 256 + e))) 3 3 _ (t₂ .1) in
     let t₄ = passed (not (leb 1 (f * 256 + g) && leb (f * 256 + g) 1000)) 4 5 _ (t₃ .1) in
     let w = mapped-from (λ (ts : Proc × Unit {0}). record { version = d * 256 + e; tree = ts .0 }) (readNodes (f * 256 + g) root 0 7 rest) j (t₄ .1) in

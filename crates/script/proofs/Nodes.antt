@@ -12,7 +12,8 @@ use borrow.Author.Tests.{lt-ltb, le-ltb, le-leb, lt-leb}
 use Rattle.script.specs.Tree.{Sort, process, transaction}
 use Rattle.script.specs.Bytes.{Bytes, bytes32, Node, VALP, ADDP, ATOMIC, FORK, VALT, ADDT, READ, WRITE, nodeBytes}
 use Rattle.script.specs.Outcome.{Outcome, refused, done}
-use Rattle.script.specs.Reader.{permitted, operand, nodeOf, nodeAt, forkOf}
+use Rattle.script.specs.Jobs.{operand, forkOf}
+use Rattle.script.specs.Reader.{permitted, nodeOf, nodeAt}
 use Rattle.script.specs.Refusal.{Permitted, ValuedN}
 use Rattle.script.proofs.Numbers.{number-read, number-written, small32, bytes-head, bytes-tail}
 use Rattle.word.specs.Sum.{InRange, residue, signed}

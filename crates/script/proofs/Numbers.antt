@@ -10,7 +10,7 @@ use lib.Seq.{getD-drop}
 use mir.Syntax.{w8}
 use mir.Val.{Fits}
 use Rattle.script.specs.Bytes.{Bytes, bytes16, bytes32}
-use Rattle.script.specs.Reader.{number16, number32}
+use Rattle.script.specs.Jobs.{number16, number32}
 use Rattle.word.specs.Sum.{InRange, residue, signed}
 use Rattle.word.proofs.Sums.{residue-small, residue-signed, signed-residue}
 

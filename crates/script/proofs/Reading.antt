@@ -11,7 +11,8 @@ use Rattle.script.specs.Count.{nodesT, nodesP, depthT, depthP, forks, no
 use Rattle.script.specs.Limits.{ValuedT, ValuedP, Valued}
 use Rattle.script.specs.Bytes.{Bytes, Node, VALP, ADDP, ATOMIC, FORK, VALT, ADDT, READ, WRITE, nodeBytes, bytesT, bytesP, bytes}
 use Rattle.script.specs.Outcome.{Outcome, refused, done, mapped}
-use Rattle.script.specs.Reader.{Due, Forest, partsThen, grown, forkOf, readNodes}
+use Rattle.script.specs.Jobs.{Due, partsThen, forkOf}
+use Rattle.script.specs.Reader.{Forest, grown, readNodes}
 use Rattle.script.specs.Refusal.{ValuedN}
 use Rattle.script.proofs.Nodes.{Sees, good, node-reads, node-sees, seen}
 use Rattle.script.proofs.Numbers.{bytes-drop}

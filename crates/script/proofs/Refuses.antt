@@ -12,8 +12,9 @@ use borrow.Author.Tests.{lt-ltb, le-ltb, le-leb, lt-leb, eq-eqb, ne-eqb, eqb-tru
 use Rattle.script.specs.Tree.{Sort}
 use Rattle.script.specs.Bytes.{Bytes, Node, nodeBytes, jobMark}
 use Rattle.script.specs.Outcome.{Outcome, refused, done, mapped}
-use Rattle.script.specs.Reader.{Due, Forest, number16, partsThen, grown, forkOf, readNodes, marked, taken, root, readJob}
-use Rattle.script.specs.Refusal.{Long, Marked, Versioned, Counted, Reaches, start, next, Refused, cut-header, cut-node, cut-operand, mark, version, count, kind, register, depth, forks, used-up, nodes-over, bytes-over}
+use Rattle.script.specs.Jobs.{Due, number16, partsThen, forkOf, root}
+use Rattle.script.specs.Reader.{Forest, grown, readNodes, jobMarked, taken, readJob}
+use Rattle.script.specs.Refusal.{Permitted, DueNode, Long, Marked, Versioned, Counted, Reaches, start, next, Refused, cut-header, cut-node, cut-operand, mark, version, count, kind, register, depth, forks, used-up, nodes-over, bytes-over}
 use Rattle.script.proofs.Numbers.{bytes-drop}
 use Rattle.script.proofs.Nodes.{Sees, no-byte, bad-kind, too-deep, cut, bad-register, many-forks, good, node-sees, seen}
 use Rattle.script.proofs.Reading.{read-one, bytes-behind}
@@ -35,8 +36,8 @@ module _ (bs : List ℕ) where
   bytes-are b (next {rest = rest} node r v h g) = bytes-behind (nodeBytes node) rest (bytes-are b r)
 
 -- the header's tests, as equations of what the reader tests
-mark-yes : (bs : List ℕ) → 3 ≤ length bs → marked bs ≡ true → take 3 bs ≡ jobMark
-unfolding marked jobMark
+mark-yes : (bs : List ℕ) → 3 ≤ length bs → jobMarked bs ≡ true → take 3 bs ≡ jobMark
+unfolding jobMarked jobMark
 mark-yes [] h e = absurd (omega arith)
 mark-yes (a ∷ []) h e = absurd (omega arith)
 mark-yes (a ∷ b ∷ []) h e = absurd (omega arith)
@@ -45,8 +46,8 @@ mark-yes (a ∷ b ∷ c ∷ bs) h e =
     let m′ = both (eqb b 83) _ (m .1) in
     rw (eqb-true a 87 (m .0), eqb-true b 83 (m′ .0), eqb-true c 74 (m′ .1))
 
-mark-back : (bs : List ℕ) → take 3 bs ≡ jobMark → marked bs ≡ true
-unfolding marked jobMark
+mark-back : (bs : List ℕ) → take 3 bs ≡ jobMark → jobMarked bs ≡ true
+unfolding jobMarked jobMark
 mark-back [] e = absurd (let z : _≡_ {A = ℕ} 0 1 = cc in omega arith)
 mark-back (a ∷ []) e = absurd (let z : _≡_ {A = ℕ} 0 1 = cc in omega arith)
 mark-back (a ∷ b ∷ []) e = absurd (let z : _≡_ {A = ℕ} 0 1 = cc in omega arith)
@@ -89,13 +90,13 @@ refused-is-read {bs} (cut-header h) = rw (lt-ltb (length bs) 7 h)
 refused-is-read {bs} (cut-node {place = p} r) =
     let e : p ≡ length bs = omega (arith, place-is bs r) in
     stopped r no-byte ∙ ap (refused 1) e
-refused-is-read {bs} (cut-operand {place = p} {rest = rest} a q h l) =
-    let e : p + suc (length rest) ≡ length bs = place-is bs (a .2) in
-    stopped (a .2) (cut q h l) ∙ ap (refused 1) e
+refused-is-read {bs} (cut-operand n a l) =
+    let e : n .place + suc (length (n .rest)) ≡ length bs = place-is bs (n .reached) in
+    stopped (n .reached) (cut (a .permitted) (a .flat) l) ∙ ap (refused 1) e
 refused-is-read {bs} (mark l n) =
-    rw (le-ltb (length bs) 7 (l .long), no-mark (marked bs) refl)
+    rw (le-ltb (length bs) 7 (l .long), no-mark (jobMarked bs) refl)
   where
-    no-mark : (b : Bool) → marked bs ≡ b → marked bs ≡ false
+    no-mark : (b : Bool) → jobMarked bs ≡ b → jobMarked bs ≡ false
     no-mark true e = absurd (n (mark-yes bs (omega (arith, l .long)) e))
     no-mark false e = e
 refused-is-read {bs} (version m n) =
@@ -110,10 +111,12 @@ refused-is-read {bs} (count v (inr l)) =
       le-leb 1 (number16 bs 5) (omega arith),
       lt-leb (number16 bs 5) 1000 l,
     )
-refused-is-read (kind a n) = stopped (a .2) (bad-kind n)
-refused-is-read (register a q h o l) = stopped (a .2) (bad-register q h o l)
-refused-is-read (depth a q h) = stopped (a .2) (too-deep q h)
-refused-is-read (forks a q h l) = stopped (a .2) (many-forks q h l)
+refused-is-read (kind n h) = stopped (n .reached) (bad-kind h)
+refused-is-read {bs} (register n a o e l) =
+    stopped (subst (λ (r : List ℕ). Reaches bs (suc (n .left)) (n .due ∷ n .others) (n .forks) (n .place) (n .kind ∷ r)) e (n .reached)) (bad-register (a .permitted) (a .flat) o l)
+refused-is-read (depth n p h) = stopped (n .reached) (too-deep p h)
+refused-is-read {bs} (forks n a e l) =
+    stopped (subst (λ (k : ℕ). Reaches bs (suc (n .left)) (n .due ∷ n .others) (n .forks) (n .place) (k ∷ n .rest)) e (n .reached)) (many-forks (subst (Permitted (n .due .sort)) e (a .permitted)) (a .flat) l)
 refused-is-read (used-up r) = reached r refl
 refused-is-read (nodes-over r) = reached r refl
 refused-is-read (bytes-over {left = zero} {rest = rest} r) = reached r (rw (eqb·suc-zero (length rest)))
@@ -136,13 +139,13 @@ header bs = long (decLt (length bs) 7)
     versioned m (yes e) = counted (record { before = m; version = e }) (decLt (number16 bs 5) 1) (decLt 1000 (number16 bs 5))
     versioned m (no n) = turned-down (version m n)
 
-    with-mark : Long bs → (t : Bool) → marked bs ≡ t → Header bs
+    with-mark : Long bs → (t : Bool) → jobMarked bs ≡ t → Header bs
     with-mark l true e = versioned (record { before = l; mark = mark-yes bs (omega (arith, l .long)) e }) (ℕ-discrete (number16 bs 3) 1)
     with-mark l false e = turned-down (mark l (λ m. let f = mark-back bs m in absurd (let z : _≡_ {A = ℕ} 0 1 = cc in omega arith)))
 
     long : Dec (length bs < 7) → Header bs
     long (yes h) = turned-down (cut-header h)
-    long (no h) = with-mark (record { long = omega arith }) (marked bs) refl
+    long (no h) = with-mark (record { long = omega arith }) (jobMarked bs) refl
 
 mapped-refused : {A B : Type 0} {k q : ℕ} (g : A → B) (o : Outcome A) → mapped g o ≡ refused k q → o ≡ refused k q
 mapped-refused g (refused n p) e = cc
@@ -158,16 +161,19 @@ module _ (bs : List ℕ) (b : Bytes bs) where
           let e′ : refused number place ≡ refused k q = sym (stuck left ds sees) ∙ e in
           subst₂ (Refused bs) (cc) (cc) r
 
+      abbrev due-at : {x : ℕ} {rest : List ℕ} → Reaches bs (suc left) (record { sort = s; depth = n } ∷ ds) f p (x ∷ rest) → DueNode bs
+      due-at {x} {rest} r = record { left = left; due = record { sort = s; depth = n }; others = ds; forks = f; place = p; kind = x; rest = rest; reached = r }
+
       node-refused : (rest : List ℕ) (o : Outcome (Node s)) → Sees n f p rest o → Reaches bs (suc left) (record { sort = s; depth = n } ∷ ds) f p rest → readNodes (suc left) (record { sort = s; depth = n } ∷ ds) f p rest ≡ refused k q → Refused bs k q
       node-refused _ o no-byte r e =
           let h : length bs ≡ p = omega (arith, place-is bs r) in
           node-stuck [] 1 p no-byte e (subst (Refused bs 1) h (cut-node r))
-      node-refused _ o (bad-kind {k = x} {rest = rest} h) r e = node-stuck (x ∷ rest) 5 p (bad-kind h) e (kind (left, ds, r) h)
-      node-refused _ o (too-deep {k = x} {rest = rest} h l) r e = node-stuck (x ∷ rest) 7 p (too-deep h l) e (depth (left, ds, r) h l)
+      node-refused _ o (bad-kind {k = x} {rest = rest} h) r e = node-stuck (x ∷ rest) 5 p (bad-kind h) e (kind (due-at r) h)
+      node-refused _ o (too-deep {k = x} {rest = rest} h l) r e = node-stuck (x ∷ rest) 7 p (too-deep h l) e (depth (due-at r) h l)
       node-refused _ o (cut {k = x} {rest = rest} h l m) r e =
-          node-stuck (x ∷ rest) 1 (p + suc (length rest)) (cut h l m) e (subst (Refused bs 1) (sym (place-is bs r)) (cut-operand (left, ds, r) h l m))
-      node-refused _ o (bad-register {k = x} {v = v} {rest = rest} h l m w) r e = node-stuck (x ∷ v ∷ rest) 6 (p + 1) (bad-register h l m w) e (register (left, ds, r) h l m w)
-      node-refused _ o (many-forks {rest = rest} h l m) r e = node-stuck (4 ∷ rest) 8 p (many-forks h l m) e (forks (left, ds, r) h l m)
+          node-stuck (x ∷ rest) 1 (p + suc (length rest)) (cut h l m) e (subst (Refused bs 1) (sym (place-is bs r)) (cut-operand (due-at r) (record { permitted = h; flat = l }) m))
+      node-refused _ o (bad-register {k = x} {v = v} {rest = rest} h l m w) r e = node-stuck (x ∷ v ∷ rest) 6 (p + 1) (bad-register h l m w) e (register (due-at r) (record { permitted = h; flat = l }) m refl w)
+      node-refused _ o (many-forks {rest = rest} h l m) r e = node-stuck (4 ∷ rest) 8 p (many-forks h l m) e (forks (due-at r) (record { permitted = h; flat = l }) refl m)
       node-refused rest o (good node behind v h g eq) r e =
           ih (partsThen node n ds) (f + forkOf node) (p + length (nodeBytes node)) behind k q (next node (subst (Reaches bs (suc left) (record { sort = s; depth = n } ∷ ds) f p) eq r) v h g) (mapped-refused (grown node n ds) _ (sym (read-one node left n f p ds behind v h g) ∙ (rw eq at e)))
 

@@ -49,13 +49,13 @@ same-sym none = none
 same-sym (put at same) = put-both at here (same-sym same)
 
 -- p taken out of a soup, which leaves the same as `others`
-pub record Taken {A : Type 0} (p : A) (others soup′ : List A) : Type 0 where
+pub record TakenOut {A : Type 0} (p : A) (others soup′ : List A) : Type 0 where
   pub others′ : List A
   pub picks : Picks p others′ soup′
   pub same : Same others others′
 
 -- a process taken out of the one can be taken out of the other, and leaves the same
-pub take-both : {A : Type 0} {p : A} {others s s′ : List A} → Same s s′ → Picks p others s → Taken p others s′
+pub take-both : {A : Type 0} {p : A} {others s s′ : List A} → Same s s′ → Picks p others s → TakenOut p others s′
 take-both (put {others = others} at same) here = record { others′ = others; picks = at; same = same }
 take-both (put at same) (there at′) =
     let t = take-both same at′ in

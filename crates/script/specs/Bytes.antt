@@ -58,6 +58,6 @@ bytes transaction t = bytesT t
 unfoldable pub jobMark : List ℕ
 jobMark = 0x57 ∷ 0x53 ∷ 0x4A ∷ []
 
--- "A job is: mark `WSJ`, 16-bit version, 16-bit node count, then the nodes"
+-- "A job is: mark `WSJ`, 16-bit version 1, 16-bit node count, then the nodes in prefix order, left part first"; here of any version
 unfoldable pub jobBytes : (version : ℕ) → Proc → List ℕ
 jobBytes version p = jobMark ++ (bytes16 version ++ (bytes16 (nodesP p) ++ bytesP p))

@@ -2,7 +2,6 @@
 use Prim.Native.Nat.{ℕ, suc, _+_, _*_, _-_, max}
 use mathlib.Core.List.{List, [], _∷_, _++_}
 use Rattle.script.specs.Tree.{Tran, ValT, AddT, Read, Write, Proc, ValP, AddP, Atomic, Fork, Sort, process, transaction, Tree}
-use Rattle.word.specs.Registers.{none, with}
 
 -- nodes
 unfoldable pub nodesT : Tran → ℕ
@@ -93,7 +92,7 @@ heightP (AddP a b) = max (heightP a) (suc (heightP b))
 heightP (Atomic t) = heightT t
 heightP (Fork p) = 1
 
--- document 02 No. 1: "the root and each FORK's child in job order"
+-- document 02 No. 1: "greatest stack height of the root and of each FORK's child in job order"
 unfoldable pub childHeights : Proc → List ℕ
 childHeights (ValP n) = []
 childHeights (AddP a b) = childHeights a ++ childHeights b
@@ -102,37 +101,6 @@ childHeights (Fork p) = heightP p ∷ childHeights p
 
 unfoldable pub heights : Proc → List ℕ
 heights p = heightP p ∷ childHeights p
-
--- document 02 No. 1: the registers named by READ, put into a set, and those named by WRITE
-unfoldable pub readT : Tran → ℕ → ℕ
-readT (ValT n) set = set
-readT (AddT a b) set = readT b (readT a set)
-readT (Read v) set = with set v
-readT (Write v t) set = readT t set
-
-unfoldable pub readP : Proc → ℕ → ℕ
-readP (ValP n) set = set
-readP (AddP a b) set = readP b (readP a set)
-readP (Atomic t) set = readT t set
-readP (Fork p) set = readP p set
-
-unfoldable pub writtenT : Tran → ℕ → ℕ
-writtenT (ValT n) set = set
-writtenT (AddT a b) set = writtenT b (writtenT a set)
-writtenT (Read v) set = set
-writtenT (Write v t) set = with (writtenT t set) v
-
-unfoldable pub writtenP : Proc → ℕ → ℕ
-writtenP (ValP n) set = set
-writtenP (AddP a b) set = writtenP b (writtenP a set)
-writtenP (Atomic t) set = writtenT t set
-writtenP (Fork p) set = writtenP p set
-
-unfoldable pub registersRead : Proc → ℕ
-registersRead p = readP p none
-
-unfoldable pub registersWritten : Proc → ℕ
-registersWritten p = writtenP p none
 
 -- nodes, depth, FORKs and code bytes of a tree of either sort
 abbrev pub nodes : (s : Sort) → Tree s → ℕ
@@ -147,6 +115,6 @@ abbrev pub forksIn : (s : Sort) → Tree s → ℕ
 forksIn process p = forks p
 forksIn transaction t = 0
 
-abbrev pub code : (s : Sort) → Tree s → ℕ
-code process p = codeP p
-code transaction t = codeT t
+abbrev pub codeSize : (s : Sort) → Tree s → ℕ
+codeSize process p = codeP p
+codeSize transaction t = codeT t

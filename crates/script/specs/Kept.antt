@@ -1,4 +1,4 @@
--- What every turn keeps: "one table of 64 registers", and "n is a signed 32-bit number and v a register, 0 to 63".
+-- What every turn keeps: the table of 64 registers, and "n is a signed 32-bit number and v a register, 0 to 63".
 use Prim.Native.Nat.{ℕ}
 use mathlib.Core.Path.{_≡_}
 use lib.IntN.{pos}

@@ -3,6 +3,7 @@ pub mod Tree
 pub mod Count
 pub mod Limits
 pub mod Bytes
+pub mod Jobs
 pub mod Outcome
 pub mod Reader
 pub mod Refusal

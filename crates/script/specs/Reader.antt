@@ -1,26 +1,16 @@
--- The job reader: document 01, "Turning a job down", test by test in its order.
-use Prim.Native.Nat.{ℕ, zero, suc, _+_, _*_}
-use mathlib.Core.Bool.{Bool, cond, not, _&&_, _||_}
+-- The job reader: document 01, "Turning a job down", test by test in its order. Nobody has to believe it: `accepted-is-job` and
+-- `job-is-accepted` (proofs/Accepts), `refused-is-read` and `read-is-refused` (proofs/Refuses) determine it.
+use Prim.Native.Nat.{ℕ, zero, suc, _+_}
+use mathlib.Core.Bool.{Bool, cond, not, _&&_}
 use mathlib.Core.List.{List, [], _∷_}
 use lib.Dec.{eqb, leb, ltb}
 use lib.ListN.{length, drop, getD}
-use Rattle.script.specs.Tree.{Proc, ValP, AddP, Atomic, Fork, ValT, AddT, Read, Write, Sort, process, transaction, Tree}
+use Rattle.script.specs.Tree.{ValP, AddP, Atomic, Fork, ValT, AddT, Read, Write, Sort, process, transaction, Tree}
 use Rattle.script.specs.Limits.{mostNodes, mostDepth, mostForks}
 use Rattle.script.specs.Bytes.{Node, VALP, ADDP, ATOMIC, FORK, VALT, ADDT, READ, WRITE, nodeBytes}
+use Rattle.script.specs.Jobs.{number16, number32, operand, Due, root, partsThen, forkOf, Job}
 use Rattle.script.specs.Outcome.{Outcome, refused, done, refuse, test, tests, onward, mapped}
 use Rattle.word.specs.Sum.{signed}
-
--- the number that two bytes hold, and four
-abbrev pub number16 : List ℕ → ℕ → ℕ
-number16 bs i = getD bs i 0 * 256 + getD bs (suc i) 0
-
-abbrev pub number32 : List ℕ → ℕ
-number32 bs = ((getD bs 0 0 * 256 + getD bs 1 0) * 256 + getD bs 2 0) * 256 + getD bs 3 0
-
--- a part that is due: a process or a transaction, and the depth of its node
-pub record Due : Type 0 where
-  pub sort : Sort
-  pub depth : ℕ
 
 -- a tree for each part that is due
 abbrev pub Forest : List Due → Type 0
@@ -31,10 +21,6 @@ Forest (d ∷ ds) = Tree (d .sort) × Forest ds
 unfoldable pub permitted : Sort → ℕ → Bool
 permitted process kind = leb 1 kind && leb kind 4
 permitted transaction kind = leb 5 kind && leb kind 8
-
--- how many bytes a kind's operand has
-unfoldable pub operand : ℕ → ℕ
-operand kind = cond (eqb kind 1 || eqb kind 5) 4 (cond (eqb kind 7 || eqb kind 8) 1 0)
 
 -- the node of a permitted kind, its operand at the front of what follows
 unfoldable pub nodeOf : (s : Sort) → ℕ → List ℕ → Node s
@@ -59,17 +45,6 @@ nodeAt d forks place (kind ∷ rest) =
     ∷ [])
     (done (nodeOf (d .sort) kind rest))
 
--- what is due behind a node at a depth: its parts, and then what was due before
-abbrev pub partsThen : {s : Sort} → Node s → ℕ → List Due → List Due
-partsThen (VALP n) depth ds = ds
-partsThen ADDP depth ds = record { sort = process; depth = suc depth } ∷ record { sort = process; depth = suc depth } ∷ ds
-partsThen ATOMIC depth ds = record { sort = transaction; depth = suc depth } ∷ ds
-partsThen FORK depth ds = record { sort = process; depth = suc depth } ∷ ds
-partsThen (VALT n) depth ds = ds
-partsThen ADDT depth ds = record { sort = transaction; depth = suc depth } ∷ record { sort = transaction; depth = suc depth } ∷ ds
-partsThen (READ v) depth ds = ds
-partsThen (WRITE v) depth ds = record { sort = transaction; depth = suc depth } ∷ ds
-
 -- the tree of a node and its parts, and then the others
 unfoldable pub grown : {s : Sort} (node : Node s) (depth : ℕ) (ds : List Due) → Forest (partsThen node depth ds) → Tree s × Forest ds
 grown (VALP n) depth ds ts = (ValP n, ts)
@@ -81,18 +56,8 @@ grown ADDT depth ds ts = (AddT (ts .0) (ts .1 .0), ts .1 .1)
 grown (READ v) depth ds ts = (Read v, ts)
 grown (WRITE v) depth ds ts = (Write v (ts .0), ts .1)
 
--- 1 for a FORK
-unfoldable pub forkOf : {s : Sort} → Node s → ℕ
-forkOf (VALP n) = 0
-forkOf ADDP = 0
-forkOf ATOMIC = 0
-forkOf FORK = 1
-forkOf (VALT n) = 0
-forkOf ADDT = 0
-forkOf (READ v) = 0
-forkOf (WRITE v) = 0
-
--- "For each node that is due, left to right: 9 if the count is used up", then the node's own tests; "when the tree is complete: 9 if nodes or bytes are left over".
+-- "For each node that is due, left to right: 9 if the count is used up", then the node's own tests;
+-- "When the tree is complete: 9 if nodes or bytes are left over".
 -- `left` is what is left of the count, `bs` are the bytes from `place` on.
 unfoldable pub readNodes : (left : ℕ) (ds : List Due) (forks place : ℕ) → List ℕ → Outcome (Forest ds)
 readNodes zero [] forks place bs = refuse (not (eqb (length bs) 0)) 9 place (done tt)
@@ -110,22 +75,13 @@ readNodes (suc left) (d ∷ ds) forks place bs =
     (place + length (nodeBytes node))
     (drop (length (nodeBytes node)) bs)))
 
--- an accepted job: its version and its tree
-pub record Job : Type 0 where
-  pub version : ℕ
-  pub tree : Proc
-
 -- whether the mark is `WSJ`
-unfoldable pub marked : List ℕ → Bool
-marked bs = eqb (getD bs 0 0) 0x57 && (eqb (getD bs 1 0) 0x53 && eqb (getD bs 2 0) 0x4A)
+unfoldable pub jobMarked : List ℕ → Bool
+jobMarked bs = eqb (getD bs 0 0) 0x57 && (eqb (getD bs 1 0) 0x53 && eqb (getD bs 2 0) 0x4A)
 
 -- the versions taken
 unfoldable pub taken : ℕ → Bool
 taken version = eqb version 1
-
--- the root is due at depth 1
-abbrev pub root : List Due
-root = record { sort = process; depth = 1 } ∷ []
 
 -- the job of the tree that was read
 abbrev pub whole : ℕ → Outcome (Forest root) → Outcome Job
@@ -136,7 +92,7 @@ unfoldable pub readJob : List ℕ → Outcome Job
 readJob bs =
     tests
     (test (ltb (length bs) 7) 1 (length bs)
-    ∷ test (not (marked bs)) 2 0
+    ∷ test (not (jobMarked bs)) 2 0
     ∷ test (not (taken (number16 bs 3))) 3 3
     ∷ test (not (leb 1 (number16 bs 5) && leb (number16 bs 5) mostNodes)) 4 5
     ∷ [])

@@ -1,4 +1,5 @@
--- Which bytes are a job, and document 01, "Turning a job down", as a relation: a constructor for each row of the table, 1 to 9, with its place.
+-- Which bytes are a job, and document 01, "Turning a job down", as a relation: a constructor for each row of the table, 1 to 9,
+-- with its place.
 use Prim.Native.Nat.{ℕ, zero, suc, _+_, _≤_, _<_}
 use mathlib.Core.Path.{_≡_}
 use mathlib.Core.Logic.{_⊎_}
@@ -7,7 +8,7 @@ use lib.ListN.{length, drop, take}
 use Rattle.script.specs.Tree.{Sort, process, transaction}
 use Rattle.script.specs.Limits.{mostNodes, mostDepth, mostForks, Within}
 use Rattle.script.specs.Bytes.{Node, VALP, ADDP, ATOMIC, FORK, VALT, ADDT, READ, WRITE, nodeBytes, jobMark, jobBytes}
-use Rattle.script.specs.Reader.{Due, number16, operand, partsThen, forkOf, Job, root}
+use Rattle.script.specs.Jobs.{Due, number16, operand, partsThen, forkOf, Job, root}
 use Rattle.word.specs.Sum.{InRange}
 
 -- "processes (kinds 1 to 4)", "transactions (5 to 8)"
@@ -57,18 +58,37 @@ pub record Counted (bs : List ℕ) : Type 0 where
 -- the FORKs so far, the place where the next node is due or where the tree ended, and the bytes from there on.
 pub data Reaches (bs : List ℕ) : (left : ℕ) (due : List Due) (forks place : ℕ) (rest : List ℕ) → Type 0 where
   start : Counted bs → Reaches bs (number16 bs 5) root 0 7 (drop 7 bs)
-  next : {left : ℕ} {d : Due} {ds : List Due} {forks place : ℕ} {rest : List ℕ} (node : Node (d .sort)) → Reaches bs (suc left) (d ∷ ds) forks place (nodeBytes node ++ rest) → ValuedN node → d .depth ≤ mostDepth → forks + forkOf node ≤ mostForks → Reaches bs left (partsThen node (d .depth) ds) (forks + forkOf node) (place + length (nodeBytes node)) rest
+  next : {left : ℕ} {d : Due} {ds : List Due} {forks place : ℕ} {rest : List ℕ} (node : Node (d .sort)) →
+      Reaches bs (suc left) (d ∷ ds) forks place (nodeBytes node ++ rest) →
+      ValuedN node →
+      d .depth ≤ mostDepth →
+      forks + forkOf node ≤ mostForks →
+      Reaches bs left (partsThen node (d .depth) ds) (forks + forkOf node) (place + length (nodeBytes node)) rest
 
 -- a node is due, the count is not used up, and its kind byte is there
-abbrev pub AtKind : (bs : List ℕ) (d : Due) (forks place kind : ℕ) (rest : List ℕ) → Type 0
-AtKind bs d forks place kind rest = (left : ℕ) × (ds : List Due) × Reaches bs (suc left) (d ∷ ds) forks place (kind ∷ rest)
+pub record DueNode (bs : List ℕ) : Type 0 where
+  pub left : ℕ
+  pub due : Due
+  pub others : List Due
+  pub forks : ℕ
+  pub place : ℕ
+  pub kind : ℕ
+  pub rest : List ℕ
+  pub reached : Reaches bs (suc left) (due ∷ others) forks place (kind ∷ rest)
+
+-- its kind is permitted there, and its depth at most 64
+pub record Allowed {bs : List ℕ} (n : DueNode bs) : Type 0 where
+  pub permitted : Permitted (n .due .sort) (n .kind)
+  pub flat : n .due .depth ≤ mostDepth
 
 -- The job of bytes bs is refused with this number at this place.
 pub data Refused (bs : List ℕ) : (number place : ℕ) → Type 0 where
   -- 1, "bytes end too early", at "the input's length": fewer than 7 bytes, no byte left for a node, a cut operand
   cut-header : length bs < 7 → Refused bs 1 (length bs)
-  cut-node : {left : ℕ} {d : Due} {ds : List Due} {forks place : ℕ} → Reaches bs (suc left) (d ∷ ds) forks place [] → Refused bs 1 (length bs)
-  cut-operand : {d : Due} {forks place kind : ℕ} {rest : List ℕ} → AtKind bs d forks place kind rest → Permitted (d .sort) kind → d .depth ≤ mostDepth → length rest < operand kind → Refused bs 1 (length bs)
+  cut-node : {left : ℕ} {d : Due} {ds : List Due} {forks place : ℕ} →
+      Reaches bs (suc left) (d ∷ ds) forks place [] →
+      Refused bs 1 (length bs)
+  cut-operand : (n : DueNode bs) → Allowed n → length (n .rest) < operand (n .kind) → Refused bs 1 (length bs)
   -- 2, "not `WSJ`", at 0
   mark : Long bs → (take 3 bs ≡ jobMark → ⊥) → Refused bs 2 0
   -- 3, "not 1", at 3
@@ -76,13 +96,17 @@ pub data Refused (bs : List ℕ) : (number place : ℕ) → Type 0 where
   -- 4, "node count 0 or above 1,000", at 5
   count : Versioned bs → (number16 bs 5 ≡ 0) ⊎ (mostNodes < number16 bs 5) → Refused bs 4 5
   -- 5, "unknown kind, or one not permitted there", at the kind byte
-  kind : {d : Due} {forks place kind : ℕ} {rest : List ℕ} → AtKind bs d forks place kind rest → (Permitted (d .sort) kind → ⊥) → Refused bs 5 place
+  kind : (n : DueNode bs) → (Permitted (n .due .sort) (n .kind) → ⊥) → Refused bs 5 (n .place)
   -- 6, "64 or more", at the register byte
-  register : {d : Due} {forks place kind v : ℕ} {rest : List ℕ} → AtKind bs d forks place kind (v ∷ rest) → Permitted (d .sort) kind → d .depth ≤ mostDepth → operand kind ≡ 1 → 64 ≤ v → Refused bs 6 (place + 1)
+  register : {v : ℕ} {behind : List ℕ} (n : DueNode bs) → Allowed n →
+      operand (n .kind) ≡ 1 →
+      n .rest ≡ v ∷ behind →
+      64 ≤ v →
+      Refused bs 6 (n .place + 1)
   -- 7, "a node at depth 65", at the kind byte
-  depth : {d : Due} {forks place kind : ℕ} {rest : List ℕ} → AtKind bs d forks place kind rest → Permitted (d .sort) kind → mostDepth < d .depth → Refused bs 7 place
+  depth : (n : DueNode bs) → Permitted (n .due .sort) (n .kind) → mostDepth < n .due .depth → Refused bs 7 (n .place)
   -- 8, "a sixteenth FORK", at the kind byte
-  forks : {d : Due} {forks place : ℕ} {rest : List ℕ} → AtKind bs d forks place 4 rest → Permitted (d .sort) 4 → d .depth ≤ mostDepth → mostForks ≤ forks → Refused bs 8 place
+  forks : (n : DueNode bs) → Allowed n → n .kind ≡ 4 → mostForks ≤ n .forks → Refused bs 8 (n .place)
   -- 9, "nodes or bytes do not match the count", "where the next node is due or where the tree ended"
   used-up : {d : Due} {ds : List Due} {forks place : ℕ} {rest : List ℕ} → Reaches bs zero (d ∷ ds) forks place rest → Refused bs 9 place
   nodes-over : {left forks place : ℕ} {rest : List ℕ} → Reaches bs (suc left) [] forks place rest → Refused bs 9 place

@@ -36,5 +36,9 @@ pub data StepP (sum : Rule) : Registers → List Proc → Registers → List Pro
   ForkP : {h : Registers} {p : Proc} {s : List Proc} → StepP sum h (Fork p ∷ s) h (ValP (pos 0) ∷ p ∷ s)
   AtomicP : {h h′ : Registers} {e : Tran} {n : ℤ} {s : List Proc} → StepsT sum h e h′ (ValT n) → StepP sum h (Atomic e ∷ s) h′ (ValP n ∷ s)
   AddZP : {h : Registers} {m n : ℤ} {s : List Proc} → StepP sum h (AddP (ValP m) (ValP n) ∷ s) h (ValP (sum m n) ∷ s)
-  AddRP : {h h′ : Registers} {m : ℤ} {b b′ : Proc} {s s′ : List Proc} → StepP sum h (b ∷ s) h′ (b′ ∷ s′) → StepP sum h (AddP (ValP m) b ∷ s) h′ (AddP (ValP m) b′ ∷ s′)
-  AddLP : {h h′ : Registers} {a a′ b : Proc} {s s′ : List Proc} → StepP sum h (a ∷ s) h′ (a′ ∷ s′) → StepP sum h (AddP a b ∷ s) h′ (AddP a′ b ∷ s′)
+  AddRP : {h h′ : Registers} {m : ℤ} {b b′ : Proc} {s s′ : List Proc} →
+      StepP sum h (b ∷ s) h′ (b′ ∷ s′) →
+      StepP sum h (AddP (ValP m) b ∷ s) h′ (AddP (ValP m) b′ ∷ s′)
+  AddLP : {h h′ : Registers} {a a′ b : Proc} {s s′ : List Proc} →
+      StepP sum h (a ∷ s) h′ (a′ ∷ s′) →
+      StepP sum h (AddP a b ∷ s) h′ (AddP a′ b ∷ s′)

@@ -1,5 +1,5 @@
 // Numbers of 32 bits, of two bytes, and sets of 64 registers: the leaves of every layer above.
-ghost use Prim.Native.Nat.{_*_, _+_};
+ghost use Prim.Native.Nat.{_*_, _+_, _/_, _%_};
 ghost use mathlib.Core.Path.{_≡_};
 ghost use Rattle.word.specs.Registers.{member, none, with};
 ghost use Rattle.word.specs.Sum.{wrapping};
@@ -50,4 +50,17 @@ pub fn number16(high: u8, low: u8) -> u16
     ensures { λ r. ⌜ r ≡ high * 256 + low ⌝ }
 {
     high as u16 * 256 + low as u16
+}
+
+// The high one of the two bytes of a number below 65,536, and the low one.
+pub fn high(n: usize) -> u8
+    ensures { λ r. ⌜ r ≡ n / 256 % 256 ⌝ }
+{
+    (n / 256 % 256) as u8
+}
+
+pub fn low(n: usize) -> u8
+    ensures { λ r. ⌜ r ≡ n % 256 ⌝ }
+{
+    (n % 256) as u8
 }

@@ -1,6 +1,5 @@
 -- `compiler::emit` meets its contract: a node's code from the code of its parts, the depth falling. Assumes nothing.
 use Prim.Native.Nat.{ℕ, _+_, _≤_, _<_}
-use mathlib.Core.Logic.{inl, inr}
 use mathlib.Core.List.{[], _∷_}
 use mathlib.Core.Path.{_≡_, sym, ap, _∙_}
 use native.Mathlib.Omega.{arith}
@@ -10,10 +9,10 @@ use borrow.Fn.Kinds.{In}
 use borrow.Fn.PlainCycle.{Measures, is, falls, and}
 use Rattle.script.specs.Tree.{Sort, Tree}
 use Rattle.script.specs.Bytes.{bytes16}
-use Rattle.compiler.specs.Emit.{Emitted, Has, code, fork as fork-code}
+use Rattle.compiler.specs.InnerEmit.{Emitted, Has, treeCode, forkBytes as fork-code}
 use Rattle.compiler.proofs.Lists.{rest-length, back}
-use Rattle.compiler.proofs.Nodes.{TwoAt, some, as-push, as-atomic, as-fork, as-read, as-write, as-two}
-use Rattle.compiler.proofs.Emits.{Child, child, Children, children, moved, back-length, next-of, size-of, push-emitted, read-emitted, atomic-emitted, fork-emitted, write-emitted, sum-emitted}
+use Rattle.compiler.proofs.Nodes.{TwoAt, some, as-push, as-atomic, as-fork, as-read, as-write, as-two, no-other}
+use Rattle.compiler.proofs.Emits.{OnePart, child, TwoParts, children, moved, back-length, next-of, size-of, push-emitted, read-emitted, atomic-emitted, fork-emitted, write-emitted, sum-emitted}
 use Rattle.compiler.proofs.emit.Reads as emit
 use Rattle.compiler.proofs.emit.Kinds as emit-kinds
 use Rattle.compiler.proofs.+emit.Lts-emit as emit-lts
@@ -84,7 +83,7 @@ Atomic t = emit-lts.At-match-keys2 (claims t) (emit-at t) emit.Post
 abbrev Atomic-done : ℕ → Type 0
 Atomic-done t = emit-lts.After-put-atomic-arg (claims t) (emit-at t) emit.Post
 
-atomic : (t : ℕ) (c : Atomic t) → Child (c .before .before .before .before .args .job .now) (c .before .before .before .before .args .at) 1 (c .before .before .before .before .args .depth) (length (c .before .before .before .before .args .out .now)) (λ n. 5 ∷ []) (6 ∷ [])
+atomic : (t : ℕ) (c : Atomic t) → OnePart (c .before .before .before .before .args .job .now) (c .before .before .before .before .args .at) 1 (c .before .before .before .before .args .depth) (length (c .before .before .before .before .args .out .now)) (λ n. 5 ∷ []) (6 ∷ [])
 atomic t c = child (c .before .before .before .before .pre .1) (as-atomic _ _ _ _ (c .before .before .before .before .pre .1 .there) (c .match .keys2))
 
 emit-add-emit : (t : ℕ) → emit-lts.Need-add-emit (claims t) (emit-at t) emit.Post
@@ -105,7 +104,7 @@ emit-part-emit-start t c = atomic-room t c
 emit-part-emit-end : (t : ℕ) → emit-lts.Need-part-emit-end (claims t) (emit-at t) emit.Post
 emit-part-emit-end t c = search needs
 
-atomic-fits : (t : ℕ) (c : Atomic t) → length (code (atomic t c .sort) (atomic t c .tree)) + 2 ≤ length (c .before .before .before .before .args .out .now)
+atomic-fits : (t : ℕ) (c : Atomic t) → length (treeCode (atomic t c .sort) (atomic t c .tree)) + 2 ≤ length (c .before .before .before .before .args .out .now)
 atomic-fits t c = omega (arith, atomic t c .room)
 
 emit-emit-requires : (t : ℕ) → emit-lts.Need-emit-requires (claims t) (emit-at t) emit.Post
@@ -130,7 +129,7 @@ Fork t = emit-lts.At-match-keys3 (claims t) (emit-at t) emit.Post
 abbrev Fork-done : ℕ → Type 0
 Fork-done t = emit-lts.After-put-fork-arg (claims t) (emit-at t) emit.Post
 
-fork : (t : ℕ) (c : Fork t) → Child (c .before .before .before .before .args .job .now) (c .before .before .before .before .args .at) 1 (c .before .before .before .before .args .depth) (length (c .before .before .before .before .args .out .now)) fork-code []
+fork : (t : ℕ) (c : Fork t) → OnePart (c .before .before .before .before .args .job .now) (c .before .before .before .before .args .at) 1 (c .before .before .before .before .args .depth) (length (c .before .before .before .before .args .out .now)) fork-code []
 fork t c = child (c .before .before .before .before .pre .1) (as-fork _ _ _ _ (c .before .before .before .before .pre .1 .there) (c .match .keys3))
 
 emit-add-emit-2 : (t : ℕ) → emit-lts.Need-add-emit-2 (claims t) (emit-at t) emit.Post
@@ -152,7 +151,7 @@ emit-part-emit-start-2 t c = fork-room t c
 emit-part-emit-end-2 : (t : ℕ) → emit-lts.Need-part-emit-end-2 (claims t) (emit-at t) emit.Post
 emit-part-emit-end-2 t c = search needs
 
-fork-fits : (t : ℕ) (c : Fork t) → length (code (fork t c .sort) (fork t c .tree)) + 3 ≤ length (c .before .before .before .before .args .out .now)
+fork-fits : (t : ℕ) (c : Fork t) → length (treeCode (fork t c .sort) (fork t c .tree)) + 3 ≤ length (c .before .before .before .before .args .out .now)
 unfolding bytes16
 fork-fits t c = omega (arith, fork t c .room)
 
@@ -178,7 +177,7 @@ Write t = emit-lts.At-match-keys5 (claims t) (emit-at t) emit.Post
 abbrev Write-done : ℕ → Type 0
 Write-done t = emit-lts.After-put-write-arg (claims t) (emit-at t) emit.Post
 
-write : (t : ℕ) (c : Write t) → Child (c .before .before .before .before .args .job .now) (c .before .before .before .before .args .at) 2 (c .before .before .before .before .args .depth) (length (c .before .before .before .before .args .out .now)) (λ n. []) (4 ∷ getD (c .before .before .before .before .args .job .now) (c .before .before .before .before .args .at + 1) 0 ∷ [])
+write : (t : ℕ) (c : Write t) → OnePart (c .before .before .before .before .args .job .now) (c .before .before .before .before .args .at) 2 (c .before .before .before .before .args .depth) (length (c .before .before .before .before .args .out .now)) (λ n. []) (4 ∷ getD (c .before .before .before .before .args .job .now) (c .before .before .before .before .args .at + 1) 0 ∷ [])
 write t c = child (c .before .before .before .before .pre .1) (as-write _ _ _ _ (c .before .before .before .before .pre .1 .there) (c .match .keys5))
 
 emit-add-emit-3 : (t : ℕ) → emit-lts.Need-add-emit-3 (claims t) (emit-at t) emit.Post
@@ -207,7 +206,7 @@ emit-returns-5 t c = λ s u h. let o = as-write _ _ s u h (c .before .before .be
 
 -- ---- ADDP and ADDT
 abbrev Sum : ℕ → Type 0
-Sum t = emit-lts.At-match-rest (claims t) (emit-at t) emit.Post
+Sum t = emit-lts.At-match-keys6 (claims t) (emit-at t) emit.Post
 
 abbrev Left : ℕ → Type 0
 Left t = emit-lts.After-slice-known10 (claims t) (emit-at t) emit.Post
@@ -216,9 +215,9 @@ abbrev Right : ℕ → Type 0
 Right t = emit-lts.After-put-add-arg (claims t) (emit-at t) emit.Post
 
 two : (t : ℕ) (c : Sum t) (s : Sort) (u : Tree s) → Has (c .before .before .before .before .args .job .now) (c .before .before .before .before .args .at) s u → TwoAt (c .before .before .before .before .args .job .now) (c .before .before .before .before .args .at) s u
-two t c s u h = let r = c .match .rest in as-two _ _ s u h (λ e. r .0 .0 .0 .0 .1 (inl e)) (λ e. r .0 .0 .0 .0 .1 (inr e)) (r .0 .0 .0 .1) (r .0 .0 .1) (r .0 .1) (r .1)
+two t c s u h = as-two _ _ s u h (c .match .keys6)
 
-sum : (t : ℕ) (c : Sum t) → Children (c .before .before .before .before .args .job .now) (c .before .before .before .before .args .at) (c .before .before .before .before .args .depth) (length (c .before .before .before .before .args .out .now))
+sum : (t : ℕ) (c : Sum t) → TwoParts (c .before .before .before .before .args .job .now) (c .before .before .before .before .args .at) (c .before .before .before .before .args .depth) (length (c .before .before .before .before .args .out .now))
 sum t c = children (c .before .before .before .before .pre .1) (two t c _ _ (c .before .before .before .before .pre .1 .there))
 
 emit-add-emit-4 : (t : ℕ) → emit-lts.Need-add-emit-4 (claims t) (emit-at t) emit.Post
@@ -262,6 +261,10 @@ emit-same-length-6 t c = c .before .before .put-add .kept .0 ∙ sum-length t (c
 
 emit-returns-6 : (t : ℕ) → emit-lts.Need-returns-6 (claims t) (emit-at t) emit.Post
 emit-returns-6 t c = λ s u h. let o = two t (c .before .before .before .before .before .before .before .before .before .before .before .before) s u h in let l = c .before .before .before .before .before .before .before .before .before .before .emit4 .ensures s (o .left) (o .first) in sum-emitted o (omega (arith, size-of l, left-room t (c .before .before .before .before .before .before .before .before), c .before .before .before .before .before .before .before .before .before .before .emit4 .kept .1 .1 .1 .0)) l (c .before .before .before .before .before .before .emit5 .ensures s (o .right) (moved (o .second) (sym (next-of l)))) (c .before .before .put-add .ensures .0) (c .before .before .put-add .ensures .1)
+
+-- ---- no other kind
+emit-returns-7 : (t : ℕ) → emit-lts.Need-returns-7 (claims t) (emit-at t) emit.Post
+emit-returns-7 t c = λ s u h. let r = c .match .rest in absurd (no-other _ _ s u h (r .0 .0 .0 .0 .0 .1) (r .0 .0 .0 .0 .1) (r .0 .0 .0 .1) (r .0 .0 .1) (r .0 .1) (r .1))
 
 pub +emit-spec : {M : Type 1} → statement M
 +emit-spec = close μ-emit λ t. emit-lts.spec (claims t) (emit-at t) emit.Post
@@ -309,3 +312,4 @@ pub +emit-spec : {M : Type 1} → statement M
     (emit-returns-5 t)
     (emit-same-length-6 t)
     (emit-returns-6 t)
+    (emit-returns-7 t)

@@ -2,11 +2,11 @@
 use native.Mathlib.Omega.{arith}
 use borrow.Author.Needs.{needs}
 use Rattle.script.specs.Tree.{process}
-use Rattle.compiler.proofs.Whole.{Found, bytes-of, found, turned-down, short, compiles}
+use Rattle.compiler.proofs.Whole.{AcceptedJob, bytes-of, found, turned-down, short, compiles}
 use Rattle.compiler.proofs.compile.Statement.{statement}
 use Rattle.compiler.proofs.compile.Tie as tie
 
-accepted : (c : tie.After-known-told2) → Found (c .before .before .before .before .before .before .args .job .now) (c .before .version .given .0 .0) (c .before .version .given .0 .1 .0)
+accepted : (c : tie.After-known-told2) → AcceptedJob (c .before .before .before .before .before .before .args .job .now) (c .before .version .given .0 .0) (c .before .version .given .0 .1 .0)
 accepted c = found (c .before .before .before .before .before .before .args .job .now) (bytes-of (c .before .before .before .before .before .before .args .job .now) (c .before .before .before .before .before .shared-slice-known .given)) _ _ _ (c .before .before .before .read-job .ensures) (c .before .version .given .1)
 
 read-job-requires : tie.Need-read-job-requires

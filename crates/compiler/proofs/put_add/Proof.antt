@@ -2,7 +2,7 @@
 use mathlib.Core.Path.{refl}
 use native.Mathlib.Omega.{arith}
 use borrow.Author.Needs.{needs}
-use Rattle.compiler.proofs.Lists.{one-stored}
+use Rattle.delivery.proofs.Places.{one-stored}
 use Rattle.compiler.proofs.put_add.Statement.{statement}
 use Rattle.compiler.proofs.put_add.Tie as tie
 
@@ -19,7 +19,7 @@ same-length : tie.Need-same-length
 same-length c = search needs
 
 returns : tie.Need-returns
-returns c = (refl, one-stored (c .before .args .out .now) _ _ (omega arith))
+returns c = (refl, one-stored _ _ (c .before .args .out .now) (omega arith))
 
 pub put-add-spec : {M : Type 1} → statement M
 put-add-spec = tie.close (tie.spec add-end slice-write-out add-t6 same-length returns)

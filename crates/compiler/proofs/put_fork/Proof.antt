@@ -1,10 +1,11 @@
 -- `compiler::put_fork` meets its contract: three stores at the front. Assumes nothing.
 use mathlib.Core.Path.{refl}
+use mathlib.Core.List.{[], _∷_}
 use native.Mathlib.Omega.{arith}
 use lib.ListN.{length-set}
 use borrow.Author.Needs.{needs}
 use Rattle.script.specs.Bytes.{bytes16}
-use Rattle.compiler.proofs.Lists.{three-front}
+use Rattle.delivery.proofs.Places.{front-stored}
 use Rattle.compiler.proofs.put_fork.Statement.{statement}
 use Rattle.compiler.proofs.put_fork.Tie as tie
 
@@ -31,7 +32,7 @@ same-length c = search needs
 
 returns : tie.Need-returns
 unfolding bytes16
-returns c = (refl, rw (c .before .high .ensures, c .low .ensures) (three-front (c .before .before .before .args .out .now) _ _ _ (omega arith)))
+returns c = (refl, rw (c .before .high .ensures, c .low .ensures) (front-stored (_ ∷ _ ∷ _ ∷ []) (c .before .before .before .args .out .now) (omega arith)))
 
 pub put-fork-spec : {M : Type 1} → statement M
 put-fork-spec =

@@ -1,10 +1,11 @@
 -- `compiler::put_header` meets its contract: five stores at the front. Assumes nothing.
+use mathlib.Core.List.{[], _∷_}
 use native.Mathlib.Omega.{arith}
 use lib.ListN.{length-set}
 use borrow.Author.Needs.{needs}
 use Rattle.code.specs.Bytes.{codeMark}
 use Rattle.script.specs.Bytes.{bytes16}
-use Rattle.compiler.proofs.Lists.{five-front}
+use Rattle.delivery.proofs.Places.{front-stored}
 use Rattle.compiler.proofs.put_header.Statement.{statement}
 use Rattle.compiler.proofs.put_header.Tie as tie
 
@@ -34,7 +35,7 @@ same-length c = search needs
 
 returns : tie.Need-returns
 unfolding codeMark bytes16
-returns c = rw (c .before .high .ensures, c .low .ensures) (five-front (c .before .before .before .args .out .now) _ _ _ _ _ (c .before .before .before .pre))
+returns c = rw (c .before .high .ensures, c .low .ensures) (front-stored (_ ∷ _ ∷ _ ∷ _ ∷ _ ∷ []) (c .before .before .before .args .out .now) (c .before .before .before .pre))
 
 pub put-header-spec : {M : Type 1} → statement M
 put-header-spec =

@@ -1,9 +1,10 @@
 -- `compiler::put_push` meets its contract: five stores at the front. Assumes nothing.
 use mathlib.Core.Path.{refl}
+use mathlib.Core.List.{[], _∷_}
 use native.Mathlib.Omega.{arith}
 use lib.ListN.{length-set}
 use borrow.Author.Needs.{needs}
-use Rattle.compiler.proofs.Lists.{five-front}
+use Rattle.delivery.proofs.Places.{front-stored}
 use Rattle.compiler.proofs.put_push.Statement.{statement}
 use Rattle.compiler.proofs.put_push.Tie as tie
 
@@ -53,7 +54,7 @@ same-length : tie.Need-same-length
 same-length c = search needs
 
 returns : tie.Need-returns
-returns c = (refl, five-front (c .before .before .before .before .args .out .now) _ _ _ _ _ (c .before .before .before .before .pre .1))
+returns c = (refl, front-stored (_ ∷ _ ∷ _ ∷ _ ∷ _ ∷ []) (c .before .before .before .before .args .out .now) (c .before .before .before .before .pre .1))
 
 pub put-push-spec : {M : Type 1} → statement M
 put-push-spec =

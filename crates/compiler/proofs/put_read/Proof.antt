@@ -1,7 +1,8 @@
 -- `compiler::put_read` meets its contract: two stores at the front. Assumes nothing.
+use mathlib.Core.List.{[], _∷_}
 use mathlib.Core.Path.{refl}
 use borrow.Author.Needs.{needs}
-use Rattle.compiler.proofs.Lists.{two-front}
+use Rattle.delivery.proofs.Places.{front-stored}
 use Rattle.compiler.proofs.put_read.Statement.{statement}
 use Rattle.compiler.proofs.put_read.Tie as tie
 
@@ -24,7 +25,7 @@ same-length : tie.Need-same-length
 same-length c = search needs
 
 returns : tie.Need-returns
-returns c = (refl, two-front (c .before .args .out .now) _ _ (c .before .pre .1))
+returns c = (refl, front-stored (_ ∷ _ ∷ []) (c .before .args .out .now) (c .before .pre .1))
 
 pub put-read-spec : {M : Type 1} → statement M
 put-read-spec =

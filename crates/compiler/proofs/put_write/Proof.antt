@@ -3,7 +3,7 @@ use mathlib.Core.Path.{refl}
 use native.Mathlib.Omega.{arith}
 use lib.ListN.{length-set}
 use borrow.Author.Needs.{needs}
-use Rattle.compiler.proofs.Lists.{two-stored}
+use Rattle.delivery.proofs.Places.{two-stored}
 use Rattle.compiler.proofs.put_write.Statement.{statement}
 use Rattle.compiler.proofs.put_write.Tie as tie
 
@@ -23,7 +23,7 @@ same-length : tie.Need-same-length
 same-length c = search needs
 
 returns : tie.Need-returns
-returns c = (refl, two-stored (c .args .out .now) _ _ _ (c .pre))
+returns c = (refl, two-stored _ _ _ (c .args .out .now) (c .pre))
 
 pub put-write-spec : {M : Type 1} → statement M
 put-write-spec =

@@ -1,6 +1,6 @@
 -- `decompiler::begin` meets its contract. Assumes nothing.
 use native.Mathlib.Omega.{arith}
-use Rattle.decompiler.proofs.Lists.{put-one}
+use Rattle.delivery.proofs.Places.{one-stored}
 use borrow.Author.Needs.{needs}
 use Rattle.decompiler.proofs.begin.Statement.{statement}
 use Rattle.decompiler.proofs.begin.Tie as tie
@@ -15,7 +15,7 @@ same-length : tie.Need-same-length
 same-length c = search needs
 
 returns : tie.Need-returns
-returns c = (c .push .ensures, put-one (c .before .before .args .s .size) 3 (c .before .before .args .out .now) (omega arith))
+returns c = (c .push .ensures, one-stored (c .before .before .args .s .size) 3 (c .before .before .args .out .now) (omega arith))
 
 pub begin-spec : {M : Type 1} → statement M
 begin-spec = tie.close (tie.spec slice-write-out push-requires same-length returns)

@@ -2,7 +2,7 @@
 use Prim.Native.Nat.{_+_}
 use native.Mathlib.Omega.{arith}
 use lib.ListN.{getD, length-set}
-use Rattle.decompiler.proofs.Lists.{put-five}
+use Rattle.decompiler.proofs.Lists.{five-stored}
 use borrow.Author.Needs.{needs}
 use Rattle.decompiler.proofs.push.Statement.{statement}
 use Rattle.decompiler.proofs.push.Tie as tie
@@ -68,7 +68,7 @@ same-length : tie.Need-same-length
 same-length c = search needs
 
 returns : tie.Need-returns
-returns c = (c .push .ensures, rw (← c .before .before .before .before .before .kind .ensures) (put-five (c .before .before .before .before .before .before .before .before .args .s .size) (c .before .before .before .before .before .kind .result) (getD (c .before .before .before .before .before .before .before .before .args .code .now) (c .before .before .before .before .before .before .before .before .args .s .place + 1) 0) (getD (c .before .before .before .before .before .before .before .before .args .code .now) (c .before .before .before .before .before .before .before .before .args .s .place + 2) 0) (getD (c .before .before .before .before .before .before .before .before .args .code .now) (c .before .before .before .before .before .before .before .before .args .s .place + 3) 0) (getD (c .before .before .before .before .before .before .before .before .args .code .now) (c .before .before .before .before .before .before .before .before .args .s .place + 4) 0) (c .before .before .before .before .before .before .before .before .args .out .now) (omega arith)))
+returns c = (c .push .ensures, rw (← c .before .before .before .before .before .kind .ensures) (five-stored (c .before .before .before .before .before .before .before .before .args .s .size) (c .before .before .before .before .before .kind .result) (getD (c .before .before .before .before .before .before .before .before .args .code .now) (c .before .before .before .before .before .before .before .before .args .s .place + 1) 0) (getD (c .before .before .before .before .before .before .before .before .args .code .now) (c .before .before .before .before .before .before .before .before .args .s .place + 2) 0) (getD (c .before .before .before .before .before .before .before .before .args .code .now) (c .before .before .before .before .before .before .before .before .args .s .place + 3) 0) (getD (c .before .before .before .before .before .before .before .before .args .code .now) (c .before .before .before .before .before .before .before .before .args .s .place + 4) 0) (c .before .before .before .before .before .before .before .before .args .out .now) (omega arith)))
 
 pub push-spec : {M : Type 1} → statement M
 push-spec =

@@ -1,10 +1,10 @@
 -- `decompiler::put_header` meets its contract. Assumes nothing.
-use Prim.Native.Nat.{_/_, _%_}
+use mathlib.Core.List.{[], _∷_}
 use native.Mathlib.Omega.{arith}
-use lib.ListN.{getD, length-set}
-use Rattle.decompiler.specs.Parts.{header}
+use lib.ListN.{length-set}
+use Rattle.decompiler.specs.InnerParts.{jobHeader}
 use Rattle.script.specs.Bytes.{jobMark, bytes16}
-use Rattle.decompiler.proofs.Lists.{put-seven}
+use Rattle.delivery.proofs.Places.{front-stored}
 use borrow.Author.Needs.{needs}
 use Rattle.decompiler.proofs.put_header.Statement.{statement}
 use Rattle.decompiler.proofs.put_header.Tie as tie
@@ -30,14 +30,14 @@ shared-slice-read-out-2 c = search needs
 slice-write-out-5 : tie.Need-slice-write-out-5
 slice-write-out-5 c = simp length-set (omega arith)
 
-cast-out : tie.Need-cast-out
-cast-out c = search needs
+high-requires : tie.Need-high-requires
+high-requires c κs = search needs
 
 slice-write-out-6 : tie.Need-slice-write-out-6
 slice-write-out-6 c = simp length-set (omega arith)
 
-cast-out-2 : tie.Need-cast-out-2
-cast-out-2 c = search needs
+low-requires : tie.Need-low-requires
+low-requires c κs = search needs
 
 slice-write-out-7 : tie.Need-slice-write-out-7
 slice-write-out-7 c = simp length-set (omega arith)
@@ -46,8 +46,8 @@ same-length : tie.Need-same-length
 same-length c = search needs
 
 returns : tie.Need-returns
-unfolding header jobMark bytes16
-returns c = put-seven 87 83 74 (getD (c .before .before .args .code .now) 3 0) (getD (c .before .before .args .code .now) 4 0) (c .before .before .args .nodes / 256 % 256) (c .before .before .args .nodes % 256) (c .before .before .args .out .now) (omega arith)
+unfolding jobHeader jobMark bytes16
+returns c = rw (c .before .high .ensures, c .low .ensures) (front-stored (_ ∷ _ ∷ _ ∷ _ ∷ _ ∷ _ ∷ _ ∷ []) (c .before .before .before .before .before .before .args .out .now) (omega arith))
 
 pub put-header-spec : {M : Type 1} → statement M
 put-header-spec =
@@ -60,9 +60,9 @@ put-header-spec =
     slice-write-out-4
     shared-slice-read-out-2
     slice-write-out-5
-    cast-out
+    high-requires
     slice-write-out-6
-    cast-out-2
+    low-requires
     slice-write-out-7
     same-length
     returns)

@@ -2,7 +2,7 @@
 use Prim.Native.Nat.{_+_}
 use native.Mathlib.Omega.{arith}
 use lib.ListN.{getD, length-set}
-use Rattle.decompiler.proofs.Lists.{put-two}
+use Rattle.delivery.proofs.Places.{two-stored}
 use borrow.Author.Needs.{needs}
 use Rattle.decompiler.proofs.read.Statement.{statement}
 use Rattle.decompiler.proofs.read.Tie as tie
@@ -29,7 +29,7 @@ same-length : tie.Need-same-length
 same-length c = search needs
 
 returns : tie.Need-returns
-returns c = (c .push .ensures, put-two (c .before .before .before .before .args .s .size) 7 (getD (c .before .before .before .before .args .code .now) (c .before .before .before .before .args .s .place + 1) 0) (c .before .before .before .before .args .out .now) (omega arith))
+returns c = (c .push .ensures, two-stored (c .before .before .before .before .args .s .size) 7 (getD (c .before .before .before .before .args .code .now) (c .before .before .before .before .args .s .place + 1) 0) (c .before .before .before .before .args .out .now) (omega arith))
 
 pub read-spec : {M : Type 1} → statement M
 read-spec =

@@ -5,10 +5,9 @@ use native.Mathlib.Omega.{arith}
 use lib.ListN.{getD}
 use mir.Syntax.{w8}
 use mir.Val.{Fits}
-use Rattle.decompiler.specs.Parts.{onto}
-use Rattle.decompiler.specs.Walk.{weight}
+use Rattle.decompiler.specs.InnerWalk.{weight}
 use Rattle.script.specs.Bytes.{Bytes}
-use Rattle.decompiler.proofs.Whole.{Inv, header-fits, inv-start, inv-length, inv-end}
+use Rattle.decompiler.proofs.Whole.{PassInv, header-fits, inv-start, inv-length, inv-end}
 use Rattle.decompiler.proofs.restore.Statement.{statement}
 use Rattle.decompiler.proofs.restore.Tie as tie
 
@@ -16,7 +15,7 @@ bytes-of : (code : List ℕ) → ((i : ℕ) → Fits w8 (getD code i 0)) → Byt
 bytes-of code h = record { small = λ i l. omega (arith, h i) }
 
 abbrev Inv-loop : tie.InvT-loop
-Inv-loop code nodes out₀ s₀ out s = Inv code nodes out₀ out s
+Inv-loop code nodes out₀ s₀ out s = PassInv code nodes out₀ out s
 
 abbrev μ-loop : tie.MeasureT-loop
 μ-loop code nodes out₀ s₀ out s = weight code s
@@ -43,7 +42,6 @@ same-length : tie.Need-same-length Inv-loop μ-loop
 same-length c = inv-length (c .before .before .before .before .before .before .before .before .before .before .args .code .now) (c .before .before .before .before .before .before .before .before .before .before .args .nodes) (c .before .before .before .before .before .before .before .before .before .before .args .out .now) (bytes-of (c .before .before .before .before .before .before .before .before .before .before .args .code .now) (c .before .before .before .before .before .before .before .before .before .shared-slice-known .given)) (c .before .before .before .before .before .before .before .before .before .before .pre) _ _ _ (c .before .before .before .before .before .before .put-header .ensures) (c .before .before .loop .inv)
 
 returns : tie.Need-returns Inv-loop μ-loop
-unfolding onto
 returns c = inv-end (c .before .before .before .before .before .before .before .before .before .before .args .code .now) (c .before .before .before .before .before .before .before .before .before .before .args .nodes) (c .before .before .before .before .before .before .before .before .before .before .args .out .now) (bytes-of (c .before .before .before .before .before .before .before .before .before .before .args .code .now) (c .before .before .before .before .before .before .before .before .before .shared-slice-known .given)) (c .before .before .before .before .before .before .before .before .before .before .pre) _ _ _ (c .before .before .before .before .before .before .put-header .ensures) (c .before .before .loop .inv) (omega arith)
 
 pub restore-spec : {M : Type 1} → statement M

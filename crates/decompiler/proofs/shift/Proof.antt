@@ -2,7 +2,7 @@
 use Prim.Native.Nat.{ℕ, _-_, _≤_}
 use mathlib.Core.Path.{_≡_, ap, _∙_}
 use native.Mathlib.Omega.{arith}
-use Rattle.decompiler.specs.Parts.{shifted}
+use Rattle.decompiler.specs.InnerParts.{shifted}
 use Rattle.decompiler.proofs.Lists.{shift-none, shift-length, shift-turn}
 use Rattle.decompiler.proofs.shift.Statement.{statement}
 use Rattle.decompiler.proofs.shift.Tie as tie

@@ -1,7 +1,7 @@
 -- `decompiler::step` meets its contract: by the instruction. Assumes nothing.
 use mathlib.Core.Path.{refl, sym, _∙_}
 use native.Mathlib.Omega.{arith}
-use Rattle.decompiler.proofs.Turns.{open-few, found-at, found-last, push-fits, push-turn, add-fits, add-turn, read-fits, read-turn, write-fits, write-turn, begin-fits, begin-turn, commit-fits, commit-turn, fork-fits, fork-turn, close-fits, close-turn, walked-as}
+use Rattle.decompiler.proofs.Turns.{open-few, found-at, no-other, push-fits, push-turn, add-fits, add-turn, read-fits, read-turn, write-fits, write-turn, begin-fits, begin-turn, commit-fits, commit-turn, fork-fits, fork-turn, close-fits, close-turn, walked-as}
 use borrow.Author.Needs.{needs}
 use Rattle.decompiler.proofs.step.Statement.{statement}
 use Rattle.decompiler.proofs.step.Tie as tie
@@ -37,7 +37,7 @@ merge-requires : tie.Need-merge-requires
 merge-requires c κs = let m = commit-fits (c .before .before .before .before .before .before .pre .walk .stands) (found-at (c .before .before .before .before .before .before .pre .walk .stands) (sym (c .before .before .before .is-at-end .ensures) ∙ c .before .before .if1 .left) (c .before .before .before .before .before .before .pre .more) 6 (c .match .keys6)) (c .before .before .before .before .before .before .pre .more) in omega arith
 
 fork-requires : tie.Need-fork-requires
-fork-requires c κs = fork-fits (c .before .before .before .before .before .before .before .pre .walk .stands) (found-last (c .before .before .before .before .before .before .before .pre .walk .stands) (sym (c .before .before .before .before .is-at-end .ensures) ∙ c .before .before .before .if1 .left) (c .before .before .before .before .before .before .before .pre .more) (c .before .match .rest .0 .0 .0 .0 .0 .1) (c .before .match .rest .0 .0 .0 .0 .1) (c .before .match .rest .0 .0 .0 .1) (c .before .match .rest .0 .0 .1) (c .before .match .rest .0 .1) (c .before .match .rest .1))
+fork-requires c κs = fork-fits (c .before .before .before .before .before .before .before .pre .walk .stands) (found-at (c .before .before .before .before .before .before .before .pre .walk .stands) (sym (c .before .before .before .before .is-at-end .ensures) ∙ c .before .before .before .if1 .left) (c .before .before .before .before .before .before .before .pre .more) 7 (c .before .match .keys7))
 
 same-length : tie.Need-same-length
 same-length c = search needs
@@ -76,7 +76,10 @@ same-length-6 : tie.Need-same-length-6
 same-length-6 c = search needs
 
 returns-8 : tie.Need-returns-8
-returns-8 c = λ head before p w. walked-as (fork-turn (w .stands) (found-last (w .stands) (sym (c .before .before .before .before .before .before .before .is-at-end .ensures) ∙ c .before .before .before .before .before .before .if1 .left) (c .before .before .before .before .before .before .before .before .before .before .pre .more) (c .before .before .before .before .match .rest .0 .0 .0 .0 .0 .1) (c .before .before .before .before .match .rest .0 .0 .0 .0 .1) (c .before .before .before .before .match .rest .0 .0 .0 .1) (c .before .before .before .before .match .rest .0 .0 .1) (c .before .before .before .before .match .rest .0 .1) (c .before .before .before .before .match .rest .1))) (c .before .before .fork .ensures .0) (c .before .before .fork .ensures .1)
+returns-8 c = λ head before p w. walked-as (fork-turn (w .stands) (found-at (w .stands) (sym (c .before .before .before .before .before .before .before .is-at-end .ensures) ∙ c .before .before .before .before .before .before .if1 .left) (c .before .before .before .before .before .before .before .before .before .before .pre .more) 7 (c .before .before .before .before .match .keys7))) (c .before .before .fork .ensures .0) (c .before .before .fork .ensures .1)
+
+returns-9 : tie.Need-returns-9
+returns-9 c = λ head before p w. absurd (no-other (w .stands) (sym (c .before .before .before .is-at-end .ensures) ∙ c .before .before .if1 .left) (c .before .before .before .before .before .before .pre .more) (c .match .rest .0 .0 .0 .0 .0 .0 .1) (c .match .rest .0 .0 .0 .0 .0 .1) (c .match .rest .0 .0 .0 .0 .1) (c .match .rest .0 .0 .0 .1) (c .match .rest .0 .0 .1) (c .match .rest .0 .1) (c .match .rest .1))
 
 pub step-spec : {M : Type 1} → statement M
 step-spec =
@@ -105,4 +108,5 @@ step-spec =
     returns-6
     returns-7
     same-length-6
-    returns-8)
+    returns-8
+    returns-9)

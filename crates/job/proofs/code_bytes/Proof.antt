@@ -1,24 +1,24 @@
 -- `job::code_bytes` meets its contract. Assumes nothing.
 use mathlib.Core.Logic.{⊎-elim, inl, inr}
 use borrow.Author.Tests.{ne-eqb}
-use Rattle.job.specs.Scan.{codeOf}
+use Rattle.job.specs.InnerScan.{codeOfKind}
 use Rattle.job.proofs.code_bytes.Statement.{statement}
 use Rattle.job.proofs.code_bytes.Tie as tie
 
 returns : tie.Need-returns
-unfolding codeOf
+unfolding codeOfKind
 returns c = ⊎-elim (λ e. rw e) (λ e. rw e) (c .match .keys1)
 
 returns-2 : tie.Need-returns-2
-unfolding codeOf
+unfolding codeOfKind
 returns-2 c = ⊎-elim (λ e. rw e) (λ e. rw e) (c .match .keys2)
 
 returns-3 : tie.Need-returns-3
-unfolding codeOf
+unfolding codeOfKind
 returns-3 c = rw (c .match .keys3)
 
 returns-4 : tie.Need-returns-4
-unfolding codeOf
+unfolding codeOfKind
 returns-4 c =
     let k = c .before .args .kind in
     let m = c .match .rest in

@@ -1,22 +1,20 @@
 -- `job::nodes` meets its contract: the loop follows `readNodes`, and what is left of the count falls. Assumes nothing.
 use Prim.Native.Nat.{ℕ}
 use mathlib.Core.Path.{sym, ap, subst, _∙_}
-use mathlib.Core.List.{List}
 use native.Mathlib.Omega.{arith}
-use lib.ListN.{getD}
 use Rattle.script.proofs.Numbers.{bytes-of}
-use Rattle.job.specs.declared.Scan.{Scan}
-use Rattle.job.specs.Scan.{part}
+use Rattle.job.specs.declared.Reader.{Reader}
+use Rattle.job.specs.InnerScan.{heldPart}
 use Rattle.job.proofs.Advance.{one-less}
-use Rattle.job.proofs.Walk.{Inv, inv-start, height-most, used-up, node-refused, node-ready, node-read, over, complete}
+use Rattle.job.proofs.Walk.{ReaderInv, inv-start, height-most, used-up, node-refused, node-ready, node-read, over, complete}
 use Rattle.job.proofs.nodes.Statement.{statement}
 use Rattle.job.proofs.nodes.Tie as tie
 
-abbrev left-of : Scan → ℕ
+abbrev left-of : Reader → ℕ
 left-of s = s .left
 
 abbrev Inv-loop : tie.InvT-loop
-Inv-loop job version count s₀ s = Inv job version count s
+Inv-loop job version count s₀ s = ReaderInv job version count s
 
 abbrev μ-loop : tie.MeasureT-loop
 μ-loop job version count s₀ s = s .left
@@ -25,7 +23,7 @@ start-requires : tie.Need-start-requires Inv-loop μ-loop
 start-requires c κs = tt
 
 loop-holds : tie.Need-loop-holds Inv-loop μ-loop
-loop-holds c = let a = c .before .before .args in subst (Inv (a .job .now) (a .version) (a .count)) (sym (c .start .ensures)) (inv-start (a .job .now) (a .version) (a .count) (c .before .before .pre .0) (c .before .before .pre .1))
+loop-holds c = let a = c .before .before .args in subst (ReaderInv (a .job .now) (a .version) (a .count)) (sym (c .start .ensures)) (inv-start (a .job .now) (a .version) (a .count) (c .before .before .pre .0) (c .before .before .pre .1))
 
 returns : tie.Need-returns Inv-loop μ-loop
 returns c = used-up (c .before .before .before .before .before .args .job .now) (c .before .before .before .before .before .args .version) (c .before .before .before .before .before .args .count) (c .before .before .loop .s) (bytes-of (c .before .before .before .before .before .args .job .now) (c .before .before .before .before .shared-slice-known .given)) (c .before .before .loop .inv) (c .before .loop-test .taken) (c .if1 .taken)
@@ -43,21 +41,21 @@ enum-known-found : tie.Need-enum-known-found Inv-loop μ-loop
 enum-known-found c = c .match .keys1
 
 advance-requires : tie.Need-advance-requires Inv-loop μ-loop
-unfolding part
+unfolding heldPart
 advance-requires c κs = node-ready (c .before .before .before .before .before .before .before .before .before .before .args .job .now) (c .before .before .before .before .before .before .before .before .before .before .args .version) (c .before .before .before .before .before .before .before .before .before .before .args .count) (c .before .before .before .before .before .before .before .loop .s) (bytes-of (c .before .before .before .before .before .before .before .before .before .before .args .job .now) (c .before .before .before .before .before .before .before .before .before .shared-slice-known .given)) (c .before .before .before .before .before .before .before .loop .inv) (c .before .before .before .before .before .before .loop-test .taken) (omega arith) (omega arith) _ (sym (c .before .before .before .node .ensures) ∙ c .before .found .given .1)
 
 loop-less : tie.Need-loop-less Inv-loop μ-loop
 loop-less c = rw (ap left-of (c .advance .ensures) ∙ one-less _ _) (omega arith)
 
 loop-again : tie.Need-loop-again Inv-loop μ-loop
-unfolding part
-loop-again c = subst (Inv _ _ _) (sym (c .advance .ensures)) (node-read (c .before .before .before .before .before .before .before .before .before .before .before .args .job .now) (c .before .before .before .before .before .before .before .before .before .before .before .args .version) (c .before .before .before .before .before .before .before .before .before .before .before .args .count) (c .before .before .before .before .before .before .before .before .loop .s) (bytes-of (c .before .before .before .before .before .before .before .before .before .before .before .args .job .now) (c .before .before .before .before .before .before .before .before .before .before .shared-slice-known .given)) (c .before .before .before .before .before .before .before .before .loop .inv) (c .before .before .before .before .before .before .before .loop-test .taken) (omega arith) _ (sym (c .before .before .before .before .node .ensures) ∙ c .before .before .found .given .1))
+unfolding heldPart
+loop-again c = subst (ReaderInv _ _ _) (sym (c .advance .ensures)) (node-read (c .before .before .before .before .before .before .before .before .before .before .before .args .job .now) (c .before .before .before .before .before .before .before .before .before .before .before .args .version) (c .before .before .before .before .before .before .before .before .before .before .before .args .count) (c .before .before .before .before .before .before .before .before .loop .s) (bytes-of (c .before .before .before .before .before .before .before .before .before .before .before .args .job .now) (c .before .before .before .before .before .before .before .before .before .before .shared-slice-known .given)) (c .before .before .before .before .before .before .before .before .loop .inv) (c .before .before .before .before .before .before .before .loop-test .taken) (omega arith) _ (sym (c .before .before .before .before .node .ensures) ∙ c .before .before .found .given .1))
 
 enum-known-found-2 : tie.Need-enum-known-found-2 Inv-loop μ-loop
 enum-known-found-2 c = c .match .keys2
 
 returns-2 : tie.Need-returns-2 Inv-loop μ-loop
-unfolding part
+unfolding heldPart
 returns-2 c = node-refused (c .before .before .before .before .before .before .before .before .before .before .args .job .now) (c .before .before .before .before .before .before .before .before .before .before .args .version) (c .before .before .before .before .before .before .before .before .before .before .args .count) (c .before .before .before .before .before .before .before .loop .s) (bytes-of (c .before .before .before .before .before .before .before .before .before .before .args .job .now) (c .before .before .before .before .before .before .before .before .before .shared-slice-known .given)) (c .before .before .before .before .before .before .before .loop .inv) (c .before .before .before .before .before .before .loop-test .taken) (omega arith) _ _ (sym (c .before .before .before .node .ensures) ∙ c .before .found2 .given .1)
 
 left-over-requires : tie.Need-left-over-requires Inv-loop μ-loop

@@ -5,7 +5,7 @@ use mathlib.Core.Logic.{_⊎_, ⊎-elim, inl, inr}
 use native.Mathlib.Decide.{ℕ-discrete}
 use native.Mathlib.Omega.{arith}
 use borrow.Author.Tests.{ne-eqb}
-use Rattle.script.specs.Reader.{operand as size}
+use Rattle.script.specs.Jobs.{operand as size}
 use Rattle.job.proofs.operand.Statement.{statement}
 use Rattle.job.proofs.operand.Tie as tie
 

@@ -3,10 +3,10 @@ use Prim.Native.Nat.{ℕ, _-_, _<_}
 use mathlib.Core.Path.{_≡_, sym, ap, subst, _∙_}
 use mathlib.Core.List.{List}
 use native.Mathlib.Omega.{arith}
-use lib.ListN.{length, drop, getD}
+use lib.ListN.{length, drop}
 use borrow.Author.Tests.{not-true, not-false}
 use Rattle.scan.specs.declared.Scan.{Scan}
-use Rattle.scan.specs.View.{viewed, Small}
+use Rattle.scan.specs.InnerView.{viewed, ShortFork}
 use Rattle.script.proofs.Numbers.{bytes-drop, bytes-of}
 use Rattle.scan.proofs.Fits.{good-of}
 use Rattle.scan.proofs.Loops.{ahead, Loop, loop-start, settle-bad, at-end, step-bad, step-good, further, op-small}
@@ -49,7 +49,7 @@ op-at-requires : tie.Need-op-at-requires Inv-loop μ-loop
 op-at-requires c κs = tt
 
 step-requires : tie.Need-step-requires Inv-loop μ-loop
-step-requires c κs = (c .before .before .before .before .settle .ensures .fit (not-false _ (c .before .before .if1 .left)), subst Small (sym (c .op-at .ensures)) (op-small (drop (c .before .before .before .before .settle .result .place) (c .before .before .before .before .before .before .before .before .args .code .now)) (bytes-drop (c .before .before .before .before .settle .result .place) (bytes-of (c .before .before .before .before .before .before .before .before .args .code .now) (c .before .before .before .before .before .before .before .shared-slice-known .given)))))
+step-requires c κs = (c .before .before .before .before .settle .ensures .fit (not-false _ (c .before .before .if1 .left)), subst ShortFork (sym (c .op-at .ensures)) (op-small (drop (c .before .before .before .before .settle .result .place) (c .before .before .before .before .before .before .before .before .args .code .now)) (bytes-drop (c .before .before .before .before .settle .result .place) (bytes-of (c .before .before .before .before .before .before .before .before .args .code .now) (c .before .before .before .before .before .before .before .shared-slice-known .given)))))
 
 returns-3 : tie.Need-returns-3 Inv-loop μ-loop
 unfolding ahead

@@ -1,7 +1,7 @@
 -- `scan::Scan::add` meets its contract. Assumes nothing.
 use Prim.Native.Nat.{ℕ, _-_, max}
 use mathlib.Core.Path.{ap, _∙_}
-use Rattle.scan.specs.View.{setTo, kindAt, reachAt}
+use Rattle.scan.specs.InnerView.{setTo, kindAt, reachAt}
 use Rattle.scan.proofs.Branches.{add-low, add-part, add-other, add-done}
 use borrow.Author.Needs.{needs}
 use Rattle.scan.proofs.Scan.add.Statement.{statement}

@@ -1,6 +1,6 @@
 -- `scan::Scan::close` meets its contract. Assumes nothing.
 use mathlib.Core.Path.{_∙_}
-use Rattle.scan.specs.View.{joined}
+use Rattle.scan.specs.InnerView.{joined}
 use Rattle.scan.proofs.Branches.{close-low, close-above, close-below, close-done}
 use borrow.Author.Needs.{needs}
 use Rattle.scan.proofs.Scan.close.Statement.{statement}

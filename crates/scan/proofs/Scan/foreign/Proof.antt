@@ -1,6 +1,6 @@
 -- `scan::Scan::foreign` meets its contract. Assumes nothing.
 use mathlib.Core.Path.{refl}
-use Rattle.scan.specs.View.{bad}
+use Rattle.scan.specs.InnerView.{bad}
 use Rattle.scan.proofs.Scan.foreign.Statement.{statement}
 use Rattle.scan.proofs.Scan.foreign.Tie as tie
 

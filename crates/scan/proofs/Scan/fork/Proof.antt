@@ -1,7 +1,7 @@
 -- `scan::Scan::fork` meets its contract. Assumes nothing.
 use native.Mathlib.Omega.{arith}
 use borrow.Author.Tests.{not-true, not-false}
-use Rattle.scan.specs.View.{opened}
+use Rattle.scan.specs.InnerView.{opened}
 use Rattle.scan.proofs.Branches.{fork-bad, fork-done}
 use borrow.Author.Needs.{needs}
 use Rattle.scan.proofs.Scan.fork.Statement.{statement}

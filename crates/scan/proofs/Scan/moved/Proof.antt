@@ -1,6 +1,6 @@
 -- `scan::Scan::moved` meets its contract. Assumes nothing.
 use mathlib.Core.Path.{refl}
-use Rattle.scan.specs.View.{movedTo}
+use Rattle.scan.specs.InnerView.{movedTo}
 use borrow.Author.Needs.{needs}
 use Rattle.scan.proofs.Scan.moved.Statement.{statement}
 use Rattle.scan.proofs.Scan.moved.Tie as tie

@@ -1,7 +1,7 @@
 -- `scan::Scan::set` meets its contract. Assumes nothing.
 use mathlib.Core.Path.{_∙_}
 use native.Mathlib.Omega.{arith}
-use Rattle.scan.specs.View.{placed}
+use Rattle.scan.specs.InnerView.{itemPut}
 use Rattle.scan.proofs.Branches.{set-deep, set-many, set-forks, set-done}
 use borrow.Author.Needs.{needs}
 use Rattle.scan.proofs.Scan.set.Statement.{statement}
@@ -47,7 +47,7 @@ add-self : tie.Need-add-self
 add-self c = omega (arith, c .before .before .before .pre .1 (c .before .before .if1 .left))
 
 returns-4 : tie.Need-returns-4
-unfolding placed
+unfolding itemPut
 returns-4 c = set-done (c .before .before .before .args .t1) (c .before .before .before .args .height) (c .before .before .before .args .kind) (c .before .before .before .args .reach) (c .before .before .before .args .inside) (c .before .before .before .args .nodes) (c .before .before .before .args .forks) (c .before .before .before .args .size) (c .before .before .if1 .left) (c .before .if2 .left) (c .if3 .left)
 
 pub set-spec : {M : Type 1} → statement M

@@ -1,12 +1,12 @@
 -- `scan::Scan::settle` meets its contract: the loop follows `closes`, and the open FORKs fall. Assumes nothing.
 use Prim.Native.Nat.{ℕ, _-_, _≤_}
 use mathlib.Core.Path.{_≡_, refl, sym, ap, subst, _∙_}
-use mathlib.Core.Bool.{Bool, true, false}
+use mathlib.Core.Bool.{true, false}
 use native.Mathlib.Omega.{arith}
 use lib.ListN.{getD}
 use borrow.Author.Tests.{not-true, not-false}
 use Rattle.scan.specs.declared.Scan.{Scan}
-use Rattle.scan.specs.View.{Fit, viewed, closeTo, Settled}
+use Rattle.scan.specs.InnerView.{viewed, closeTo, Settled}
 use Rattle.scan.proofs.Steps.{close-place}
 use Rattle.scan.proofs.Fits.{good-of, close-fit}
 use Rattle.scan.proofs.Loops.{remaining, none-open, not-here, close-bad, close-good, one-less, Closes}

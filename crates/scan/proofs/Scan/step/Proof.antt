@@ -6,7 +6,7 @@ use native.Mathlib.Omega.{arith}
 use Rattle.scan.specs.declared.Op.{Op}
 use Rattle.scan.specs.declared.Op.the-variants as op
 use Rattle.scan.specs.declared.Scan.{Scan}
-use Rattle.scan.specs.View.{Fit, Small, topTo, movedTo, forkTo}
+use Rattle.scan.specs.InnerView.{GoodScan, ShortFork, topTo, movedTo, forkTo}
 use Rattle.scan.proofs.Steps.{top-place, add-place, write-place, commit-place, top-few, top-forked, push-inside, push-outside, an-add, read-inside, read-outside, a-write, begin-inside, begin-outside, a-commit, fork-inside, fork-outside, a-foreign}
 use borrow.Author.Needs.{needs}
 use Rattle.scan.proofs.Scan.step.Statement.{statement}
@@ -21,8 +21,8 @@ good s = s .good
 abbrev forked : Scan → ℕ
 forked s = s .forked
 
-fork-ready : (s t : Scan) (o : Op) (n : ℕ) → o ≡ op.Fork n → Fit s → Small o → t ≡ topTo s 1 false 1 1 → (t .place ≤ 5005) × (n ≤ 65535) × (t .good ≡ true → t .forked < 15)
-fork-ready s t o n e f m r = (omega (arith, ap place r, top-place s 1 false 1 1, f .early), subst Small e m, few)
+fork-ready : (s t : Scan) (o : Op) (n : ℕ) → o ≡ op.Fork n → GoodScan s → ShortFork o → t ≡ topTo s 1 false 1 1 → (t .place ≤ 5005) × (n ≤ 65535) × (t .good ≡ true → t .forked < 15)
+fork-ready s t o n e f m r = (omega (arith, ap place r, top-place s 1 false 1 1, f .early), subst ShortFork e m, few)
   where
     few : t .good ≡ true → t .forked < 15
     few g =

@@ -1,5 +1,5 @@
 -- `scan::Scan::top` meets its contract. Assumes nothing.
-use Rattle.scan.specs.View.{topTo}
+use Rattle.scan.specs.InnerView.{topTo}
 use borrow.Author.Needs.{needs}
 use Rattle.scan.proofs.Scan.top.Statement.{statement}
 use Rattle.scan.proofs.Scan.top.Tie as tie

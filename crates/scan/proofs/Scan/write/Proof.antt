@@ -2,7 +2,7 @@
 use Prim.Native.Nat.{ℕ, _-_}
 use mathlib.Core.Path.{ap, _∙_}
 use mathlib.Core.Bool.{true}
-use Rattle.scan.specs.View.{setTo}
+use Rattle.scan.specs.InnerView.{setTo}
 use borrow.Author.Tests.{not-true, not-false}
 use Rattle.scan.proofs.Branches.{write-low, write-outside, write-other, write-done}
 use borrow.Author.Needs.{needs}
