@@ -4,7 +4,8 @@ use Prim.Native.Nat.{ℕ, suc, _+_, _-_, _≤_, max}
 use mathlib.Core.Path.{_≡_, refl}
 use mathlib.Core.List.{List, [], _∷_, _++_}
 use native.Mathlib.Omega.{arith}
-use Rattle.code.specs.Compile.{Code, ADD, WRITE, COMMIT, ε, _⨾_, compileT, compileP}
+use lib.IntN.{ℤ}
+use Rattle.code.specs.Compile.{Code, PUSH, ADD, READ, WRITE, BEGIN, COMMIT, FORK, ε, _⨾_, compileT, compileP}
 use Rattle.code.specs.Counts.{instructionCount, codeCount, untilCommit, longestAt, longestIn, endHeight, greatest, Takes, RunsIn}
 use Rattle.script.specs.Tree.{Tran, ValT, AddT, Read, Write, Proc, ValP, AddP, Atomic, Fork}
 use Rattle.script.specs.Count.{nodesT, nodesP, depthT, depthP, atomics, instructions, longest, heightT, heightP, childHeights, heights}
@@ -180,3 +181,37 @@ runs-proc n (Fork p) c h d l r = ((omega arith, runs-proc n p ε 0 (omega arith)
 pub runs-in-64 : {p : Proc} → Within p → RunsIn 64 (compileP p ε) 0
 unfolding RunsIn
 runs-in-64 {p} w = runs-proc 64 p ε 0 (w .flat) (omega (arith, height-fits w)) refl
+
+-- ---- what code that runs from a height in n cells has: each instruction finds what it takes, no height is above n, one number is left
+module _ (n h : ℕ) (c : Code) where
+  pub runs-push : (z : ℤ) → RunsIn n (PUSH z ⨾ c) h → (suc h ≤ n) × RunsIn n c (suc h)
+  unfolding RunsIn Takes
+  runs-push z r = r
+
+  pub runs-add : RunsIn n (ADD ⨾ c) h → (2 ≤ h) × RunsIn n c (h - 1)
+  unfolding RunsIn Takes
+  runs-add r = r
+
+  pub runs-read : (v : ℕ) → RunsIn n (READ v ⨾ c) h → (suc h ≤ n) × RunsIn n c (suc h)
+  unfolding RunsIn Takes
+  runs-read v r = r
+
+  pub runs-write : (v : ℕ) → RunsIn n (WRITE v ⨾ c) h → (1 ≤ h) × RunsIn n c h
+  unfolding RunsIn Takes
+  runs-write v r = r
+
+  pub runs-begin : RunsIn n (BEGIN ⨾ c) h → (h ≤ n) × RunsIn n c h
+  unfolding RunsIn Takes
+  runs-begin r = r
+
+  pub runs-commit : RunsIn n (COMMIT ⨾ c) h → (1 ≤ h) × RunsIn n c h
+  unfolding RunsIn Takes
+  runs-commit r = r
+
+  pub runs-fork : (k : Code) → RunsIn n (FORK k ⨾ c) h → ((suc h ≤ n) × RunsIn n k 0) × RunsIn n c (suc h)
+  unfolding RunsIn Takes
+  runs-fork k r = r
+
+pub runs-end : (n h : ℕ) → RunsIn n ε h → h ≡ 1
+unfolding RunsIn
+runs-end n h r = r
