@@ -1,4 +1,4 @@
--- Demand 2 on the machine: "every step agree[s] with the language and machine of source document 002, chapter 5, as document 01 fixes them".
+-- Demand 2 on the machine: every step agrees with the machine of source document 002, chapter 5, "as document 01 fixes them".
 use Prim.Native.Nat.{ℕ, _<_}
 use mathlib.Core.Bool.{true, false}
 use mathlib.Core.Logic.{_↔_}

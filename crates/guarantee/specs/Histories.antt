@@ -59,13 +59,15 @@ pub record Session : Type 0 where
 pub data History (code : List ℕ) : Session → List Happened → Type 0 where
   none : History code (record { code = code; state = fresh code }) []
   turned-down :
-      {now : Session} {events : List Happened} {number place : ℕ} → History code now events → (c : Call) → Lent c →
-      comesTo c ≡ refused number place →
-      History code now events
+      {now : Session} {events : List Happened} {number place : ℕ} →
+      History code now events → (c : Call) → Lent c →
+      comesTo c ≡ refused number place → History code now events
   followed :
-      {now : Session} {events : List Happened} {r : Ran} → History code now events → (c : Call) → Lent c → codeOf c ≡ now .code →
-      stateOf c ≡ now .state → comesTo c ≡ done r →
-      History code (record { code = now .code; state = r .state }) (events ++ r .events)
+      {now : Session} {events : List Happened} {r : Ran} →
+      History code now events → (c : Call) → Lent c →
+      codeOf c ≡ now .code →
+      stateOf c ≡ now .state →
+      comesTo c ≡ done r → History code (record { code = now .code; state = r .state }) (events ++ r .events)
 
 -- the calls of a list, in their order
 unfoldable pub callsOf : {code : List ℕ} {now : Session} {events : List Happened} → History code now events → List Call
