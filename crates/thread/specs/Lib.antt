@@ -1,2 +1,3 @@
 -- The thread record, and what each instruction makes of it.
 pub mod Threads
+pub mod InnerStep

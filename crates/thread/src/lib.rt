@@ -1,4 +1,10 @@
-// The thread record that is lent. What each instruction makes of it is defined in specs/.
+// The thread record that is lent, and one step of a thread, by value.
+ghost use Prim.Native.Nat.{_+_, _-_, _<_, _≤_, _^_};
+ghost use lib.ListN.{length};
+ghost use mathlib.Core.Path.{_≡_};
+ghost use Rattle.thread.specs.InnerStep.{acting, cleared, committed, enoughFor, firstStaleIn, handed, logged, outsideTurn, sourceNumber, staleIn, stepped, storedIn, takesOp, unacted};
+ghost use Rattle.thread.specs.Threads as threads;
+ghost use Rattle.word.specs.Sum.{wrapping};
 
 // A thread. Places count from the code's first byte, so 0 is no place; a record whose `start` is 0 is of no thread.
 #[repr(C)]
@@ -19,4 +25,399 @@ pub struct Thread {
     pub readlog: [i32; 64],
     pub writes: u64,
     pub writelog: [i32; 64],
+}
+
+// What a step hands back: the record, and what was done, in the numbers of a step's answer; a forked child's code, 0 and 0 if there is none.
+pub struct Action {
+    pub thread: Thread,
+    pub event: usize,
+    pub register: usize,
+    pub turn: usize,
+    pub start: usize,
+    pub end: usize,
+}
+
+// Whether the set marks the register and its logged value differs from the table's.
+fn is_stale(reads: u64, readlog: &[i32; 64], registers: &[i32], v: usize) -> bool
+    requires { ⌜ (v < 64) × (length (now registers) ≡ 64) ⌝ }
+    ensures { λ r. ⌜ r ≡ staleIn reads (now (readlog .entry)) (now (registers .entry)) v ⌝ }
+{
+    if word::has(reads, v as u8) {
+        let old = readlog[v];
+        let new = registers[v];
+        if old < new {
+            return true;
+        }
+        return new < old;
+    }
+    false
+}
+
+// The first stale register, or 64.
+fn first_stale(reads: u64, readlog: &[i32; 64], registers: &[i32]) -> usize
+    requires { ⌜ length (now registers) ≡ 64 ⌝ }
+    ensures { λ r. ⌜ r ≡ firstStaleIn 64 0 reads (now (readlog .entry)) (now (registers .entry)) ⌝ }
+{
+    let mut v: usize = 0;
+    let found = loop {
+        if v == 64 {
+            break 64;
+        }
+        if is_stale(reads, readlog, registers, v) {
+            break v;
+        }
+        v += 1;
+    };
+    found
+}
+
+// The marked values go into the table.
+fn store(writes: u64, writelog: &[i32; 64], registers: &mut [i32])
+    requires { ⌜ length (now registers) ≡ 64 ⌝ }
+    ensures { λ _. ⌜ now (registers .exit) ≡ storedIn 64 0 writes (now (writelog .entry)) (now (registers .entry)) ⌝ }
+{
+    let mut v: usize = 0;
+    while v < 64 {
+        if word::has(writes, v as u8) {
+            registers[v] = writelog[v];
+        }
+        v += 1;
+    }
+}
+
+// The cells, those from a height on being 0.
+fn clear(mut cells: [i32; 64], height: usize) -> [i32; 64]
+    requires { ⌜ height ≤ 64 ⌝ }
+    ensures { λ r. ⌜ r ≡ cleared height cells ⌝ }
+{
+    let mut v: usize = height;
+    while v < 64 {
+        cells[v] = 0;
+        v += 1;
+    }
+    cells
+}
+
+// Where READ finds its value, by its event's number.
+fn source(writes: u64, reads: u64, v: u8) -> usize
+    ensures { λ r. ⌜ r ≡ sourceNumber writes reads v ⌝ }
+{
+    if word::has(writes, v) {
+        return 5;
+    }
+    if word::has(reads, v) {
+        return 6;
+    }
+    7
+}
+
+// Whether an outside sum takes a turn.
+fn outside(begin: usize) -> usize
+    ensures { λ r. ⌜ r ≡ outsideTurn begin ⌝ }
+{
+    if begin == 0 {
+        return 1;
+    }
+    0
+}
+
+// How many bytes stand from a place up to the code's end.
+fn behind(length: usize, place: usize) -> usize
+    ensures { λ r. ⌜ r ≡ length - place ⌝ }
+{
+    if place < length {
+        return length - place;
+    }
+    0
+}
+
+// Whether the height is within these bounds and so many bytes are there.
+fn enough(low: usize, height: usize, high: usize, size: usize, left: usize) -> bool
+    ensures { λ r. ⌜ r ≡ enoughFor low height high size left ⌝ }
+{
+    if height < low {
+        return false;
+    }
+    if high < height {
+        return false;
+    }
+    size <= left
+}
+
+// Whether a record has what the instruction takes: numbers or room on its stack, a register and a table of 64, and the instruction's
+// own bytes, so many standing from its place on.
+fn takes(op: ops::Op, height: usize, base: usize, registers: usize, left: usize) -> bool
+    ensures { λ r. ⌜ r ≡ takesOp op height base registers left ⌝ }
+{
+    match op {
+        ops::Op::Push(_n) => enough(0, height, 63, 5, left),
+        ops::Op::Add => enough(2, height, 64, 1, left),
+        ops::Op::Read(v) => {
+            if v > 63 {
+                return false;
+            }
+            if registers != 64 {
+                return false;
+            }
+            enough(0, height, 63, 2, left)
+        }
+        ops::Op::Write(v) => {
+            if v > 63 {
+                return false;
+            }
+            enough(1, height, 64, 2, left)
+        }
+        ops::Op::Begin => enough(0, height, 64, 1, left),
+        ops::Op::Commit => {
+            if base > 64 {
+                return false;
+            }
+            if registers != 64 {
+                return false;
+            }
+            enough(0, height, 64, 1, left)
+        }
+        ops::Op::Fork(size) => {
+            if left < 3 {
+                return false;
+            }
+            enough(0, height, 63, size, left - 3)
+        }
+        ops::Op::Foreign => false,
+    }
+}
+
+// The record after an instruction that forks nothing and is not sent back.
+fn did(thread: Thread, event: usize, turn: usize) -> Action
+    ensures { λ r. ⌜ r ≡ acting event turn thread ⌝ }
+{
+    Action {
+        thread,
+        event,
+        register: 0,
+        turn,
+        start: 0,
+        end: 0,
+    }
+}
+
+impl Thread {
+    // The record as it was, nothing done.
+    fn idle(self) -> Action
+        ensures { λ r. ⌜ r ≡ unacted self ⌝ }
+    {
+        Action {
+            thread: self,
+            event: 0,
+            register: 0,
+            turn: 0,
+            start: 0,
+            end: 0,
+        }
+    }
+
+    // A number on top of the stack, and the next place.
+    fn push(mut self, n: i32, next: usize) -> Thread
+        requires { ⌜ self .height < 64 ⌝ }
+        ensures { λ r. ⌜ r ≡ threads.push n next self ⌝ }
+    {
+        let height = self.height;
+        self.cells[height] = n;
+        self.height = height + 1;
+        self.place = next;
+        self
+    }
+
+    // ADD
+    fn add(mut self) -> Thread
+        requires { ⌜ (2 ≤ self .height) × (self .height ≤ 64) × (self .place + 1 < 2 ^ 64) ⌝ }
+        ensures { λ r. ⌜ r ≡ threads.add wrapping self ⌝ }
+    {
+        let height = self.height;
+        let place = self.place;
+        let a = self.cells[height - 2];
+        let b = self.cells[height - 1];
+        self.cells[height - 2] = word::add(a, b);
+        self.cells[height - 1] = 0;
+        self.height = height - 1;
+        self.place = place + 1;
+        self
+    }
+
+    // BEGIN
+    fn begin(mut self) -> Thread
+        requires { ⌜ self .place + 1 < 2 ^ 64 ⌝ }
+        ensures { λ r. ⌜ r ≡ threads.begin self ⌝ }
+    {
+        let place = self.place;
+        let height = self.height;
+        self.begin = place;
+        self.base = height;
+        self.reads = word::empty();
+        self.readlog = [0; 64];
+        self.writes = word::empty();
+        self.writelog = [0; 64];
+        self.place = place + 1;
+        self
+    }
+
+    // READ of a register that neither log marks: its value is logged and pushed.
+    fn log(mut self, v: u8, n: i32) -> Thread
+        requires { ⌜ (v < 64) × (self .height < 64) × (self .place + 2 < 2 ^ 64) ⌝ }
+        ensures { λ r. ⌜ r ≡ logged v n self ⌝ }
+    {
+        let i = v as usize;
+        let height = self.height;
+        let place = self.place;
+        self.reads = word::insert(self.reads, v);
+        self.readlog[i] = n;
+        self.cells[height] = n;
+        self.height = height + 1;
+        self.place = place + 2;
+        self
+    }
+
+    // READ
+    fn read(self, registers: &[i32], v: u8) -> Thread
+        requires { ⌜ (v < 64) × (self .height < 64) × (self .place + 2 < 2 ^ 64) × (length (now registers) ≡ 64) ⌝ }
+        ensures { λ r. ⌜ r ≡ threads.read (now (registers .entry)) v self ⌝ }
+    {
+        let i = v as usize;
+        let next = self.place + 2;
+        if word::has(self.writes, v) {
+            let n = self.writelog[i];
+            return self.push(n, next);
+        }
+        if word::has(self.reads, v) {
+            let n = self.readlog[i];
+            return self.push(n, next);
+        }
+        let n = registers[i];
+        self.log(v, n)
+    }
+
+    // WRITE
+    fn write(mut self, v: u8) -> Thread
+        requires { ⌜ (v < 64) × (1 ≤ self .height) × (self .height ≤ 64) × (self .place + 2 < 2 ^ 64) ⌝ }
+        ensures { λ r. ⌜ r ≡ threads.write v self ⌝ }
+    {
+        let i = v as usize;
+        let height = self.height;
+        let place = self.place;
+        let n = self.cells[height - 1];
+        self.writes = word::insert(self.writes, v);
+        self.writelog[i] = n;
+        self.place = place + 2;
+        self
+    }
+
+    // At a place with a height, no transaction being open.
+    fn closed(mut self, place: usize, height: usize) -> Thread
+        requires { ⌜ height ≤ 64 ⌝ }
+        ensures { λ r. ⌜ r ≡ threads.closed place height self ⌝ }
+    {
+        let cells = self.cells;
+        let freed = clear(cells, height);
+        self.cells = freed;
+        self.place = place;
+        self.height = height;
+        self.begin = 0;
+        self.base = 0;
+        self.reads = word::empty();
+        self.readlog = [0; 64];
+        self.writes = word::empty();
+        self.writelog = [0; 64];
+        self
+    }
+
+    // COMMIT
+    fn commit(self, registers: &mut [i32]) -> Action
+        requires { ⌜ (self .height ≤ 64) × (self .base ≤ 64) × (self .place + 1 < 2 ^ 64) × (length (now registers) ≡ 64) ⌝ }
+        ensures { λ r. ⌜ handed r (now (registers .exit)) ≡ committed (now (registers .entry)) self ⌝ }
+    {
+        let readlog = self.readlog;
+        let v = first_stale(self.reads, &readlog, registers);
+        if v < 64 {
+            let t = self.closed(self.begin, self.base);
+            return Action {
+                thread: t,
+                event: 10,
+                register: v,
+                turn: 0,
+                start: 0,
+                end: 0,
+            };
+        }
+        let writelog = self.writelog;
+        store(self.writes, &writelog, registers);
+        let t = self.closed(self.place + 1, self.height);
+        Action {
+            thread: t,
+            event: 9,
+            register: 0,
+            turn: 1,
+            start: 0,
+            end: 0,
+        }
+    }
+
+    // One instruction, the one at the record's place. Total: where there is none, or the record has not what it takes, it is handed back idle.
+    pub fn step(self, code: &[u8], registers: &mut [i32]) -> Action
+        ensures { λ r. ⌜ handed r (now (registers .exit)) ≡ stepped wrapping (now (code .entry)) (now (registers .entry)) self ⌝ }
+    {
+        let place = self.place;
+        if self.start == 0 {
+            return self.idle();
+        }
+        if place == self.end {
+            return self.idle();
+        }
+        let op = ops::op_at(code, place);
+        if !takes(
+            op,
+            self.height,
+            self.base,
+            registers.len(),
+            behind(code.len(), place),
+        ) {
+            return self.idle();
+        }
+        match op {
+            ops::Op::Push(n) => {
+                let t = self.push(n, place + 5);
+                did(t, 1, 0)
+            }
+            ops::Op::Add => {
+                let turn = outside(self.begin);
+                let t = self.add();
+                did(t, 2, turn)
+            }
+            ops::Op::Read(v) => {
+                let event = source(self.writes, self.reads, v);
+                let t = self.read(registers, v);
+                did(t, event, 0)
+            }
+            ops::Op::Write(v) => {
+                let t = self.write(v);
+                did(t, 8, 0)
+            }
+            ops::Op::Begin => {
+                let t = self.begin();
+                did(t, 4, 0)
+            }
+            ops::Op::Commit => self.commit(registers),
+            ops::Op::Fork(size) => {
+                let t = self.push(0, place + 3 + size);
+                Action {
+                    thread: t,
+                    event: 3,
+                    register: 0,
+                    turn: 1,
+                    start: place + 3,
+                    end: place + 3 + size,
+                }
+            }
+            ops::Op::Foreign => self.idle(),
+        }
+    }
 }

@@ -1,0 +1,121 @@
+-- Mirrors the methods of `Thread` for their proofs. Nobody has to believe it: in a state that fits, a step is `act` (`step-acts`, machine).
+use Prim.Native.Nat.{ℕ, zero, suc, _+_, _-_}
+use mathlib.Core.Bool.{Bool, true, false, cond, _&&_, _||_}
+use mathlib.Core.List.{List, _++_}
+use lib.Dec.{eqb, leb, ltb}
+use lib.IntN.{ℤ, pos}
+use lib.Signed.{ltZ}
+use lib.ListN.{length, drop, getD, set, take, replicate}
+use Rattle.thread.specs.declared.Action.{Action}
+use Rattle.thread.specs.declared.Thread.{Thread}
+use Rattle.thread.specs.Threads.{push, add, begin, noted, read, write, closed, firstStale, overlaid}
+use Rattle.code.specs.Ops.{opAt}
+use Rattle.ops.specs.Shown.{shownOp}
+use Rattle.ops.specs.declared.Op.{Op}
+use Rattle.ops.specs.declared.Op.the-variants as op
+use Rattle.stm.specs.Events.{fromTable}
+use Rattle.word.specs.Registers.{member}
+use Rattle.word.specs.Sum.{Rule}
+
+-- ---- by the sets and values of a record
+unfoldable pub staleIn : (reads : ℕ) (readlog table : List ℤ) → ℕ → Bool
+staleIn reads readlog table v =
+    member reads v
+    && (ltZ (getD readlog v (pos 0)) (getD table v (pos 0)) || ltZ (getD table v (pos 0)) (getD readlog v (pos 0)))
+
+unfoldable pub firstStaleIn : (left v : ℕ) (reads : ℕ) (readlog table : List ℤ) → ℕ
+firstStaleIn zero v reads readlog table = v
+firstStaleIn (suc left) v reads readlog table =
+    elim (staleIn reads readlog table v) [ true ↦ v | false ↦ firstStaleIn left (suc v) reads readlog table ]
+
+unfoldable pub storedIn : (left v : ℕ) (writes : ℕ) (writelog table : List ℤ) → List ℤ
+storedIn zero v writes writelog table = table
+storedIn (suc left) v writes writelog table =
+    storedIn left (suc v) writes writelog (cond (member writes v) (set table v (getD writelog v (pos 0))) table)
+
+abbrev pub cleared : (height : ℕ) → List ℤ → List ℤ
+cleared height cells = take height cells ++ replicate (64 - height) (pos 0)
+
+unfoldable pub sourceNumber : (writes reads v : ℕ) → ℕ
+sourceNumber writes reads v = cond (member writes v) 5 (cond (member reads v) 6 7)
+
+unfoldable pub outsideTurn : (begin : ℕ) → ℕ
+outsideTurn begin = cond (eqb begin 0) 1 0
+
+-- READ of a register that neither log marks
+abbrev pub logged : ℕ → ℤ → Thread → Thread
+logged v n t = push n (t .place + 2) (noted fromTable v n t)
+
+-- ---- what a step hands back, with the table
+pub record Handed : Type 0 where
+  pub acted : Action
+  pub table : List ℤ
+
+abbrev pub handed : Action → List ℤ → Handed
+handed a table = record { acted = a; table = table }
+
+abbrev pub unacted : Thread → Action
+unacted t = record { thread = t; event = 0; register = 0; turn = 0; start = 0; end = 0 }
+
+abbrev pub acting : (event turn : ℕ) → Thread → Action
+acting event turn t = record { thread = t; event = event; register = 0; turn = turn; start = 0; end = 0 }
+
+abbrev pub committedBy : (stale : Bool) (v : ℕ) (table : List ℤ) → Thread → Handed
+committedBy true v table t =
+    handed (record { thread = closed (t .begin) (t .base) t; event = 10; register = v; turn = 0; start = 0; end = 0 }) table
+committedBy false v table t = handed (acting 9 1 (closed (t .place + 1) (t .height) t)) (overlaid 64 0 t table)
+
+unfoldable pub committed : (table : List ℤ) → Thread → Handed
+committed table t =
+    let v = firstStale 64 0 t table in
+    committedBy (ltb v 64) v table t
+
+-- ---- one step
+-- whether the height is within these bounds and so many bytes are there
+unfoldable pub enoughFor : (low height high size left : ℕ) → Bool
+enoughFor low height high size left = cond (ltb height low) false (cond (ltb high height) false (leb size left))
+
+-- whether a record with this height and base has what an instruction takes, with so many registers, and so many bytes from its place on
+unfoldable pub takesOp : Op → (height base registers left : ℕ) → Bool
+takesOp (op.Push n) h b r left = enoughFor 0 h 63 5 left
+takesOp op.Add h b r left = enoughFor 2 h 64 1 left
+takesOp (op.Read v) h b r left = cond (ltb 63 v) false (cond (eqb r 64) (enoughFor 0 h 63 2 left) false)
+takesOp (op.Write v) h b r left = cond (ltb 63 v) false (enoughFor 1 h 64 2 left)
+takesOp op.Begin h b r left = enoughFor 0 h 64 1 left
+takesOp op.Commit h b r left = cond (ltb 64 b) false (cond (eqb r 64) (enoughFor 0 h 64 1 left) false)
+takesOp (op.Fork size) h b r left = cond (ltb left 3) false (enoughFor 0 h 63 size (left - 3))
+takesOp op.Foreign h b r left = false
+
+unfoldable pub performed : Rule → (table : List ℤ) → Thread → Op → Handed
+performed sum table t (op.Push n) = handed (acting 1 0 (push n (t .place + 5) t)) table
+performed sum table t op.Add = handed (acting 2 (outsideTurn (t .begin)) (add sum t)) table
+performed sum table t (op.Read v) = handed (acting (sourceNumber (t .writes) (t .reads) v) 0 (read table v t)) table
+performed sum table t (op.Write v) = handed (acting 8 0 (write v t)) table
+performed sum table t op.Begin = handed (acting 4 0 (begin t)) table
+performed sum table t op.Commit = committed table t
+performed sum table t (op.Fork size) =
+    handed
+    (record {
+      thread = push (pos 0) (t .place + 3 + size) t;
+      event = 3;
+      register = 0;
+      turn = 1;
+      start = t .place + 3;
+      end = t .place + 3 + size;
+    })
+    table
+performed sum table t op.Foreign = handed (unacted t) table
+
+unfoldable pub attempted : Rule → (code : List ℕ) (table : List ℤ) → Thread → Op → Handed
+attempted sum bytes table t o =
+    elim (takesOp o (t .height) (t .base) (length table) (length bytes - t .place)) [
+      | true ↦ performed sum table t o
+      | false ↦ handed (unacted t) table
+    ]
+
+unfoldable pub stepped : Rule → (code : List ℕ) (table : List ℤ) → Thread → Handed
+stepped sum bytes table t =
+    elim (eqb (t .start) 0 || eqb (t .place) (t .end)) [
+      | true ↦ handed (unacted t) table
+      | false ↦ attempted sum bytes table t (shownOp (opAt (drop (t .place) bytes)))
+    ]
