@@ -21,3 +21,4 @@ pub mod Agrees
 pub mod Ranges
 pub mod Tallies
 pub mod Found
+pub mod Actings

@@ -1,6 +1,7 @@
 -- The machine of document 01, "One pick, one step".
 pub mod Steps
 pub mod InnerTally
+pub mod InnerTurn
 pub mod Fits
 pub mod FitTest
 pub mod Answers

@@ -1,0 +1,228 @@
+-- The by-value step of a record is `act` in a state that fits, and picks go through it. Assumes nothing.
+use Prim.Native.Nat.{ℕ, zero, suc, _+_, _-_, _≤_, _<_}
+use mathlib.Core.Bool.{Bool, true, false, cond, not, _||_}
+use mathlib.Core.Path.{_≡_, refl, sym, ap, ap₂, subst, _∙_}
+use mathlib.Core.List.{List, [], _∷_, _++_}
+use native.Mathlib.Omega.{arith}
+use borrow.Author.Tests.{le-ltb, lt-ltb, le-leb, eq-eqb, ne-eqb, eqb-true, eqb-false}
+use lib.Dec.{eqb, ltb}
+use lib.IntN.{ℤ, pos}
+use lib.ListN.{length, drop, getD, set, length-append}
+use lib.Seq.{set-getD}
+use Rattle.code.specs.Compile.{Instruction, Code, PUSH, ADD, READ, WRITE, BEGIN, COMMIT, FORK, ε, _⨾_}
+use Rattle.code.specs.Bytes.{instructionBytes, instructionsBytes, IsCode}
+use Rattle.code.specs.Counts.{Takes}
+use Rattle.code.specs.Ops.{Op, opAt}
+use Rattle.code.specs.Ops as code
+use Rattle.ops.specs.Shown.{showOp, shownOp}
+use Rattle.script.specs.Bytes.{bytes16, bytes32}
+use Rattle.script.specs.Jobs.{Job}
+use Rattle.script.specs.Outcome.{Outcome, done}
+use Rattle.thread.specs.declared.Action.{Action}
+use Rattle.thread.specs.declared.Thread.{Thread}
+use Rattle.thread.specs.Threads.{exists, blank, add, read, sourceOf, firstStale}
+use Rattle.thread.specs.InnerStep.{enoughFor, takesOp, sourceNumber, outsideTurn, Handed, handed, unacted, committed, committedBy, performed, attempted, stepped}
+use Rattle.machine.specs.Steps.{State, Stepped, Acted, Child, alters, committing, commit, act, settle, threadAt, pickAmong, DoesOne}
+use Rattle.machine.specs.Fits.{Exists, Fits, Typed}
+use Rattle.machine.specs.InnerStands.{registerCells, opOf, Ready}
+use Rattle.machine.specs.InnerTurn.{childrenAs, actedAs}
+use Rattle.machine.specs.Stands.{Stands, ValuedI, ValuedC}
+use Rattle.machine.proofs.Numbers.{in-table}
+use Rattle.machine.proofs.Codes.{stands-end, stands-inside, ready-op, ready-takes}
+use Rattle.machine.proofs.Mirrors.{no-inside}
+use Rattle.machine.proofs.Picks.{missing-idle, ended-idle, does}
+use Rattle.machine.proofs.Regions.{held}
+use Rattle.machine.proofs.Simulates.{Held}
+use Rattle.machine.proofs.Shapes.{Shape, out, open′ as shape-open, shape}
+use Rattle.machine.proofs.Runs.{shows-of}
+use Rattle.machine.proofs.Showings.{Shows, shut, open′}
+use Rattle.machine.proofs.Agrees.{outer, does-one}
+use Rattle.stm.specs.Events.{Source, fromWrites, fromReads, fromTable, looked, idle, summed, committed as takenEffect, sentBack, more, eventNumber, eventRegister, turnNumber, eventOf}
+use Rattle.stm.specs.InnerTasks.{Task}
+use Rattle.word.specs.Registers.{member}
+use Rattle.word.specs.Sum.{Rule, InRange}
+
+-- ---- a record has what its instruction takes
+enough-yes : (low h high size left : ℕ) → low ≤ h → h ≤ high → size ≤ left → enoughFor low h high size left ≡ true
+unfolding enoughFor
+enough-yes low h high size left a b c = rw (le-ltb h low a, le-ltb high h b, le-leb size left c)
+
+-- the bytes of an instruction stand behind its place
+own-bytes : (bytes : List ℕ) (place end : ℕ) (i : Instruction) (c : Code) → Stands bytes place end (i ⨾ c) → length (instructionBytes i) ≤ length bytes - place
+unfolding instructionsBytes
+own-bytes bytes place end i c s =
+    let a : length bytes ≡ length (s .front) + length (instructionsBytes (i ⨾ c) ++ s .rest) = ap length (s .text) ∙ length-append (s .front) (instructionsBytes (i ⨾ c) ++ s .rest) in
+    let b : length (instructionsBytes (i ⨾ c) ++ s .rest) ≡ length (instructionBytes i ++ instructionsBytes c) + length (s .rest) = length-append (instructionBytes i ++ instructionsBytes c) (s .rest) in
+    let d = length-append (instructionBytes i) (instructionsBytes c) in
+    let f = s .from in
+    omega arith
+
+fork-bytes : (k : Code) → length (instructionBytes (FORK k)) ≡ 3 + length (instructionsBytes k)
+unfolding instructionBytes bytes16
+fork-bytes k = omega arith
+
+push-bytes : (n : ℤ) → length (instructionBytes (PUSH n)) ≡ 5
+unfolding instructionBytes bytes32
+push-bytes n = refl
+
+-- in code that is there to be run
+ready-able : {bytes : List ℕ} {place end h : ℕ} (i : Instruction) {c : Code} (base : ℕ) → base ≤ 64 → Ready bytes place end (i ⨾ c) h → takesOp (showOp (opOf i)) h base 64 (length bytes - place) ≡ true
+unfolding takesOp Takes ValuedC ValuedI instructionBytes
+ready-able {bytes} {place} {end} {h} (PUSH n) {c} base b r =
+    let l = own-bytes bytes place end (PUSH n) c (r .stands) in
+    let s = push-bytes n in
+    let t : suc h ≤ 64 = ready-takes r in
+    enough-yes 0 h 63 5 (length bytes - place) (omega arith) (omega arith) (omega arith)
+ready-able {bytes} {place} {end} {h} ADD {c} base b r =
+    let l = own-bytes bytes place end ADD c (r .stands) in
+    enough-yes 2 h 64 1 (length bytes - place) (ready-takes r) (r .low) (omega arith)
+ready-able {bytes} {place} {end} {h} (READ v) {c} base b r =
+    let l = own-bytes bytes place end (READ v) c (r .stands) in
+    let t : suc h ≤ 64 = ready-takes r in
+    let w : v < 64 = r .valued .0 in
+    rw (le-ltb 63 v (omega arith)) (enough-yes 0 h 63 2 (length bytes - place) (omega arith) (omega arith) (omega arith))
+ready-able {bytes} {place} {end} {h} (WRITE v) {c} base b r =
+    let l = own-bytes bytes place end (WRITE v) c (r .stands) in
+    let w : v < 64 = r .valued .0 in
+    rw (le-ltb 63 v (omega arith)) (enough-yes 1 h 64 2 (length bytes - place) (ready-takes r) (r .low) (omega arith))
+ready-able {bytes} {place} {end} {h} BEGIN {c} base b r =
+    let l = own-bytes bytes place end BEGIN c (r .stands) in
+    enough-yes 0 h 64 1 (length bytes - place) (omega arith) (r .low) (omega arith)
+ready-able {bytes} {place} {end} {h} COMMIT {c} base b r =
+    let l = own-bytes bytes place end COMMIT c (r .stands) in
+    rw (le-ltb 64 base b) (enough-yes 0 h 64 1 (length bytes - place) (omega arith) (r .low) (omega arith))
+ready-able {bytes} {place} {end} {h} (FORK k) {c} base b r =
+    let l = own-bytes bytes place end (FORK k) c (r .stands) in
+    let s = fork-bytes k in
+    let t : suc h ≤ 64 = ready-takes r .0 in
+    rw (le-ltb (length bytes - place) 3 (omega arith)) (enough-yes 0 h 63 (length (instructionsBytes k)) (length bytes - place - 3) (omega arith) (omega arith) (omega arith))
+
+-- ---- what is done then is what the instruction does
+module _ (sum : Rule) (table : List ℤ) (t : Thread) where
+  performs-add : actedAs (performed sum table t (showOp code.add)) ≡ act sum table t code.add
+  unfolding actedAs performed act eventOf outsideTurn
+  performs-add = go (eqb (t .begin) 0)
+    where
+      go : (b : Bool) → alters (add sum t) table (summed (eqb (cond b 1 0) 0)) ≡ alters (add sum t) table (summed (not b))
+      go true = refl
+      go false = refl
+
+  performs-read : (v : ℕ) → actedAs (performed sum table t (showOp (code.read v))) ≡ act sum table t (code.read v)
+  unfolding actedAs performed act eventOf sourceNumber sourceOf
+  performs-read v = go (member (t .writes) v) (member (t .reads) v)
+    where
+      go : (a b : Bool) → _≡_ {A = Acted} (record { thread = read table v t; table = table; children = childrenAs (cond a 5 (cond b 6 7)) 0 0; event = eventOf (cond a 5 (cond b 6 7)) 0 0 }) (alters (read table v t) table (looked (cond a fromWrites (cond b fromReads fromTable))))
+      go true b = refl
+      go false true = refl
+      go false false = refl
+
+  performs-commit : actedAs (performed sum table t (showOp code.commit)) ≡ act sum table t code.commit
+  unfolding actedAs performed act eventOf committed commit
+  performs-commit = go (ltb (firstStale 64 0 t table) 64)
+    where
+      go : (b : Bool) → actedAs (committedBy b (firstStale 64 0 t table) table t) ≡ committing b table t (firstStale 64 0 t table)
+      go true = refl
+      go false = refl
+
+  performs-acts : (op : Op) → actedAs (performed sum table t (showOp op)) ≡ act sum table t op
+  unfolding actedAs performed act eventOf
+  performs-acts (code.push n) = refl
+  performs-acts (code.fork size) = refl
+  performs-acts code.begin = refl
+  performs-acts (code.write v) = refl
+  performs-acts code.add = performs-add
+  performs-acts (code.read v) = performs-read v
+  performs-acts code.commit = performs-commit
+
+  -- nothing done
+  idle-acts : actedAs (handed (unacted t) table) ≡ alters t table idle
+  unfolding actedAs eventOf
+  idle-acts = refl
+
+  module _ (bytes : List ℕ) where
+    no-thread-stays : t .start ≡ 0 → stepped sum bytes table t ≡ handed (unacted t) table
+    unfolding stepped
+    no-thread-stays e = rw (stepped, eq-eqb (t .start) 0 e)
+
+    ended-stays : t .place ≡ t .end → stepped sum bytes table t ≡ handed (unacted t) table
+    unfolding stepped
+    ended-stays e = go (eqb (t .start) 0) refl
+      where
+        go : (b : Bool) → eqb (t .start) 0 ≡ b → stepped sum bytes table t ≡ handed (unacted t) table
+        go true q = rw (stepped, q)
+        go false q = rw (stepped, q, eq-eqb (t .place) (t .end) e)
+
+    -- a record that has what its instruction takes does it
+    takes-acts : (t .start ≡ 0 → ⊥) → (t .place ≡ t .end → ⊥) → (op : Op) → opAt (drop (t .place) bytes) ≡ done op → takesOp (showOp op) (t .height) (t .base) (length table) (length bytes - t .place) ≡ true → actedAs (stepped sum bytes table t) ≡ act sum table t op
+    unfolding stepped attempted
+    takes-acts s p op o k =
+        let a : stepped sum bytes table t ≡ attempted sum bytes table t (shownOp (opAt (drop (t .place) bytes))) = rw (stepped, ne-eqb (t .start) 0 s, ne-eqb (t .place) (t .end) p) in
+        let b : attempted sum bytes table t (showOp op) ≡ performed sum table t (showOp op) = rw (attempted, k) in
+        ap actedAs (a ∙ (ap (λ (x : Outcome Op). attempted sum bytes table t (shownOp x)) o ∙ b)) ∙ performs-acts op
+
+-- ---- in a state that fits
+there : (t : Thread) → exists t ≡ true → t .start ≡ 0 → ⊥
+there t e z = never (sym (ap (λ (n : ℕ). not (eqb n 0)) z) ∙ e)
+  where
+    never : _≡_ {A = Bool} false true → ⊥
+    never e = let z : _≡_ {A = ℕ} 0 1 = cc in absurd (omega arith)
+
+base-low : {bytes : List ℕ} {t : Thread} → Held bytes t → t .base ≤ 64
+base-low {bytes} {t} h = go (shape (h .region) (h .outer) (h .somewhere) (h .placed .walks))
+  where
+    go : Shape bytes (t .start) (t .end) (t .place) (h .placed .walked) → t .base ≤ 64
+    go (out c r o b z) = let q = h .placed .base in omega arith
+    go (shape-open body c k r i e g) = let q = h .placed .base in let l = g .again .low in omega arith
+
+module _ {bytes : List ℕ} {j : Job} (c : IsCode bytes j) (sum : Rule) where
+  -- the step on a thread's record is the instruction at its place
+  pub step-acts : (s : State) → Fits bytes s → Typed s → (i : ℕ) → Exists s i → (threadAt s i .place ≡ threadAt s i .end → ⊥) → (op : Op) → opAt (drop (threadAt s i .place) bytes) ≡ done op → actedAs (stepped sum bytes (s .registers) (threadAt s i)) ≡ act sum (s .registers) (threadAt s i) op
+  step-acts s f y i e ne op o = go (shows-of (held c (outer c) s f y i e))
+    where
+      low : threadAt s i .base ≤ 64
+      low = base-low (held c (outer c) s f y i e)
+
+      same-op : {a b : Op} → _≡_ {A = Outcome Op} (done a) (done b) → a ≡ b
+      same-op e = cc
+
+      one : {ins : Instruction} {k : Code} → threadAt s i .base ≤ 64 → Ready bytes (threadAt s i .place) (threadAt s i .end) (ins ⨾ k) (threadAt s i .height) → actedAs (stepped sum bytes (s .registers) (threadAt s i)) ≡ act sum (s .registers) (threadAt s i) op
+      one {ins} b r =
+          let q : opOf ins ≡ op = same-op (sym (ready-op r) ∙ o) in
+          let k : takesOp (showOp (opOf ins)) (threadAt s i .height) (threadAt s i .base) (length (s .registers)) (length bytes - threadAt s i .place) ≡ true = ap (λ (n : ℕ). takesOp (showOp (opOf ins)) (threadAt s i .height) (threadAt s i .base) n (length bytes - threadAt s i .place)) (f .registers) ∙ ready-able ins (threadAt s i .base) b r in
+          takes-acts sum (s .registers) (threadAt s i) bytes (there (threadAt s i) e) ne op o (subst (λ (x : Op). takesOp (showOp x) (threadAt s i .height) (threadAt s i .base) (length (s .registers)) (length bytes - threadAt s i .place) ≡ true) q k)
+
+      go : (task : Task registerCells) × Shows bytes (threadAt s i) task → actedAs (stepped sum bytes (s .registers) (threadAt s i)) ≡ act sum (s .registers) (threadAt s i) op
+      go (task, shut ε r o z) = absurd (ne (stands-end (r .stands)))
+      go (task, shut (ins ⨾ k) r o z) = one low r
+      go (task, open′ body ε k r o h w g x q) = absurd (no-inside k (threadAt s i .base) o)
+      go (task, open′ body (ins ⨾ k) n r o h w g x q) = one low r
+
+  -- a pick of any record goes through the step on it
+  pub step-picks : (s : State) → Fits bytes s → Typed s → (count i : ℕ) → i < length (s .threads) → pickAmong sum bytes count s i ≡ settle count s i (actedAs (stepped sum bytes (s .registers) (threadAt s i)))
+  unfolding settle
+  step-picks s f y count i l = go (exists (threadAt s i)) refl (eqb (threadAt s i .place) (threadAt s i .end)) refl
+    where
+      still : stepped sum bytes (s .registers) (threadAt s i) ≡ handed (unacted (threadAt s i)) (s .registers) → record { state = s; event = idle } ≡ settle count s i (actedAs (stepped sum bytes (s .registers) (threadAt s i)))
+      still e =
+          sym
+          (ap (λ (h : Handed). settle count s i (actedAs h)) e
+          ∙ (ap (settle count s i) (idle-acts sum (s .registers) (threadAt s i))
+          ∙ ap (λ (ts : List Thread). record { state = record { registers = s .registers; threads = ts }; event = idle }) (set-getD (s .threads) i blank)))
+
+      no-start : (b : Bool) → eqb (threadAt s i .start) 0 ≡ b → not b ≡ false → threadAt s i .start ≡ 0
+      no-start true e f = eqb-true (threadAt s i .start) 0 e
+      no-start false e f = absurd (let z : _≡_ {A = ℕ} 0 1 = cc in omega arith)
+
+      one : (e : exists (threadAt s i) ≡ true) (ne : threadAt s i .place ≡ threadAt s i .end → ⊥) → DoesOne sum bytes s i → pickAmong sum bytes count s i ≡ settle count s i (actedAs (stepped sum bytes (s .registers) (threadAt s i)))
+      one e ne d =
+          does sum bytes count s i (d .op) (lt-ltb i (length (s .threads)) l) e ne (d .at-place)
+          ∙ sym (ap (settle count s i) (step-acts s f y i e ne (d .op) (d .at-place)))
+
+      go : (b : Bool) → exists (threadAt s i) ≡ b → (d : Bool) → eqb (threadAt s i .place) (threadAt s i .end) ≡ d → pickAmong sum bytes count s i ≡ settle count s i (actedAs (stepped sum bytes (s .registers) (threadAt s i)))
+      go false e d z = missing-idle sum bytes count s i e ∙ still (no-thread-stays sum (s .registers) (threadAt s i) bytes (no-start (eqb (threadAt s i .start) 0) refl e))
+      go true e true z =
+          let q = eqb-true (threadAt s i .place) (threadAt s i .end) z in
+          ended-idle sum bytes count s i q ∙ still (ended-stays sum (s .registers) (threadAt s i) bytes q)
+      go true e false z =
+          let ne = eqb-false (threadAt s i .place) (threadAt s i .end) z in
+          one e ne (does-one c sum s f y i e ne)

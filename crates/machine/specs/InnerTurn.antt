@@ -1,0 +1,21 @@
+-- For the proofs of functions over records, nobody has to believe it: what the by-value step of a record hands back, as an instruction leaves it.
+use Prim.Native.Nat.{ℕ}
+use mathlib.Core.Bool.{cond}
+use mathlib.Core.List.{List, [], _∷_}
+use lib.Dec.{eqb}
+use Rattle.machine.specs.Steps.{Acted, Child}
+use Rattle.stm.specs.Events.{eventOf}
+use Rattle.thread.specs.InnerStep.{Handed}
+
+-- a FORK, event 3, has a child
+abbrev pub childrenAs : (event start end : ℕ) → List Child
+childrenAs event start end = cond (eqb event 3) (record { start = start; end = end } ∷ []) []
+
+unfoldable pub actedAs : Handed → Acted
+actedAs h =
+    record {
+      thread = h .acted .thread;
+      table = h .table;
+      children = childrenAs (h .acted .event) (h .acted .start) (h .acted .end);
+      event = eventOf (h .acted .event) (h .acted .register) (h .acted .turn);
+    }
