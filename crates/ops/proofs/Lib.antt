@@ -1,0 +1,2 @@
+-- Why `op_at` answers what `opAt` says.
+pub mod Decode

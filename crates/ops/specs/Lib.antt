@@ -1,0 +1,2 @@
+-- What the contract of `op_at` cites.
+pub mod Shown
