@@ -5,9 +5,10 @@ use mathlib.Core.Bool.{Bool, true, false, cond}
 use native.Mathlib.Decide.{decLt, ℕ-discrete}
 use native.Mathlib.Omega.{arith}
 use lib.ListN.{length-set}
-use Rattle.scan.specs.declared.Op.the-variants as op
+use Rattle.ops.specs.declared.Op.the-variants as op
 use Rattle.scan.specs.declared.Scan.{Scan}
-use Rattle.scan.specs.InnerView.{GoodScan, bad, itemPut, setTo, topTo, kindAt, reachAt, addTo, writeTo, commitTo, joined, closeTo, movedTo, opened, forkTo, erase, stepTo}
+use Rattle.scan.specs.InnerView.{GoodScan, bad, itemPut, setTo, topTo, kindAt, reachAt, addTo, writeTo, commitTo, joined, closeTo, movedTo, opened, forkTo, stepTo}
+use Rattle.ops.specs.Shown.{showOp}
 use Rattle.code.specs.Ops.{Op, push, add, read, write, begin, commit, fork, sizeOf}
 use Rattle.scan.proofs.Branches.{add-low, add-part, add-other, add-done, write-low, write-outside, write-other, write-done, commit-low, commit-outside, commit-above, commit-below, commit-done, close-low, close-above, close-below, close-done, fork-bad, fork-done, when-true, when-false}
 use Rattle.scan.proofs.Steps.{set-good, top-place, add-place, write-place, commit-place, top-forked, top-forks}
@@ -158,7 +159,7 @@ opened-fit s n t q l =
     record { kinds = t .kinds; reaches = t .reaches; ends = length-set (s .ends) (s .forked) (s .place + 3 + n) ∙ t .ends; low = t .low; some = q; few = t .few; noded = t .noded; sized = t .sized; early = l }
 
 -- one instruction
-pub step-fit : (s : Scan) (o : Op) → GoodScan s → stepTo s (erase o) .good ≡ true → s .place + sizeOf o ≤ 5005 → GoodScan (stepTo s (erase o))
+pub step-fit : (s : Scan) (o : Op) → GoodScan s → stepTo s (showOp o) .good ≡ true → s .place + sizeOf o ≤ 5005 → GoodScan (stepTo s (showOp o))
 unfolding stepTo
 step-fit s (push n) t g l = go (s .inside) refl
   where
@@ -216,7 +217,7 @@ opened-place s n = refl
 abbrev place-of : Scan → ℕ
 place-of s = s .place
 
-pub step-place : (s : Scan) (o : Op) → stepTo s (erase o) .good ≡ true → stepTo s (erase o) .place ≡ s .place + sizeOf o
+pub step-place : (s : Scan) (o : Op) → stepTo s (showOp o) .good ≡ true → stepTo s (showOp o) .place ≡ s .place + sizeOf o
 unfolding stepTo
 step-place s (push n) g = go (s .inside) refl
   where

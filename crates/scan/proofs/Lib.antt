@@ -1,5 +1,4 @@
 -- Why the scan's functions do what their mirrors say, and why these follow code/specs/InnerScan.antt.
-pub mod Decode
 pub mod Branches
 pub mod Steps
 pub mod Views

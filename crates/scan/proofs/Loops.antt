@@ -9,9 +9,10 @@ use lib.Dec.{eqb}
 use lib.ListN.{length, drop, getD, set, length-drop, length-append}
 use lib.Seq.{drop-drop}
 use borrow.Author.Tests.{eq-eqb, ne-eqb, eqb-false}
-use Rattle.scan.specs.declared.Op.{Op as Instruction}
+use Rattle.ops.specs.declared.Op.{Op as Instruction}
 use Rattle.scan.specs.declared.Scan.{Scan}
-use Rattle.scan.specs.InnerView.{stackOf, endsOf, view, ifGood, viewed, GoodScan, emptyScan, joined, closeTo, erase, erased, ShortFork, stepTo, finishTo, kindAt, reachAt, Settled}
+use Rattle.scan.specs.InnerView.{stackOf, endsOf, view, ifGood, viewed, GoodScan, emptyScan, joined, closeTo, ShortFork, stepTo, finishTo, kindAt, reachAt, Settled}
+use Rattle.ops.specs.Shown.{showOp, shownOp}
 use Rattle.code.specs.Ops.{foreign, Op, push, add, read, write, begin, commit, fork, opAt, sizeOf}
 use Rattle.code.specs.InnerScan.{ScanItem, twoTop, oneTop, scanOp, movedPast, closes, finished, scanOps}
 use Rattle.code.specs.InnerScan as list
@@ -282,35 +283,35 @@ module _ (code : List ℕ) (bytes : Bytes code) (small : length code ≤ 5005) (
       same-bytes = ap (λ (n : ℕ). drop n code) (done-s .place)
 
       -- what comes of an instruction that is there
-      one-op : (o : Op) → opAt bs ≡ done o → onward (viewed (stepTo r (erase o))) (λ v. scanOps (length bs) v (drop (sizeOf o) bs)) ≡ final
+      one-op : (o : Op) → opAt bs ≡ done o → onward (viewed (stepTo r (showOp o))) (λ v. scanOps (length bs) v (drop (sizeOf o) bs)) ≡ final
       one-op o e =
           ap (λ (x : Outcome list.ListScan). onward x (λ v. scanOps (length bs) v (drop (sizeOf o) bs))) (step-viewed r g fit-r o)
           ∙ (onward-mapped (movedPast o) (scanOp o (view r)) (λ v. scanOps (length bs) v (drop (sizeOf o) bs))
           ∙ (ap (λ (x : Outcome Op). onward x (λ op. onward (scanOp op (view r)) (λ next. scanOps (length bs) (movedPast op next) (drop (sizeOf op) bs)))) (sym e) ∙ opens))
 
       -- the code is foreign there
-      pub step-bad : (i : Instruction) → i ≡ erased (opAt (drop (r .place) code)) → stepTo r i .good ≡ false → viewed (stepTo r i) ≡ final
+      pub step-bad : (i : Instruction) → i ≡ shownOp (opAt (drop (r .place) code)) → stepTo r i .good ≡ false → viewed (stepTo r i) ≡ final
       step-bad i e b = go (opAt bs) refl
         where
           v : viewed (stepTo r i) ≡ foreign
           v = ap (λ (t : Bool). ifGood t (view (stepTo r i))) b
 
-          e′ : i ≡ erased (opAt bs)
-          e′ = e ∙ ap (λ (l : List ℕ). erased (opAt l)) same-bytes
+          e′ : i ≡ shownOp (opAt bs)
+          e′ = e ∙ ap (λ (l : List ℕ). shownOp (opAt l)) same-bytes
 
           go : (o : Outcome Op) → opAt bs ≡ o → viewed (stepTo r i) ≡ final
           go (refused n p) a =
               let f = op-foreign bs n p a in
               v ∙ (f ∙ (ap (λ (x : Outcome Op). onward x (λ op. onward (scanOp op (view r)) (λ next. scanOps (length bs) (movedPast op next) (drop (sizeOf op) bs)))) (sym a) ∙ opens))
           go (done o) a =
-              let k : i ≡ erase o = e′ ∙ ap erased a in
-              let w : viewed (stepTo r (erase o)) ≡ foreign = subst (λ (j : Instruction). viewed (stepTo r j) ≡ foreign) k v in
+              let k : i ≡ showOp o = e′ ∙ ap shownOp a in
+              let w : viewed (stepTo r (showOp o)) ≡ foreign = subst (λ (j : Instruction). viewed (stepTo r j) ≡ foreign) k v in
               v ∙ (ap (λ (x : Outcome list.ListScan). onward x (λ u. scanOps (length bs) u (drop (sizeOf o) bs))) (sym w) ∙ one-op o a)
 
-      goes-on : (o : Op) → opAt bs ≡ done o → stepTo r (erase o) .good ≡ true → Loop code (stepTo r (erase o))
+      goes-on : (o : Op) → opAt bs ≡ done o → stepTo r (showOp o) .good ≡ true → Loop code (stepTo r (showOp o))
       unfolding ahead
       goes-on o a b =
-          let u : Scan = stepTo r (erase o) in
+          let u : Scan = stepTo r (showOp o) in
           let place : u .place ≡ r .place + sizeOf o = step-place r o b in
           let fits : sizeOf o ≤ length bs = op-fits bs (bytes-drop (s .place) bytes) o a in
           let l : length bs ≡ length code - s .place = length-drop (s .place) code in
@@ -326,33 +327,33 @@ module _ (code : List ℕ) (bytes : Bytes code) (small : length code ≤ 5005) (
           }
 
       -- or the loop goes on
-      pub step-good : (i : Instruction) → i ≡ erased (opAt (drop (r .place) code)) → stepTo r i .good ≡ true → Loop code (stepTo r i)
+      pub step-good : (i : Instruction) → i ≡ shownOp (opAt (drop (r .place) code)) → stepTo r i .good ≡ true → Loop code (stepTo r i)
       step-good i e b = go (opAt bs) refl
         where
-          e′ : i ≡ erased (opAt bs)
-          e′ = e ∙ ap (λ (l : List ℕ). erased (opAt l)) same-bytes
+          e′ : i ≡ shownOp (opAt bs)
+          e′ = e ∙ ap (λ (l : List ℕ). shownOp (opAt l)) same-bytes
 
           go : (o : Outcome Op) → opAt bs ≡ o → Loop code (stepTo r i)
-          go (refused n p) a = absurd (foreign-bad r (subst (λ (j : Instruction). stepTo r j .good ≡ true) (e′ ∙ ap erased a) b))
-          go (done o) a = subst (λ (j : Instruction). Loop code (stepTo r j)) (sym (e′ ∙ ap erased a)) (goes-on o a (subst (λ (j : Instruction). stepTo r j .good ≡ true) (e′ ∙ ap erased a) b))
+          go (refused n p) a = absurd (foreign-bad r (subst (λ (j : Instruction). stepTo r j .good ≡ true) (e′ ∙ ap shownOp a) b))
+          go (done o) a = subst (λ (j : Instruction). Loop code (stepTo r j)) (sym (e′ ∙ ap shownOp a)) (goes-on o a (subst (λ (j : Instruction). stepTo r j .good ≡ true) (e′ ∙ ap shownOp a) b))
 
-      pub further : (i : Instruction) → i ≡ erased (opAt (drop (r .place) code)) → stepTo r i .good ≡ true → s .place < stepTo r i .place
+      pub further : (i : Instruction) → i ≡ shownOp (opAt (drop (r .place) code)) → stepTo r i .good ≡ true → s .place < stepTo r i .place
       further i e b = go (opAt bs) refl
         where
-          e′ : i ≡ erased (opAt bs)
-          e′ = e ∙ ap (λ (l : List ℕ). erased (opAt l)) same-bytes
+          e′ : i ≡ shownOp (opAt bs)
+          e′ = e ∙ ap (λ (l : List ℕ). shownOp (opAt l)) same-bytes
 
           go : (o : Outcome Op) → opAt bs ≡ o → s .place < stepTo r i .place
-          go (refused n p) a = absurd (foreign-bad r (subst (λ (j : Instruction). stepTo r j .good ≡ true) (e′ ∙ ap erased a) b))
+          go (refused n p) a = absurd (foreign-bad r (subst (λ (j : Instruction). stepTo r j .good ≡ true) (e′ ∙ ap shownOp a) b))
           go (done o) a =
-              let k : i ≡ erase o = e′ ∙ ap erased a in
+              let k : i ≡ showOp o = e′ ∙ ap shownOp a in
               subst (λ (j : Instruction). s .place < stepTo r j .place) (sym k) (omega (arith, step-place r o (subst (λ (j : Instruction). stepTo r j .good ≡ true) k b), size-some o, done-s .place))
 
 -- a FORK's length is one of 16 bits
-pub op-small : (bs : List ℕ) → Bytes bs → ShortFork (erased (opAt bs))
+pub op-small : (bs : List ℕ) → Bytes bs → ShortFork (shownOp (opAt bs))
 op-small bs b = go (seen bs b)
   where
-    small : (o : Op) → ValuedO o → ShortFork (erase o)
+    small : (o : Op) → ValuedO o → ShortFork (showOp o)
     small (push n) v = tt
     small add v = tt
     small (read r) v = tt
@@ -361,6 +362,6 @@ op-small bs b = go (seen bs b)
     small commit v = tt
     small (fork n) v = omega arith
 
-    go : Sees bs → ShortFork (erased (opAt bs))
+    go : Sees bs → ShortFork (shownOp (opAt bs))
     go (good op rest v t) = rw (t, op-reads op rest v) (small op v)
     go (bad f) = rw f tt

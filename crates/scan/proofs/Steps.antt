@@ -5,9 +5,10 @@ use mathlib.Core.Bool.{Bool, true, false, cond}
 use mathlib.Core.List.{List}
 use native.Mathlib.Omega.{arith}
 use lib.Dec.{eqb, ltb}
+use lib.IntN.{ℤ}
 use borrow.Author.Tests.{ltb-false}
-use Rattle.scan.specs.declared.Op.{Op}
-use Rattle.scan.specs.declared.Op.the-variants as op
+use Rattle.ops.specs.declared.Op.{Op}
+use Rattle.ops.specs.declared.Op.the-variants as op
 use Rattle.scan.specs.declared.Scan.{Scan}
 use Rattle.scan.proofs.Branches.{when-true, when-false}
 use Rattle.scan.specs.InnerView.{bad, itemPut, setTo, topTo, kindAt, reachAt, addTo, writeTo, commitTo, joined, closeTo, movedTo, forkTo, stepTo}
@@ -89,29 +90,29 @@ module _ (s : Scan) where
 
 -- what `stepTo` is for each instruction
 module _ (s : Scan) (o : Op) where
-  pub push-inside : o ≡ op.Push → s .inside ≡ true → movedTo (topTo s 3 true 0 5) 5 ≡ stepTo s o
+  pub push-inside : (n : ℤ) → o ≡ op.Push n → s .inside ≡ true → movedTo (topTo s 3 true 0 5) 5 ≡ stepTo s o
   unfolding stepTo
-  push-inside e i = rw e (when-true (s .inside) (movedTo (topTo s 3 true 0 5) 5) (movedTo (topTo s 2 false 0 5) 5) i)
+  push-inside n e i = rw e (when-true (s .inside) (movedTo (topTo s 3 true 0 5) 5) (movedTo (topTo s 2 false 0 5) 5) i)
 
-  pub push-outside : o ≡ op.Push → s .inside ≡ false → movedTo (topTo s 2 false 0 5) 5 ≡ stepTo s o
+  pub push-outside : (n : ℤ) → o ≡ op.Push n → s .inside ≡ false → movedTo (topTo s 2 false 0 5) 5 ≡ stepTo s o
   unfolding stepTo
-  push-outside e i = rw e (when-false (s .inside) (movedTo (topTo s 3 true 0 5) 5) (movedTo (topTo s 2 false 0 5) 5) i)
+  push-outside n e i = rw e (when-false (s .inside) (movedTo (topTo s 3 true 0 5) 5) (movedTo (topTo s 2 false 0 5) 5) i)
 
   pub an-add : o ≡ op.Add → movedTo (addTo s) 1 ≡ stepTo s o
   unfolding stepTo
   an-add e = rw e
 
-  pub read-inside : o ≡ op.Read → s .inside ≡ true → movedTo (topTo s 3 true 0 2) 2 ≡ stepTo s o
+  pub read-inside : (v : ℕ) → o ≡ op.Read v → s .inside ≡ true → movedTo (topTo s 3 true 0 2) 2 ≡ stepTo s o
   unfolding stepTo
-  read-inside e i = rw e (when-true (s .inside) (movedTo (topTo s 3 true 0 2) 2) (bad s) i)
+  read-inside v e i = rw e (when-true (s .inside) (movedTo (topTo s 3 true 0 2) 2) (bad s) i)
 
-  pub read-outside : o ≡ op.Read → s .inside ≡ false → bad s ≡ stepTo s o
+  pub read-outside : (v : ℕ) → o ≡ op.Read v → s .inside ≡ false → bad s ≡ stepTo s o
   unfolding stepTo
-  read-outside e i = rw e (when-false (s .inside) (movedTo (topTo s 3 true 0 2) 2) (bad s) i)
+  read-outside v e i = rw e (when-false (s .inside) (movedTo (topTo s 3 true 0 2) 2) (bad s) i)
 
-  pub a-write : o ≡ op.Write → movedTo (writeTo s) 2 ≡ stepTo s o
+  pub a-write : (v : ℕ) → o ≡ op.Write v → movedTo (writeTo s) 2 ≡ stepTo s o
   unfolding stepTo
-  a-write e = rw e
+  a-write v e = rw e
 
   pub begin-inside : o ≡ op.Begin → s .inside ≡ true → bad s ≡ stepTo s o
   unfolding stepTo

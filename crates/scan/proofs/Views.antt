@@ -11,7 +11,8 @@ use lib.ListN.{length, getD, set}
 use lib.Seq.{getD-set-same, getD-set-other}
 use borrow.Author.Tests.{lt-ltb, le-ltb, le-leb, lt-leb, eq-eqb, ne-eqb}
 use Rattle.scan.specs.declared.Scan.{Scan}
-use Rattle.scan.specs.InnerView.{stackOf, endsOf, view, ifGood, viewed, GoodScan, ItemRoom, bad, itemPut, setTo, topTo, kindAt, reachAt, addTo, writeTo, commitTo, movedTo, opened, forkTo, erase, stepTo}
+use Rattle.scan.specs.InnerView.{stackOf, endsOf, view, ifGood, viewed, GoodScan, ItemRoom, bad, itemPut, setTo, topTo, kindAt, reachAt, addTo, writeTo, commitTo, movedTo, opened, forkTo, stepTo}
+use Rattle.ops.specs.Shown.{showOp}
 use Rattle.code.specs.Ops.{foreign, Op, push, add, read, write, begin, commit, fork}
 use Rattle.code.specs.InnerScan.{ScanItem, bounded, topped, merged, twoTop, oneTop, scanOp, movedPast}
 use Rattle.code.specs.InnerScan as list
@@ -292,7 +293,7 @@ module _ (t : Scan) where
       go false g = ap viewed (sym (fork-bad t n g)) ∙ (ap (λ (b : Bool). ifGood b (view t)) g ∙ ap (λ (b : Bool). mapped (movedPast (fork n)) (ifGood b (view t))) (sym g))
 
 module _ (s : Scan) (g : s .good ≡ true) (fit : GoodScan s) where
-  pub step-viewed : (o : Op) → viewed (stepTo s (erase o)) ≡ mapped (movedPast o) (scanOp o (view s))
+  pub step-viewed : (o : Op) → viewed (stepTo s (showOp o)) ≡ mapped (movedPast o) (scanOp o (view s))
   unfolding stepTo scanOp
   step-viewed (push n) = go (s .inside) refl
     where

@@ -5,14 +5,13 @@ use mathlib.Core.Path.{_≡_}
 use mathlib.Core.List.{List, [], _∷_}
 use lib.Dec.{eqb, ltb}
 use lib.ListN.{length, getD, set, replicate}
-use Rattle.scan.specs.declared.Op.{Op}
-use Rattle.scan.specs.declared.Op.the-variants as op
+use Rattle.ops.specs.declared.Op.{Op}
+use Rattle.ops.specs.declared.Op.the-variants as op
 use Rattle.scan.specs.declared.Scan.{Scan}
-use Rattle.code.specs.Ops.{foreign, push, add, read, write, begin, commit, fork}
-use Rattle.code.specs.Ops as code
+use Rattle.code.specs.Ops.{foreign}
 use Rattle.code.specs.InnerScan.{ScanItem}
 use Rattle.code.specs.InnerScan as list
-use Rattle.script.specs.Outcome.{Outcome, refused, done}
+use Rattle.script.specs.Outcome.{Outcome, done}
 
 -- the stack, the topmost item first, and the ends of the open FORKs' children, the innermost first
 unfoldable pub stackOf : List ℕ → List ℕ → ℕ → List ScanItem
@@ -42,27 +41,12 @@ ifGood false s = foreign
 abbrev pub viewed : Scan → Outcome list.ListScan
 viewed s = ifGood (s .good) (view s)
 
--- ---- an instruction without its number or register
-
-abbrev pub erase : code.Op → Op
-erase (push n) = op.Push
-erase add = op.Add
-erase (read v) = op.Read
-erase (write v) = op.Write
-erase begin = op.Begin
-erase commit = op.Commit
-erase (fork size) = op.Fork size
-
-abbrev pub erased : Outcome code.Op → Op
-erased (refused number place) = op.Foreign
-erased (done o) = erase o
-
 -- a FORK's length is one of 16 bits
 abbrev pub ShortFork : Op → Type 0
-ShortFork op.Push = Unit {0}
+ShortFork (op.Push n) = Unit {0}
 ShortFork op.Add = Unit {0}
-ShortFork op.Read = Unit {0}
-ShortFork op.Write = Unit {0}
+ShortFork (op.Read v) = Unit {0}
+ShortFork (op.Write v) = Unit {0}
 ShortFork op.Begin = Unit {0}
 ShortFork op.Commit = Unit {0}
 ShortFork (op.Fork size) = size ≤ 65535
@@ -251,10 +235,10 @@ unfoldable pub forkTo : Scan → ℕ → Scan
 forkTo s size = cond (s .good) (opened s size) s
 
 unfoldable pub stepTo : Scan → Op → Scan
-stepTo s op.Push = cond (s .inside) (movedTo (topTo s 3 true 0 5) 5) (movedTo (topTo s 2 false 0 5) 5)
+stepTo s (op.Push n) = cond (s .inside) (movedTo (topTo s 3 true 0 5) 5) (movedTo (topTo s 2 false 0 5) 5)
 stepTo s op.Add = movedTo (addTo s) 1
-stepTo s op.Read = cond (s .inside) (movedTo (topTo s 3 true 0 2) 2) (bad s)
-stepTo s op.Write = movedTo (writeTo s) 2
+stepTo s (op.Read v) = cond (s .inside) (movedTo (topTo s 3 true 0 2) 2) (bad s)
+stepTo s (op.Write v) = movedTo (writeTo s) 2
 stepTo s op.Begin = cond (s .inside) (bad s) (movedTo (topTo s 0 true 0 1) 1)
 stepTo s op.Commit = movedTo (commitTo s) 1
 stepTo s (op.Fork size) = cond (s .inside) (bad s) (forkTo (topTo s 1 false 1 1) size)

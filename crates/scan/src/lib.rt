@@ -4,11 +4,10 @@ ghost use lib.Dec.{eqb};
 ghost use lib.ListN.{drop, length};
 ghost use mathlib.Core.Bool.{_&&_, true};
 ghost use mathlib.Core.Path.{_≡_};
-ghost use Rattle.code.specs.Ops.{opAt, opcodeOperand};
 ghost use Rattle.code.specs.Reader.{readCode};
 ghost use Rattle.scan.specs.Answer.{told};
 ghost use Rattle.code.specs.InnerScan.{scanOps, scanStart};
-ghost use Rattle.scan.specs.InnerView.{GoodScan, ItemRoom, Settled, ShortFork, addTo, bad, closeTo, commitTo, erased, finishTo, forkTo, movedTo, setTo, emptyScan, stepTo, topTo, viewed, writeTo};
+ghost use Rattle.scan.specs.InnerView.{GoodScan, ItemRoom, Settled, ShortFork, addTo, bad, closeTo, commitTo, finishTo, forkTo, movedTo, setTo, emptyScan, stepTo, topTo, viewed, writeTo};
 
 // What scanning code comes to.
 pub enum Scanned {
@@ -16,18 +15,6 @@ pub enum Scanned {
     Job(u16, usize, usize),
     // document 01's number, and the place: 11 at 0, no accepted job compiles to this code
     Refused(u8, usize),
-}
-
-// An instruction as it stands in the code; a FORK has its child's length.
-enum Op {
-    Push,
-    Add,
-    Read,
-    Write,
-    Begin,
-    Commit,
-    Fork(usize),
-    Foreign,
 }
 
 // How far the scan has come. An item of the stack is of kind 0, a BEGIN whose COMMIT is to come; 1, a FORK whose child's end is to
@@ -45,50 +32,6 @@ struct Scan {
     forks: usize,
     size: usize,
     good: bool,
-}
-
-// How many bytes an opcode's operand has.
-fn operand(opcode: u8) -> usize
-    ensures { λ r. ⌜ r ≡ opcodeOperand opcode ⌝ }
-{
-    match opcode {
-        1 => 4,
-        3 | 4 => 1,
-        7 => 2,
-        _ => 0,
-    }
-}
-
-// The instruction at a place.
-fn op_at(code: &[u8], place: usize) -> Op
-    ensures { λ r. ⌜ r ≡ erased (opAt (drop place (now (code .entry)))) ⌝ }
-{
-    let length = code.len();
-    if place >= length {
-        return Op::Foreign;
-    }
-    let opcode = code[place];
-    let size = operand(opcode);
-    if length - place - 1 < size {
-        return Op::Foreign;
-    }
-    match opcode {
-        1 => Op::Push,
-        2 => Op::Add,
-        3 | 4 => {
-            if code[place + 1] >= 64 {
-                return Op::Foreign;
-            }
-            if opcode == 3 {
-                return Op::Read;
-            }
-            Op::Write
-        }
-        5 => Op::Begin,
-        6 => Op::Commit,
-        7 => Op::Fork(word::number16(code[place + 1], code[place + 2]) as usize),
-        _ => Op::Foreign,
-    }
 }
 
 // One level deeper.
@@ -302,40 +245,40 @@ impl Scan {
     }
 
     // One instruction.
-    fn step(self, op: Op) -> Scan
+    fn step(self, op: ops::Op) -> Scan
         requires { ⌜ GoodScan self × ShortFork op ⌝ }
         ensures { λ r. ⌜ r ≡ stepTo self op ⌝ }
     {
         let inside = self.inside;
         match op {
-            Op::Push => {
+            ops::Op::Push(_) => {
                 if inside {
                     return self.top(3, true, 0, 5).moved(5);
                 }
                 self.top(2, false, 0, 5).moved(5)
             }
-            Op::Add => self.add().moved(1),
-            Op::Read => {
+            ops::Op::Add => self.add().moved(1),
+            ops::Op::Read(_) => {
                 if inside {
                     return self.top(3, true, 0, 2).moved(2);
                 }
                 self.foreign()
             }
-            Op::Write => self.write().moved(2),
-            Op::Begin => {
+            ops::Op::Write(_) => self.write().moved(2),
+            ops::Op::Begin => {
                 if inside {
                     return self.foreign();
                 }
                 self.top(0, true, 0, 1).moved(1)
             }
-            Op::Commit => self.commit().moved(1),
-            Op::Fork(size) => {
+            ops::Op::Commit => self.commit().moved(1),
+            ops::Op::Fork(size) => {
                 if inside {
                     return self.foreign();
                 }
                 self.top(1, false, 1, 1).fork(size)
             }
-            Op::Foreign => self.foreign(),
+            ops::Op::Foreign => self.foreign(),
         }
     }
 }
@@ -393,7 +336,7 @@ fn instructions(code: &[u8]) -> Scan
         if place >= code.len() {
             return s.finish();
         }
-        let op = op_at(code, place);
+        let op = ops::op_at(code, place);
         s = s.step(op);
         if !s.good {
             return s;

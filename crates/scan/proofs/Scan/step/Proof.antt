@@ -3,8 +3,8 @@ use Prim.Native.Nat.{ℕ, _≤_, _<_}
 use mathlib.Core.Path.{_≡_, sym, ap, subst, _∙_}
 use mathlib.Core.Bool.{Bool, true, false}
 use native.Mathlib.Omega.{arith}
-use Rattle.scan.specs.declared.Op.{Op}
-use Rattle.scan.specs.declared.Op.the-variants as op
+use Rattle.ops.specs.declared.Op.{Op}
+use Rattle.ops.specs.declared.Op.the-variants as op
 use Rattle.scan.specs.declared.Scan.{Scan}
 use Rattle.scan.specs.InnerView.{GoodScan, ShortFork, topTo, movedTo, forkTo}
 use Rattle.scan.proofs.Steps.{top-place, add-place, write-place, commit-place, top-few, top-forked, push-inside, push-outside, an-add, read-inside, read-outside, a-write, begin-inside, begin-outside, a-commit, fork-inside, fork-outside, a-foreign}
@@ -39,7 +39,7 @@ moved-requires : tie.Need-moved-requires
 moved-requires c κs = omega (arith, ap place (c .top .ensures), top-place (c .before .before .before .before .args .self) 3 true 0 5)
 
 returns : tie.Need-returns
-returns c = c .moved .ensures ∙ (ap (λ (t : Scan). movedTo t 5) (c .before .top .ensures) ∙ push-inside (c .before .before .before .before .before .args .self) (c .before .before .before .before .before .args .op) (c .before .before .before .enum-told .given .1) (c .before .before .if1 .taken))
+returns c = c .moved .ensures ∙ (ap (λ (t : Scan). movedTo t 5) (c .before .top .ensures) ∙ push-inside (c .before .before .before .before .before .args .self) (c .before .before .before .before .before .args .op) _ (c .before .before .before .enum-told .given .1) (c .before .before .if1 .taken))
 
 top-requires-2 : tie.Need-top-requires-2
 top-requires-2 c κs = search needs
@@ -66,7 +66,7 @@ moved-requires-4 : tie.Need-moved-requires-4
 moved-requires-4 c κs = omega (arith, ap place (c .top3 .ensures), top-place (c .before .before .before .before .args .self) 3 true 0 2)
 
 returns-2 : tie.Need-returns-2
-returns-2 c = c .moved4 .ensures ∙ (ap (λ (t : Scan). movedTo t 2) (c .before .top3 .ensures) ∙ read-inside (c .before .before .before .before .before .args .self) (c .before .before .before .before .before .args .op) (c .before .before .before .enum-told3 .given .1) (c .before .before .if2 .taken))
+returns-2 c = c .moved4 .ensures ∙ (ap (λ (t : Scan). movedTo t 2) (c .before .top3 .ensures) ∙ read-inside (c .before .before .before .before .before .args .self) (c .before .before .before .before .before .args .op) _ (c .before .before .before .enum-told3 .given .1) (c .before .before .if2 .taken))
 
 foreign-requires : tie.Need-foreign-requires
 foreign-requires c κs = search needs
@@ -126,16 +126,16 @@ foreign-requires-4 : tie.Need-foreign-requires-4
 foreign-requires-4 c κs = search needs
 
 returns-5 : tie.Need-returns-5
-returns-5 c = c .moved2 .ensures ∙ (ap (λ (t : Scan). movedTo t 5) (c .before .top2 .ensures) ∙ push-outside (c .before .before .before .before .before .args .self) (c .before .before .before .before .before .args .op) (c .before .before .before .enum-told .given .1) (c .before .before .if1 .left))
+returns-5 c = c .moved2 .ensures ∙ (ap (λ (t : Scan). movedTo t 5) (c .before .top2 .ensures) ∙ push-outside (c .before .before .before .before .before .args .self) (c .before .before .before .before .before .args .op) _ (c .before .before .before .enum-told .given .1) (c .before .before .if1 .left))
 
 returns-6 : tie.Need-returns-6
 returns-6 c = c .moved3 .ensures ∙ (ap (λ (t : Scan). movedTo t 1) (c .before .add .ensures) ∙ an-add (c .before .before .before .before .args .self) (c .before .before .before .before .args .op) (c .before .before .enum-told2 .given .1))
 
 returns-7 : tie.Need-returns-7
-returns-7 c = c .foreign .ensures ∙ read-outside (c .before .before .before .before .args .self) (c .before .before .before .before .args .op) (c .before .before .enum-told3 .given .1) (c .before .if2 .left)
+returns-7 c = c .foreign .ensures ∙ read-outside (c .before .before .before .before .args .self) (c .before .before .before .before .args .op) _ (c .before .before .enum-told3 .given .1) (c .before .if2 .left)
 
 returns-8 : tie.Need-returns-8
-returns-8 c = c .moved5 .ensures ∙ (ap (λ (t : Scan). movedTo t 2) (c .before .write .ensures) ∙ a-write (c .before .before .before .before .args .self) (c .before .before .before .before .args .op) (c .before .before .enum-told4 .given .1))
+returns-8 c = c .moved5 .ensures ∙ (ap (λ (t : Scan). movedTo t 2) (c .before .write .ensures) ∙ a-write (c .before .before .before .before .args .self) (c .before .before .before .before .args .op) _ (c .before .before .enum-told4 .given .1))
 
 returns-9 : tie.Need-returns-9
 returns-9 c = c .moved6 .ensures ∙ (ap (λ (t : Scan). movedTo t 1) (c .before .top4 .ensures) ∙ begin-outside (c .before .before .before .before .before .args .self) (c .before .before .before .before .before .args .op) (c .before .before .before .enum-told5 .given .1) (c .before .before .if3 .left))

@@ -1,0 +1,111 @@
+-- One turn of each loop over records or over numbers. Assumes nothing.
+use Prim.Native.Nat.{ℕ, zero, suc, _+_, _-_, _≤_, _<_}
+use mathlib.Core.Bool.{Bool, true, false, _&&_, _||_}
+use mathlib.Core.Path.{_≡_, refl, sym, ap, _∙_}
+use mathlib.Core.List.{List}
+use native.Mathlib.Numerals.{add-one}
+use native.Mathlib.Omega.{arith}
+use lib.Dec.{eqb}
+use lib.IntN.{ℤ, pos}
+use lib.ListN.{getD}
+use Rattle.machine.specs.Steps.{Child}
+use Rattle.machine.specs.FitTest.{freeFrom, isZero, same}
+use Rattle.survey.specs.declared.Row.{Row}
+use Rattle.survey.specs.declared.Asked.{Asked}
+use Rattle.survey.specs.declared.Verdict.{Verdict}
+use Rattle.survey.specs.InnerWalk.{ownAt, noted, asks, judgeTo, judgeFrom, allAsked}
+use Rattle.word.specs.Registers.{member}
+
+-- how many are left
+fewer : (n i : ℕ) → i < n → n - i ≡ suc (n - (i + 1))
+fewer n i h = omega arith
+
+none-left : (n i : ℕ) → n ≤ i → n - i ≡ 0
+none-left n i h = omega arith
+
+-- ---- numbers that are 0 where they are not in use
+module _ (used : ℕ → Bool) (ns : List ℤ) where
+  abbrev pub kept : ℕ → Bool
+  kept v = used v || isZero (getD ns v (pos 0))
+
+  abbrev pub freeAt : ℕ → Bool
+  freeAt v = freeFrom (64 - v) v used ns
+
+  free-step : (v : ℕ) → v < 64 → freeAt v ≡ (kept v && freeAt (v + 1))
+  unfolding freeFrom
+  free-step v h =
+      ap (λ (k : ℕ). freeFrom k v used ns) (fewer 64 v h) ∙ ap (λ (i : ℕ). kept v && freeFrom (64 - (v + 1)) i used ns) (sym (add-one v))
+
+  pub free-fails : (v : ℕ) → v < 64 → freeAt v ≡ freeAt 0 → kept v ≡ false → false ≡ freeAt 0
+  free-fails v h inv k = sym (free-step v h ∙ ap (λ (b : Bool). b && freeAt (v + 1)) k) ∙ inv
+
+  pub free-again : (v : ℕ) → v < 64 → freeAt v ≡ freeAt 0 → kept v ≡ true → freeAt (v + 1) ≡ freeAt 0
+  free-again v h inv k = sym (free-step v h ∙ ap (λ (b : Bool). b && freeAt (v + 1)) k) ∙ inv
+
+  pub free-done : (v : ℕ) → 64 ≤ v → freeAt v ≡ freeAt 0 → true ≡ freeAt 0
+  unfolding freeFrom
+  free-done v h inv = sym (ap (λ (k : ℕ). freeFrom k v used ns) (none-left 64 v h)) ∙ inv
+
+-- ---- threads that were asked for
+module _ (starts : List ℕ) (asked : ℕ) where
+  abbrev pub wanted : ℕ → Bool
+  wanted i = eqb (getD starts i 0) 0 || member asked i
+
+  abbrev pub askedAt : ℕ → Bool
+  askedAt i = allAsked (16 - i) i starts asked
+
+  asked-step : (i : ℕ) → i < 16 → askedAt i ≡ (wanted i && askedAt (i + 1))
+  unfolding allAsked
+  asked-step i h =
+      ap (λ (k : ℕ). allAsked k i starts asked) (fewer 16 i h) ∙ ap (λ (j : ℕ). wanted i && allAsked (16 - (i + 1)) j starts asked) (sym (add-one i))
+
+  pub asked-fails : (i : ℕ) → i < 16 → askedAt i ≡ askedAt 1 → wanted i ≡ false → false ≡ askedAt 1
+  asked-fails i h inv k = sym (asked-step i h ∙ ap (λ (b : Bool). b && askedAt (i + 1)) k) ∙ inv
+
+  pub asked-again : (i : ℕ) → i < 16 → askedAt i ≡ askedAt 1 → wanted i ≡ true → askedAt (i + 1) ≡ askedAt 1
+  asked-again i h inv k = sym (asked-step i h ∙ ap (λ (b : Bool). b && askedAt (i + 1)) k) ∙ inv
+
+  pub asked-done : (i : ℕ) → 16 ≤ i → askedAt i ≡ askedAt 1 → true ≡ askedAt 1
+  unfolding allAsked
+  asked-done i h inv = sym (ap (λ (k : ℕ). allAsked k i starts asked) (none-left 16 i h)) ∙ inv
+
+-- ---- records that have a child code
+noted-few : (a : Asked) (i : ℕ) (hit : Bool) → a .number ≤ i → noted a i hit .number ≤ i + 1
+unfolding noted
+noted-few a i true h = omega arith
+noted-few a i false h = omega arith
+
+module _ (starts ends : List ℕ) (c : Child) where
+  abbrev pub asksAt : ℕ → Asked → Asked
+  asksAt i a = asks (16 - i) i starts ends c a
+
+  pub asks-again : (i : ℕ) (a : Asked) → i < 16 → asksAt (i + 1) (noted a i (same (ownAt starts ends i) c)) ≡ asksAt i a
+  unfolding asks
+  asks-again i a h =
+      ap (λ (j : ℕ). asks (16 - (i + 1)) j starts ends c (noted a i (same (ownAt starts ends i) c))) (add-one i)
+      ∙ sym (ap (λ (k : ℕ). asks k i starts ends c a) (fewer 16 i h))
+
+  pub asks-done : (i : ℕ) (a : Asked) → 16 ≤ i → asksAt i a ≡ a
+  unfolding asks
+  asks-done i a h = ap (λ (k : ℕ). asks k i starts ends c a) (none-left 16 i h)
+
+  pub asks-turn : (i : ℕ) (a₀ a r : Asked) (hit : Bool) → i < 16 → hit ≡ same (ownAt starts ends i) c → r ≡ noted a i hit → a .number ≤ i → asksAt i a ≡ asksAt 0 a₀ → (r .number ≤ i + 1) × (asksAt (i + 1) r ≡ asksAt 0 a₀)
+  asks-turn i a₀ a r hit h e f n inv =
+      let g : r ≡ noted a i (same (ownAt starts ends i) c) = f ∙ ap (noted a i) e in
+      (rw g (noted-few a i (same (ownAt starts ends i) c) n), ap (asksAt (i + 1)) g ∙ (asks-again i a h ∙ inv))
+
+-- ---- the threads
+module _ (bytes starts ends : List ℕ) (rows : ℕ → Row) where
+  abbrev pub judgeAt : ℕ → Verdict → Verdict
+  judgeAt i v = judgeFrom bytes starts ends rows (16 - i) i v
+
+  pub judge-again : (i : ℕ) (v r : Verdict) → i < 16 → r ≡ judgeTo bytes starts ends (rows i) v → judgeAt (i + 1) r ≡ judgeAt i v
+  unfolding judgeFrom
+  judge-again i v r h e =
+      ap (judgeAt (i + 1)) e
+      ∙ (ap (λ (j : ℕ). judgeFrom bytes starts ends rows (16 - (i + 1)) j (judgeTo bytes starts ends (rows i) v)) (add-one i)
+      ∙ sym (ap (λ (k : ℕ). judgeFrom bytes starts ends rows k i v) (fewer 16 i h)))
+
+  pub judge-done : (i : ℕ) (v : Verdict) → 16 ≤ i → judgeAt i v ≡ v
+  unfolding judgeFrom
+  judge-done i v h = ap (λ (k : ℕ). judgeFrom bytes starts ends rows k i v) (none-left 16 i h)

@@ -1,0 +1,131 @@
+-- The tests of one record, part by part, and what `withTo` is in each branch. Assumes nothing.
+use Prim.Native.Nat.{ℕ, _≤_, _<_}
+use mathlib.Core.Bool.{Bool, true, false, not, _&&_, _||_}
+use mathlib.Core.Path.{_≡_, sym, ap, fun-ext, _∙_}
+use mathlib.Core.List.{List}
+use native.Mathlib.Omega.{arith}
+use borrow.Author.Tests.{eqb-true, eq-eqb, ne-eqb, lt-ltb, le-ltb}
+use lib.Dec.{eqb}
+use lib.IntN.{ℤ}
+use Rattle.thread.specs.declared.Thread.{Thread}
+use Rattle.machine.specs.FitTest.{free, allZero}
+use Rattle.word.specs.Registers.{member}
+use Rattle.survey.specs.declared.Survey.{Survey}
+use Rattle.survey.specs.InnerRecords.{unfitTo, passTo, putTo, cellsFree, tidy, withTo}
+use Rattle.survey.proofs.Yes.{first, second, both, when-true, when-false}
+
+-- ---- a record of no thread
+pub record Zeros (t : Thread) : Type 0 where
+  pub start : t .start ≡ 0
+  pub end : t .end ≡ 0
+  pub place : t .place ≡ 0
+  pub height : t .height ≡ 0
+  pub begin : t .begin ≡ 0
+  pub base : t .base ≡ 0
+  pub reads : t .reads ≡ 0
+  pub writes : t .writes ≡ 0
+  pub cells : cellsFree 0 (t .cells) ≡ true
+  pub readlog : cellsFree 0 (t .readlog) ≡ true
+  pub writelog : cellsFree 0 (t .writelog) ≡ true
+
+-- no cell is below height 0
+none-below : (ns : List ℤ) → cellsFree 0 ns ≡ free (λ n. false) ns
+unfolding cellsFree
+none-below ns = ap (λ (used : ℕ → Bool). free used ns) (fun-ext (λ n. le-ltb n 0 (omega arith)))
+
+pub zeros-of : (t : Thread) → allZero t ≡ true → Zeros t
+unfolding allZero
+zeros-of t e =
+    let e1 = second (eqb (t .start) 0) _ e in
+    let e2 = second (eqb (t .end) 0) _ e1 in
+    let e3 = second (eqb (t .place) 0) _ e2 in
+    let e4 = second (eqb (t .height) 0) _ e3 in
+    let e5 = second (eqb (t .begin) 0) _ e4 in
+    let e6 = second (eqb (t .base) 0) _ e5 in
+    let e7 = second (eqb (t .reads) 0) _ e6 in
+    let e8 = second (eqb (t .writes) 0) _ e7 in
+    let e9 = second (free (λ n. false) (t .cells)) _ e8 in
+    record {
+      start = eqb-true (t .start) 0 (first _ _ e);
+      end = eqb-true (t .end) 0 (first _ _ e1);
+      place = eqb-true (t .place) 0 (first _ _ e2);
+      height = eqb-true (t .height) 0 (first _ _ e3);
+      begin = eqb-true (t .begin) 0 (first _ _ e4);
+      base = eqb-true (t .base) 0 (first _ _ e5);
+      reads = eqb-true (t .reads) 0 (first _ _ e6);
+      writes = eqb-true (t .writes) 0 (first _ _ e7);
+      cells = none-below (t .cells) ∙ first _ _ e8;
+      readlog = none-below (t .readlog) ∙ first _ _ e9;
+      writelog = none-below (t .writelog) ∙ second (free (λ n. false) (t .readlog)) _ e9;
+    }
+
+pub all-zero : (t : Thread) → Zeros t → allZero t ≡ true
+unfolding allZero
+all-zero t z =
+    both (eq-eqb (t .start) 0 (z .start))
+    (both (eq-eqb (t .end) 0 (z .end))
+    (both (eq-eqb (t .place) 0 (z .place))
+    (both (eq-eqb (t .height) 0 (z .height))
+    (both (eq-eqb (t .begin) 0 (z .begin))
+    (both (eq-eqb (t .base) 0 (z .base))
+    (both (eq-eqb (t .reads) 0 (z .reads))
+    (both (eq-eqb (t .writes) 0 (z .writes))
+    (both (sym (none-below (t .cells)) ∙ z .cells) (both (sym (none-below (t .readlog)) ∙ z .readlog) (sym (none-below (t .writelog)) ∙ z .writelog))))))))))
+
+-- ---- a thread's record
+abbrev pub shut : Thread → Bool
+shut t = not (eqb (t .begin) 0) || (eqb (t .reads) 0 && eqb (t .writes) 0)
+
+pub record Tidy (t : Thread) : Type 0 where
+  pub shut : shut t ≡ true
+  pub readlog : free (member (t .reads)) (t .readlog) ≡ true
+  pub writelog : free (member (t .writes)) (t .writelog) ≡ true
+  pub cells : cellsFree (t .height) (t .cells) ≡ true
+
+pub tidy-of : (t : Thread) → tidy t ≡ true → Tidy t
+unfolding tidy
+tidy-of t e =
+    let e1 = second (shut t) _ e in
+    let e2 = second (free (member (t .reads)) (t .readlog)) _ e1 in
+    record { shut = first _ _ e; readlog = first _ _ e1; writelog = first _ _ e2; cells = second (free (member (t .writes)) (t .writelog)) _ e2 }
+
+pub is-tidy : (t : Thread) → Tidy t → tidy t ≡ true
+unfolding tidy
+is-tidy t y = both (y .shut) (both (y .readlog) (both (y .writelog) (y .cells)))
+
+-- ---- the branches of `withTo`
+module _ (s : Survey) (t : Thread) where
+  pub with-bad : s .good ≡ false → s ≡ withTo s t
+  unfolding withTo
+  with-bad g = when-false (s .good) _ s g
+
+  module _ (g : s .good ≡ true) where
+    pub with-many : 16 ≤ s .seen → unfitTo s ≡ withTo s t
+    unfolding withTo
+    with-many h = when-false _ _ (unfitTo s) (le-ltb (s .seen) 16 h) ∙ when-true (s .good) _ s g
+
+    module _ (h : s .seen < 16) where
+      pub with-blank : t .start ≡ 0 → allZero t ≡ true → passTo s ≡ withTo s t
+      unfolding withTo
+      with-blank e z =
+          when-true _ (passTo s) (unfitTo s) z ∙ (when-true _ _ _ (eq-eqb (t .start) 0 e) ∙ (when-true _ _ (unfitTo s) (lt-ltb (s .seen) 16 h) ∙ when-true (s .good) _ s g))
+
+      pub with-marred : t .start ≡ 0 → allZero t ≡ false → unfitTo s ≡ withTo s t
+      unfolding withTo
+      with-marred e z =
+          when-false _ (passTo s) (unfitTo s) z ∙ (when-true _ _ _ (eq-eqb (t .start) 0 e) ∙ (when-true _ _ (unfitTo s) (lt-ltb (s .seen) 16 h) ∙ when-true (s .good) _ s g))
+
+      pub with-gap : (t .start ≡ 0 → ⊥) → (s .count ≡ s .seen → ⊥) → unfitTo s ≡ withTo s t
+      unfolding withTo
+      with-gap e n =
+          when-false _ _ (unfitTo s) (ne-eqb (s .count) (s .seen) n) ∙ (when-false _ _ _ (ne-eqb (t .start) 0 e) ∙ (when-true _ _ (unfitTo s) (lt-ltb (s .seen) 16 h) ∙ when-true (s .good) _ s g))
+
+      pub with-untidy : (t .start ≡ 0 → ⊥) → s .count ≡ s .seen → tidy t ≡ false → unfitTo s ≡ withTo s t
+      unfolding withTo
+      with-untidy e n y =
+          when-false _ (putTo s t) (unfitTo s) y ∙ (when-true _ _ (unfitTo s) (eq-eqb (s .count) (s .seen) n) ∙ (when-false _ _ _ (ne-eqb (t .start) 0 e) ∙ (when-true _ _ (unfitTo s) (lt-ltb (s .seen) 16 h) ∙ when-true (s .good) _ s g)))
+
+      pub with-put : (t .start ≡ 0 → ⊥) → s .count ≡ s .seen → tidy t ≡ true → putTo s t ≡ withTo s t
+      unfolding withTo
+      with-put e n y =
+          when-true _ (putTo s t) (unfitTo s) y ∙ (when-true _ _ (unfitTo s) (eq-eqb (s .count) (s .seen) n) ∙ (when-false _ _ _ (ne-eqb (t .start) 0 e) ∙ (when-true _ _ (unfitTo s) (lt-ltb (s .seen) 16 h) ∙ when-true (s .good) _ s g)))

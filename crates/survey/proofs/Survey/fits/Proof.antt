@@ -1,0 +1,59 @@
+-- `survey::Survey::fits` meets its contract: test by test. Assumes nothing.
+use mathlib.Core.Path.{sym, ap, _∙_}
+use borrow.Author.Tests.{not-true, not-false}
+use Rattle.survey.specs.declared.Verdict.{Verdict}
+use Rattle.survey.specs.InnerWalk.{allAsked}
+use Rattle.survey.proofs.Yes.{is-false, alike, clash}
+use Rattle.survey.proofs.Judging.{SurveyFits, survey-parts, survey-whole}
+use borrow.Author.Needs.{needs}
+use Rattle.survey.proofs.Survey.fits.Statement.{statement}
+use Rattle.survey.proofs.Survey.fits.Tie as tie
+
+returns : tie.Need-returns
+returns c = is-false _ (λ e. clash (not-true _ (c .if1 .taken)) (survey-parts (c .before .before .before .args .self) (c .before .before .before .args .code .now) (c .before .before .before .args .registers) e .good))
+
+returns-2 : tie.Need-returns-2
+returns-2 c = is-false _ (λ e. c .if2 .taken (survey-parts (c .before .before .before .before .before .args .self) (c .before .before .before .before .before .args .code .now) (c .before .before .before .before .before .args .registers) e .seen))
+
+returns-3 : tie.Need-returns-3
+returns-3 c = is-false _ (λ e. c .if3 .taken (survey-parts (c .before .before .before .before .before .before .args .self) (c .before .before .before .before .before .before .args .code .now) (c .before .before .before .before .before .before .args .registers) e .table))
+
+array-read-is-same : tie.Need-array-read-is-same
+array-read-is-same c = search needs
+
+array-read-is-same-2 : tie.Need-array-read-is-same-2
+array-read-is-same-2 c = search needs
+
+is-same-requires : tie.Need-is-same-requires
+is-same-requires c κs = search needs
+
+returns-4 : tie.Need-returns-4
+returns-4 c = is-false _ (λ e. clash (sym (c .before .is-same .ensures) ∙ not-true _ (c .if4 .taken)) (survey-parts (c .before .before .before .before .before .before .before .before .before .before .args .self) (c .before .before .before .before .before .before .before .before .before .before .args .code .now) (c .before .before .before .before .before .before .before .before .before .before .args .registers) e .root))
+
+judged-requires : tie.Need-judged-requires
+judged-requires c κs = search needs
+
+returns-5 : tie.Need-returns-5
+returns-5 c = is-false _ (λ e. clash (sym (ap (λ (v : Verdict). v .good) (c .before .before .judged .ensures)) ∙ not-true _ (c .if5 .taken)) (survey-parts (c .before .before .before .before .before .before .before .before .before .before .before .before .before .args .self) (c .before .before .before .before .before .before .before .before .before .before .before .before .before .args .code .now) (c .before .before .before .before .before .before .before .before .before .before .before .before .before .args .registers) e .judged))
+
+is-all-asked-requires : tie.Need-is-all-asked-requires
+is-all-asked-requires c κs = search needs
+
+returns-6 : tie.Need-returns-6
+returns-6 c = alike _ _ (λ e. survey-whole (c .before .before .before .before .before .before .before .before .before .before .before .before .before .before .before .args .self) (c .before .before .before .before .before .before .before .before .before .before .before .before .before .before .before .args .code .now) (c .before .before .before .before .before .before .before .before .before .before .before .before .before .before .before .args .registers) (record { good = not-false _ (c .before .before .before .before .before .before .before .before .before .before .before .before .if1 .left); seen = c .before .before .before .before .before .before .before .before .before .before .if2 .left; table = c .before .before .before .before .before .before .before .before .before .if3 .left; root = sym (c .before .before .before .before .before .before .is-same .ensures) ∙ not-false _ (c .before .before .before .before .before .if4 .left); judged = sym (ap (λ (v : Verdict). v .good) (c .before .before .before .before .judged .ensures)) ∙ not-false _ (c .before .before .if5 .left); asked = sym (c .is-all-asked .ensures ∙ ap (λ (v : Verdict). allAsked 15 1 (c .before .before .before .before .before .before .before .before .before .before .before .before .before .before .before .args .self .starts) (v .asked)) (c .before .before .before .before .judged .ensures)) ∙ e })) (λ e. (c .is-all-asked .ensures ∙ ap (λ (v : Verdict). allAsked 15 1 (c .before .before .before .before .before .before .before .before .before .before .before .before .before .before .before .args .self .starts) (v .asked)) (c .before .before .before .before .judged .ensures)) ∙ survey-parts (c .before .before .before .before .before .before .before .before .before .before .before .before .before .before .before .args .self) (c .before .before .before .before .before .before .before .before .before .before .before .before .before .before .before .args .code .now) (c .before .before .before .before .before .before .before .before .before .before .before .before .before .before .before .args .registers) e .asked)
+
+pub fits-spec : {M : Type 1} → statement M
+fits-spec =
+    tie.close
+    (tie.spec
+    returns
+    returns-2
+    returns-3
+    array-read-is-same
+    array-read-is-same-2
+    is-same-requires
+    returns-4
+    judged-requires
+    returns-5
+    is-all-asked-requires
+    returns-6)

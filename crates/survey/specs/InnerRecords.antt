@@ -1,0 +1,103 @@
+-- For the proof of `Survey::with` only: what a survey keeps of each record. Nobody has to believe it: `survey-fits` (proofs/Exact) ties it to `fits`.
+use Prim.Native.Nat.{ℕ, _+_}
+use mathlib.Core.Bool.{Bool, true, false, cond, not, _&&_, _||_}
+use mathlib.Core.List.{List, [], _∷_}
+use lib.Dec.{eqb, ltb}
+use lib.IntN.{ℤ}
+use lib.ListN.{set, replicate}
+use Rattle.survey.specs.declared.Survey.{Survey}
+use Rattle.thread.specs.declared.Thread.{Thread}
+use Rattle.machine.specs.FitTest.{free, allZero}
+use Rattle.word.specs.Registers.{member}
+
+-- no record came yet
+unfoldable pub emptySurvey : Survey
+emptySurvey =
+    record {
+      starts = replicate 16 0;
+      ends = replicate 16 0;
+      places = replicate 16 0;
+      heights = replicate 16 0;
+      begins = replicate 16 0;
+      bases = replicate 16 0;
+      count = 0;
+      seen = 0;
+      good = true;
+    }
+
+-- no state with these records fits any code
+unfoldable pub unfitTo : Survey → Survey
+unfitTo s =
+    record {
+      starts = s .starts;
+      ends = s .ends;
+      places = s .places;
+      heights = s .heights;
+      begins = s .begins;
+      bases = s .bases;
+      count = s .count;
+      seen = s .seen;
+      good = false;
+    }
+
+-- a record of no thread came
+unfoldable pub passTo : Survey → Survey
+passTo s =
+    record {
+      starts = s .starts;
+      ends = s .ends;
+      places = s .places;
+      heights = s .heights;
+      begins = s .begins;
+      bases = s .bases;
+      count = s .count;
+      seen = s .seen + 1;
+      good = s .good;
+    }
+
+-- a thread's record came
+unfoldable pub putTo : Survey → Thread → Survey
+putTo s t =
+    record {
+      starts = set (s .starts) (s .seen) (t .start);
+      ends = set (s .ends) (s .seen) (t .end);
+      places = set (s .places) (s .seen) (t .place);
+      heights = set (s .heights) (s .seen) (t .height);
+      begins = set (s .begins) (s .seen) (t .begin);
+      bases = set (s .bases) (s .seen) (t .base);
+      count = s .count + 1;
+      seen = s .seen + 1;
+      good = s .good;
+    }
+
+-- the cells above a height are 0
+unfoldable pub cellsFree : (height : ℕ) → List ℤ → Bool
+cellsFree height ns = free (λ n. ltb n height) ns
+
+-- the logs are empty outside a transaction, and what is not in use is 0
+unfoldable pub tidy : Thread → Bool
+tidy t =
+    (not (eqb (t .begin) 0) || (eqb (t .reads) 0 && eqb (t .writes) 0))
+    && (free (member (t .reads)) (t .readlog) && (free (member (t .writes)) (t .writelog) && cellsFree (t .height) (t .cells)))
+
+-- the next record
+unfoldable pub withTo : Survey → Thread → Survey
+withTo s t =
+    cond
+    (s .good)
+    (cond
+    (ltb (s .seen) 16)
+    (cond
+    (eqb (t .start) 0)
+    (cond (allZero t) (passTo s) (unfitTo s))
+    (cond (eqb (s .count) (s .seen)) (cond (tidy t) (putTo s t) (unfitTo s)) (unfitTo s)))
+    (unfitTo s))
+    s
+
+-- the records one after the other
+unfoldable pub surveyFrom : Survey → List Thread → Survey
+surveyFrom s [] = s
+surveyFrom s (t ∷ ts) = surveyFrom (withTo s t) ts
+
+unfoldable pub surveyOf : List Thread → Survey
+surveyOf ts = surveyFrom emptySurvey ts

@@ -1,0 +1,3 @@
+-- What the contracts of `survey` cite.
+pub mod InnerRecords
+pub mod InnerWalk

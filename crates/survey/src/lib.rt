@@ -1,0 +1,629 @@
+// The state test: what has to be known of the thread records, taken one after the other, and whether they fit the code.
+ghost use Prim.Native.Nat.{_+_, _-_, _<_, _≤_, _^_};
+ghost use lib.Dec.{eqb};
+ghost use mathlib.Core.Bool.{_&&_, _||_, not};
+ghost use mathlib.Core.Path.{_≡_};
+ghost use Rattle.machine.specs.FitTest.{allZero, free, isZero};
+ghost use Rattle.survey.specs.InnerRecords.{cellsFree, emptySurvey, unfitTo, passTo, putTo, tidy, withTo};
+ghost use Rattle.survey.specs.InnerWalk.{agreeing, allAsked, askedFor, fallTo, forkTo, judgeAll, judgeTo, lostWalk, noteTo, noted, riseTo, stayTo, stepTo, surveyFits, walkFrom};
+ghost use Rattle.word.specs.Registers.{member};
+
+// What the records that came so far leave: the numbers of each thread, how many threads there are, how many records came, and whether
+// each of them passed the tests that need no code.
+pub struct Survey {
+    pub starts: [usize; 16],
+    pub ends: [usize; 16],
+    pub places: [usize; 16],
+    pub heights: [usize; 16],
+    pub begins: [usize; 16],
+    pub bases: [usize; 16],
+    pub count: usize,
+    pub seen: usize,
+    pub good: bool,
+}
+
+// The numbers of one thread.
+struct Row {
+    start: usize,
+    end: usize,
+    place: usize,
+    height: usize,
+    begin: usize,
+    base: usize,
+}
+
+// How many records have a FORK's child code as their own, and the set of the records that were asked for.
+struct Asked {
+    number: usize,
+    asked: u64,
+}
+
+// How far the walk along a thread's own code has come: what the instructions before a place leave there, and the records that the
+// FORKs passed ask for. A walk that is not `good` does not come to the thread's place, or a FORK passed has not exactly one thread.
+struct Walk {
+    place: usize,
+    height: usize,
+    begin: usize,
+    base: usize,
+    asked: u64,
+    good: bool,
+}
+
+// Whether the threads so far fit the code, and the records that they ask for.
+struct Verdict {
+    asked: u64,
+    good: bool,
+}
+
+// ---- one record
+
+// Whether a number is 0.
+fn is_zero(n: i32) -> bool
+    ensures { λ r. ⌜ r ≡ isZero n ⌝ }
+{
+    if n < 0 {
+        return false;
+    }
+    !(0 < n)
+}
+
+// Whether a number is in use or 0.
+fn is_kept(used: bool, n: i32) -> bool
+    ensures { λ r. ⌜ r ≡ (used || isZero n) ⌝ }
+{
+    if used {
+        return true;
+    }
+    is_zero(n)
+}
+
+// Whether the log values that are not marked are 0.
+fn is_log_free(set: u64, values: &[i32; 64]) -> bool
+    ensures { λ r. ⌜ r ≡ free (member set) (now (values .entry)) ⌝ }
+{
+    let mut v: usize = 0;
+    while v < 64 {
+        let register = v as u8;
+        if !is_kept(word::has(set, register), values[v]) {
+            return false;
+        }
+        v += 1;
+    }
+    true
+}
+
+// Whether the stack cells above the height are 0.
+fn is_stack_free(height: usize, cells: &[i32; 64]) -> bool
+    ensures { λ r. ⌜ r ≡ cellsFree height (now (cells .entry)) ⌝ }
+{
+    let mut n: usize = 0;
+    while n < 64 {
+        if !is_kept(n < height, cells[n]) {
+            return false;
+        }
+        n += 1;
+    }
+    true
+}
+
+// Whether a record is of no thread: it holds 0 only.
+fn is_blank(t: thread::Thread) -> bool
+    ensures { λ r. ⌜ r ≡ allZero t ⌝ }
+{
+    if t.start != 0 {
+        return false;
+    }
+    if t.end != 0 {
+        return false;
+    }
+    if t.place != 0 {
+        return false;
+    }
+    if t.height != 0 {
+        return false;
+    }
+    if t.begin != 0 {
+        return false;
+    }
+    if t.base != 0 {
+        return false;
+    }
+    if t.reads != 0 {
+        return false;
+    }
+    if t.writes != 0 {
+        return false;
+    }
+    let cells = t.cells;
+    if !is_stack_free(0, &cells) {
+        return false;
+    }
+    let readlog = t.readlog;
+    if !is_stack_free(0, &readlog) {
+        return false;
+    }
+    let writelog = t.writelog;
+    is_stack_free(0, &writelog)
+}
+
+// Whether a transaction is open or no register is marked.
+fn is_shut(begin: usize, reads: u64, writes: u64) -> bool
+    ensures { λ r. ⌜ r ≡ (not (eqb begin 0) || (eqb reads 0 && eqb writes 0)) ⌝ }
+{
+    if begin != 0 {
+        return true;
+    }
+    if reads != 0 {
+        return false;
+    }
+    writes == 0
+}
+
+// Whether what a thread's record does not use is 0, and its logs are empty outside a transaction.
+fn is_tidy(t: thread::Thread) -> bool
+    ensures { λ r. ⌜ r ≡ tidy t ⌝ }
+{
+    if !is_shut(t.begin, t.reads, t.writes) {
+        return false;
+    }
+    let readlog = t.readlog;
+    if !is_log_free(t.reads, &readlog) {
+        return false;
+    }
+    let writelog = t.writelog;
+    if !is_log_free(t.writes, &writelog) {
+        return false;
+    }
+    let cells = t.cells;
+    is_stack_free(t.height, &cells)
+}
+
+impl Survey {
+    // No record came yet.
+    pub fn start() -> Survey
+        ensures { λ r. ⌜ r ≡ emptySurvey ⌝ }
+    {
+        Survey {
+            starts: [0; 16],
+            ends: [0; 16],
+            places: [0; 16],
+            heights: [0; 16],
+            begins: [0; 16],
+            bases: [0; 16],
+            count: 0,
+            seen: 0,
+            good: true,
+        }
+    }
+
+    // No state with these records fits any code.
+    fn refuse(mut self) -> Survey
+        ensures { λ r. ⌜ r ≡ unfitTo self ⌝ }
+    {
+        self.good = false;
+        self
+    }
+
+    // A record of no thread came.
+    fn pass(mut self) -> Survey
+        requires { ⌜ self .seen < 16 ⌝ }
+        ensures { λ r. ⌜ r ≡ passTo self ⌝ }
+    {
+        let seen = self.seen;
+        self.seen = seen + 1;
+        self
+    }
+
+    // A thread's record came.
+    fn put(mut self, t: thread::Thread) -> Survey
+        requires { ⌜ (self .seen < 16) × (self .count < 16) ⌝ }
+        ensures { λ r. ⌜ r ≡ putTo self t ⌝ }
+    {
+        let seen = self.seen;
+        let count = self.count;
+        self.starts[seen] = t.start;
+        self.ends[seen] = t.end;
+        self.places[seen] = t.place;
+        self.heights[seen] = t.height;
+        self.begins[seen] = t.begin;
+        self.bases[seen] = t.base;
+        self.count = count + 1;
+        self.seen = seen + 1;
+        self
+    }
+
+    // The next record, with every test that needs no code.
+    pub fn with(self, t: thread::Thread) -> Survey
+        ensures { λ r. ⌜ r ≡ withTo self t ⌝ }
+    {
+        if !self.good {
+            return self;
+        }
+        if self.seen >= 16 {
+            return self.refuse();
+        }
+        if t.start == 0 {
+            if !is_blank(t) {
+                return self.refuse();
+            }
+            return self.pass();
+        }
+        if self.count != self.seen {
+            return self.refuse();
+        }
+        if !is_tidy(t) {
+            return self.refuse();
+        }
+        self.put(t)
+    }
+}
+
+// ---- a FORK that was passed
+
+// Whether two child codes are the same.
+fn is_same(start: usize, end: usize, other_start: usize, other_end: usize) -> bool
+    ensures { λ r. ⌜ r ≡ (eqb start «other_start» && eqb end «other_end») ⌝ }
+{
+    if start != other_start {
+        return false;
+    }
+    end == other_end
+}
+
+impl Asked {
+    // Record i, if it is one that is asked for.
+    fn note(self, i: usize, hit: bool) -> Asked
+        requires { ⌜ (i < 16) × (self .number ≤ i) ⌝ }
+        ensures { λ r. ⌜ r ≡ noted self i hit ⌝ }
+    {
+        if !hit {
+            return self;
+        }
+        let record = i as u8;
+        let number = self.number + 1;
+        Asked {
+            number,
+            asked: word::insert(self.asked, record),
+        }
+    }
+}
+
+// The records whose own code is this one.
+fn ask(starts: &[usize; 16], ends: &[usize; 16], start: usize, end: usize, asked: u64) -> Asked
+    ensures { λ r. ⌜ r ≡ askedFor (now (starts .entry)) (now (ends .entry)) (record { start = start; end = end }) asked ⌝ }
+{
+    let mut a = Asked { number: 0, asked };
+    let mut i: usize = 0;
+    while i < 16 {
+        a = a.note(i, is_same(starts[i], ends[i], start, end));
+        i += 1;
+    }
+    a
+}
+
+// ---- the walk along a thread's own code
+
+// One less, and 0 of 0.
+fn less(n: usize) -> usize
+    ensures { λ r. ⌜ r ≡ n - 1 ⌝ }
+{
+    if n == 0 {
+        return 0;
+    }
+    n - 1
+}
+
+// A walk that does not come to the thread's place.
+fn lost() -> Walk
+    ensures { λ r. ⌜ r ≡ lostWalk ⌝ }
+{
+    Walk {
+        place: 0,
+        height: 0,
+        begin: 0,
+        base: 0,
+        asked: 0,
+        good: false,
+    }
+}
+
+impl Walk {
+    // PUSH or READ: so many bytes further, and one number more on the stack.
+    fn rise(self, size: usize) -> Walk
+        requires { ⌜ (self .place + size < 2 ^ 64) × (self .height < 2 ^ 64 - 1) ⌝ }
+        ensures { λ r. ⌜ r ≡ riseTo self size ⌝ }
+    {
+        Walk {
+            place: self.place + size,
+            height: self.height + 1,
+            begin: self.begin,
+            base: self.base,
+            asked: self.asked,
+            good: true,
+        }
+    }
+
+    // ADD.
+    fn fall(self) -> Walk
+        requires { ⌜ self .place < 2 ^ 64 - 1 ⌝ }
+        ensures { λ r. ⌜ r ≡ fallTo self ⌝ }
+    {
+        Walk {
+            place: self.place + 1,
+            height: less(self.height),
+            begin: self.begin,
+            base: self.base,
+            asked: self.asked,
+            good: true,
+        }
+    }
+
+    // WRITE.
+    fn stay(self) -> Walk
+        requires { ⌜ self .place < 2 ^ 64 - 2 ⌝ }
+        ensures { λ r. ⌜ r ≡ stayTo self ⌝ }
+    {
+        Walk {
+            place: self.place + 2,
+            height: self.height,
+            begin: self.begin,
+            base: self.base,
+            asked: self.asked,
+            good: true,
+        }
+    }
+
+    // BEGIN and COMMIT: other notes.
+    fn note(self, begin: usize, base: usize) -> Walk
+        requires { ⌜ self .place < 2 ^ 64 - 1 ⌝ }
+        ensures { λ r. ⌜ r ≡ noteTo self begin base ⌝ }
+    {
+        Walk {
+            place: self.place + 1,
+            height: self.height,
+            begin,
+            base,
+            asked: self.asked,
+            good: true,
+        }
+    }
+
+    // FORK: exactly one record has its child code as its own.
+    fn fork(self, starts: &[usize; 16], ends: &[usize; 16], size: usize) -> Walk
+        requires { ⌜ (self .place + 3 + size < 2 ^ 64) × (self .height < 2 ^ 64 - 1) ⌝ }
+        ensures { λ r. ⌜ r ≡ forkTo (now (starts .entry)) (now (ends .entry)) self size ⌝ }
+    {
+        let start = self.place + 3;
+        let end = start + size;
+        let a = ask(starts, ends, start, end, self.asked);
+        if a.number != 1 {
+            return lost();
+        }
+        let height = self.height + 1;
+        Walk {
+            place: end,
+            height,
+            begin: self.begin,
+            base: self.base,
+            asked: a.asked,
+            good: true,
+        }
+    }
+
+    // One instruction, if the next one is not behind the target.
+    fn step(self, starts: &[usize; 16], ends: &[usize; 16], target: usize, op: ops::Op) -> Walk
+        requires { ⌜ (self .place < target) × (self .height ≤ self .place) ⌝ }
+        ensures { λ r. ⌜ r ≡ stepTo (now (starts .entry)) (now (ends .entry)) target self op ⌝ }
+    {
+        let left = target - self.place;
+        match op {
+            ops::Op::Push(_) => {
+                if left < 5 {
+                    return lost();
+                }
+                self.rise(5)
+            }
+            ops::Op::Add => self.fall(),
+            ops::Op::Read(_) => {
+                if left < 2 {
+                    return lost();
+                }
+                self.rise(2)
+            }
+            ops::Op::Write(_) => {
+                if left < 2 {
+                    return lost();
+                }
+                self.stay()
+            }
+            ops::Op::Begin => {
+                let place = self.place;
+                let height = self.height;
+                self.note(place, height)
+            }
+            ops::Op::Commit => self.note(0, 0),
+            ops::Op::Fork(size) => {
+                if left < 3 {
+                    return lost();
+                }
+                if left - 3 < size {
+                    return lost();
+                }
+                self.fork(starts, ends, size)
+            }
+            ops::Op::Foreign => lost(),
+        }
+    }
+}
+
+// From a thread's start to its place.
+fn walk_to(
+    code: &[u8],
+    starts: &[usize; 16],
+    ends: &[usize; 16],
+    start: usize,
+    end: usize,
+    target: usize,
+    asked: u64,
+) -> Walk
+    ensures { λ r. ⌜ r ≡ walkFrom (now (code .entry)) (now (starts .entry)) (now (ends .entry)) start end target asked ⌝ }
+{
+    let mut w = Walk {
+        place: start,
+        height: 0,
+        begin: 0,
+        base: 0,
+        asked,
+        good: true,
+    };
+    loop {
+        let place = w.place;
+        if place == target {
+            return w;
+        }
+        if place > target {
+            return lost();
+        }
+        if place >= end {
+            return lost();
+        }
+        let op = ops::op_at(code, place);
+        w = w.step(starts, ends, target, op);
+        if !w.good {
+            return w;
+        }
+    }
+}
+
+// ---- the threads
+
+// Whether the record has what the walk comes to.
+fn is_agreeing(w: Walk, row: Row) -> bool
+    ensures { λ r. ⌜ r ≡ agreeing w row ⌝ }
+{
+    if !w.good {
+        return false;
+    }
+    if w.height != row.height {
+        return false;
+    }
+    if w.begin != row.begin {
+        return false;
+    }
+    w.base == row.base
+}
+
+impl Verdict {
+    // One thread more; a record of no thread changes nothing.
+    fn judge(self, code: &[u8], starts: &[usize; 16], ends: &[usize; 16], row: Row) -> Verdict
+        ensures { λ r. ⌜ r ≡ judgeTo (now (code .entry)) (now (starts .entry)) (now (ends .entry)) row self ⌝ }
+    {
+        if !self.good {
+            return self;
+        }
+        if row.start == 0 {
+            return self;
+        }
+        let w = walk_to(
+            code,
+            starts,
+            ends,
+            row.start,
+            row.end,
+            row.place,
+            self.asked,
+        );
+        if !is_agreeing(w, row) {
+            return Verdict {
+                asked: 0,
+                good: false,
+            };
+        }
+        Verdict {
+            asked: w.asked,
+            good: true,
+        }
+    }
+}
+
+// Whether each thread but the first was asked for.
+fn is_all_asked(starts: &[usize; 16], asked: u64) -> bool
+    ensures { λ r. ⌜ r ≡ allAsked 15 1 (now (starts .entry)) asked ⌝ }
+{
+    let mut i: usize = 1;
+    while i < 16 {
+        let record = i as u8;
+        if !is_wanted(starts[i], word::has(asked, record)) {
+            return false;
+        }
+        i += 1;
+    }
+    true
+}
+
+// Whether a record is of no thread or was asked for.
+fn is_wanted(start: usize, asked: bool) -> bool
+    ensures { λ r. ⌜ r ≡ (eqb start 0 || asked) ⌝ }
+{
+    if start == 0 {
+        return true;
+    }
+    asked
+}
+
+impl Survey {
+    // Every thread's walk.
+    fn judged(self, code: &[u8]) -> Verdict
+        ensures { λ r. ⌜ r ≡ judgeAll (now (code .entry)) self ⌝ }
+    {
+        let starts = self.starts;
+        let ends = self.ends;
+        let places = self.places;
+        let heights = self.heights;
+        let begins = self.begins;
+        let bases = self.bases;
+        let mut v = Verdict {
+            asked: 0,
+            good: true,
+        };
+        let mut i: usize = 0;
+        while i < 16 {
+            let row = Row {
+                start: starts[i],
+                end: ends[i],
+                place: places[i],
+                height: heights[i],
+                begin: begins[i],
+                base: bases[i],
+            };
+            v = v.judge(code, &starts, &ends, row);
+            i += 1;
+        }
+        v
+    }
+
+    // Whether the records that came, with so many registers, are a state that fits the code.
+    pub fn fits(self, code: &[u8], registers: usize) -> bool
+        ensures { λ r. ⌜ r ≡ surveyFits self (now (code .entry)) registers ⌝ }
+    {
+        if !self.good {
+            return false;
+        }
+        if self.seen != 16 {
+            return false;
+        }
+        if registers != 64 {
+            return false;
+        }
+        let starts = self.starts;
+        let ends = self.ends;
+        if !is_same(starts[0], ends[0], 5, code.len()) {
+            return false;
+        }
+        let v = self.judged(code);
+        if !v.good {
+            return false;
+        }
+        is_all_asked(&starts, v.asked)
+    }
+}
