@@ -63,7 +63,7 @@ unfoldable pub greatest : Code → ℕ → ℕ
 greatest ε h = h
 greatest (i ⨾ c) h = max h (greatest c (heightAfter i h))
 
--- a thread's code runs from this height within a stack of n cells: each instruction finds what it takes, no height is above n, one
+-- a thread's code runs from this height, n at most, within a stack of n cells: each instruction finds what it takes, no height is above n, one
 -- number is left at the end ("its result is the one number left on its stack"); and so does each FORK's child from its empty stack
 unfoldable mutual
   pub Takes : (n : ℕ) → Instruction → (height : ℕ) → Type 0

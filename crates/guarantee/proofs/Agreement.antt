@@ -1,23 +1,28 @@
 -- Demand 2 on the machine, for every accepted job. Assumes nothing.
 use Prim.Native.Nat.{ℕ}
-use mathlib.Core.Path.{_≡_, subst}
-use mathlib.Core.List.{List}
-use lib.IntN.{pos}
+use mathlib.Core.Logic.{_↔_}
+use mathlib.Core.Path.{_≡_, sym, ap, subst, _∙_}
+use mathlib.Core.List.{List, [], _∷_}
+use lib.IntN.{ℤ, pos}
 use lib.ListN.{replicate}
-use Rattle.guarantee.specs.Histories.{Session, History}
+use Rattle.guarantee.specs.Histories.{Session, History, picksTaken, Ended}
 use Rattle.guarantee.specs.Agreement.{Agreement}
-use Rattle.guarantee.proofs.Histories.{is-code, history-run, fits-behind}
+use Rattle.guarantee.proofs.Histories.{is-code, history-run, fits-behind, ended-shows, one-on, same-head}
 use Rattle.code.specs.Bytes.{compiled}
-use Rattle.machine.specs.Steps.{numberOf, Ran, fresh}
+use Rattle.machine.specs.Steps.{State, numberOf, threadAt, Ran, fresh}
+use Rattle.machine.specs.Fits.{Exists, Fits, Typed}
+use Rattle.machine.specs.Stands.{stackFrom}
 use Rattle.machine.specs.Answers.{sumOf}
-use Rattle.machine.specs.Source.{SThread, StepsM}
-use Rattle.machine.specs.Soup.{StandsFor, load}
+use Rattle.machine.specs.Source.{SThread, Halted, StepsM}
+use Rattle.machine.specs.Soup.{Carries, StandsFor, load}
 use Rattle.machine.proofs.Fresh.{fresh-fits, fresh-typed}
 use Rattle.machine.proofs.Picks.{missing-idle, ended-idle}
 use Rattle.machine.proofs.Found.{sent-back-first, committed-none, looked-found}
+use Rattle.machine.proofs.Regions.{held}
 use Rattle.machine.proofs.Rules.{rule-is-for}
+use Rattle.machine.proofs.Runs.{shows-of}
 use Rattle.machine.proofs.Soups.{ended-halted}
-use Rattle.machine.proofs.Agrees.{does-one, step-fits, run-fits, has-soup, fresh-soup, pick-is-step, step-is-pick, pick-is-step-same, step-is-pick-same, run-is-steps}
+use Rattle.machine.proofs.Agrees.{outer, does-one, step-fits, run-fits, has-soup, fresh-soup, pick-is-step, step-is-pick, pick-is-step-same, step-is-pick-same, run-is-steps}
 use Rattle.script.specs.Bytes.{Bytes}
 use Rattle.script.specs.Outcome.{done}
 use Rattle.script.specs.Jobs.{Job}
@@ -31,8 +36,32 @@ module _ (job : List ℕ) (j : Job) (b : Bytes job) (accepted : readJob job ≡ 
   reached {now} {events} h =
       let c = is-code job j b accepted in
       let m = history-run job j b accepted h in
-      let r = run-is-steps c (sumOf j) (m .0) (fresh (compiled j)) (fresh-fits (compiled j)) (fresh-typed (compiled j)) (load (j .tree)) (record { threads = load (j .tree); ordered = fresh-soup c; same = same-refl (load (j .tree)) }) in
-      (r .0, subst (λ (x : Ran). StepsM (sumOf j) (replicate 64 (pos 0)) (load (j .tree)) (x .state .registers) (r .0) × StandsFor (compiled j) (x .state) (r .0)) (m .1) (r .1))
+      let r = run-is-steps c (sumOf j) (picksTaken h) (fresh (compiled j)) (fresh-fits (compiled j)) (fresh-typed (compiled j)) (load (j .tree)) (record { threads = load (j .tree); ordered = fresh-soup c; same = same-refl (load (j .tree)) }) in
+      (r .0, subst (λ (x : Ran). StepsM (sumOf j) (replicate 64 (pos 0)) (load (j .tree)) (x .state .registers) (r .0) × StandsFor (compiled j) (x .state) (r .0)) m (r .1))
+
+  -- a thread that has ended, with its result, and the source's
+  ended-is-halted : (s : State) → Fits (compiled j) s → Typed s → (i : ℕ) → Exists s i → (m : SThread) → Carries (compiled j) (threadAt s i) m → (n : ℤ) → Ended s i n ↔ Halted m n
+  ended-is-halted s f y i e m x n = (there, back)
+    where
+      there : Ended s i n → Halted m n
+      there d =
+          record {
+            code = ended-halted x .0 (d .place);
+            stack = x .stack ∙ (ap (stackFrom (threadAt s i .cells) 0) (d .height) ∙ (one-on (threadAt s i .cells) ∙ ap (λ (z : ℤ). z ∷ []) (d .result)));
+          }
+
+      back : Halted m n → Ended s i n
+      back h =
+          let c = is-code job j b accepted in
+          let at-end = ended-halted x .1 (h .code) in
+          let w = shows-of (held c (outer c) s f y i e) in
+          let high = ended-shows (threadAt s i) (w .0) at-end (w .1) .0 in
+          record {
+            there = e;
+            place = at-end;
+            height = high;
+            result = same-head (sym (one-on (threadAt s i .cells)) ∙ (ap (stackFrom (threadAt s i .cells) 0) (sym high) ∙ (sym (x .stack) ∙ h .stack)));
+          }
 
 -- every step agrees with the machine of the source, for every accepted job
 pub agreement : (job : List ℕ) (j : Job) → Bytes job → readJob job ≡ done j → Agreement j
@@ -50,7 +79,7 @@ agreement job j b accepted =
       run-fits = λ s f y is. run-fits c (sumOf j) s f y is;
       fresh-soup = fresh-soup c;
       has-soup = λ s f y. has-soup c s f y;
-      ended-halted = λ t m x. ended-halted x;
+      ended-halted = λ s f y i e m x n. ended-is-halted job j b accepted s f y i e m x n;
       pick-is-step = λ s f y soup x i e. pick-is-step c (sumOf j) s f y soup x i e;
       step-is-pick = λ s f y soup x h′ soup′ e. step-is-pick c (sumOf j) s f y soup x h′ soup′ e;
       rule-is-for = λ x f. rule-is-for x f;

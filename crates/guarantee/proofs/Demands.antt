@@ -4,7 +4,7 @@ use mathlib.Core.Path.{_≡_, ap}
 use mathlib.Core.List.{List, _∷_}
 use Rattle.guarantee.specs.Demands.{Demand1, Demand2, Demand3}
 use Rattle.guarantee.proofs.Agreement.{agreement}
-use Rattle.guarantee.proofs.Histories.{sound, every-order, sent-back, bounded}
+use Rattle.guarantee.proofs.Histories.{call-lists, sound, every-order, sent-back, bounded}
 use Rattle.guarantee.proofs.RoundTrip.{read-back-exactly, compile-then-back, back-then-compile}
 use Rattle.guarantee.proofs.Rows.{job-rows, compile-rows, back-rows}
 use Rattle.machine.proofs.Calls.{fresh-answers, step-answers, run-answers}
@@ -49,10 +49,10 @@ demand-2 =
       back-then-compile = back-then-compile;
     }
 
--- for every accepted job
-pub demand-3 : (job : List ℕ) (j : Job) → Bytes job → readJob job ≡ done j → Demand3 j
+pub demand-3 : Demand3
 demand-3 job j b accepted =
     record {
+      lists = call-lists job j b accepted;
       whole = λ h. sound job j b accepted h;
       orders = λ is can. every-order job j b accepted is can;
       sent-back = λ h. sent-back job j b accepted h;

@@ -10,7 +10,7 @@ use lib.Dec.{ltb}
 use lib.IntN.{ℤ, pos}
 use lib.ListN.{length, getD}
 use Rattle.thread.specs.Threads.{exists}
-use Rattle.guarantee.specs.Histories.{Call, step, run, codeOf, stateOf, picksOf, Lent, alone, comesTo, Session, History, none, turned-down, followed, scriptAfter, Ended, SameResult, callsOf, reportedBy, reported, CallLists, Whole, IsOrder, SentBack}
+use Rattle.guarantee.specs.Histories.{Call, step, run, codeOf, stateOf, picksOf, Lent, alone, comesTo, Session, History, none, turned-down, followed, scriptAfter, Ended, SameResult, callsOf, picksTaken, stateAfter, reportedBy, reported, CallLists, Whole, IsOrder, SentBack}
 use Rattle.guarantee.proofs.RoundTrip.{mapped-done}
 use Rattle.code.specs.Compile.{Code, ε, _⨾_, compileP}
 use Rattle.code.specs.Bytes.{compiled, IsCode}
@@ -22,10 +22,12 @@ use Rattle.machine.specs.Steps.{State, Stepped, numberOf, threadAt, pick, fresh
 use Rattle.stm.specs.Events.{Happened, counted, isIdle, isCommit, backs, order, countsOf, Counts, together}
 use Rattle.machine.specs.Fits.{Exists, Fits, Typed, Ranged}
 use Rattle.machine.specs.FitTest.{fits}
-use Rattle.machine.specs.Answers.{sumOf, fitting, stepOf, runOf}
+use Rattle.machine.specs.Answers.{sumOf, fitting, Returned, stepOf, runOf}
+use Rattle.machine.specs.declared.RunReply.{RunReply}
+use Rattle.machine.specs.declared.StepReply.{StepReply}
 use Rattle.machine.proofs.Picks.{run-append}
 use Rattle.machine.proofs.FitTests.{fits-exactly}
-use Rattle.machine.proofs.Calls.{counting, step-call-counts, run-call-counts}
+use Rattle.machine.proofs.Calls.{counting, step-call-counts, run-call-counts, step-refused, run-refused, step-taken, run-taken}
 use Rattle.script.specs.Tree.{Proc, ValP}
 use Rattle.script.specs.Count.{forks, threads, bound}
 use Rattle.script.specs.Bytes.{Bytes}
@@ -109,7 +111,7 @@ values-same [] = refl
 values-same (n ∷ h) = ap (λ (l : List ℤ). n ∷ l) (values-same h)
 
 -- a record at its end shows a VALP
-ended-shows : {bytes : List ℕ} (t : Thread) (task : Task registerCells) → t .place ≡ t .end → Shows bytes t task → (t .height ≡ 1) × (meant registerCells task ≡ ValP (getD (t .cells) 0 (pos 0)))
+pub ended-shows : {bytes : List ℕ} (t : Thread) (task : Task registerCells) → t .place ≡ t .end → Shows bytes t task → (t .height ≡ 1) × (meant registerCells task ≡ ValP (getD (t .cells) 0 (pos 0)))
 unfolding Outside Inside processOf stackFrom
 ended-shows t task p (shut ε r o z) = (o, ap (λ (n : ℕ). processOf ε (values (stackFrom (t .cells) 0 n))) o ∙ one-cell (t .cells))
   where
@@ -123,11 +125,11 @@ ended-height : (h : ℕ) → Outside ε h → h ≡ 1
 unfolding Outside
 ended-height h o = o
 
-one-on : (cells : List ℤ) → stackFrom cells 0 1 ≡ getD cells 0 (pos 0) ∷ []
+pub one-on : (cells : List ℤ) → stackFrom cells 0 1 ≡ getD cells 0 (pos 0) ∷ []
 unfolding stackFrom
 one-on cells = refl
 
-same-head : {a b : ℤ} {σ τ : List ℤ} → a ∷ σ ≡ b ∷ τ → a ≡ b
+pub same-head : {a b : ℤ} {σ τ : List ℤ} → a ∷ σ ≡ b ∷ τ → a ≡ b
 same-head e = cc
 
 same-outside : {c d : Code} {σ τ : List ℤ} → _≡_ {A = Task registerCells} (outside c σ) (outside d τ) → (c ≡ d) × (σ ≡ τ)
@@ -199,18 +201,15 @@ module _ (job : List ℕ) (j : Job) (b : Bytes job) (accepted : readJob job ≡ 
   code-kept (followed h c l e f g) = code-kept h
 
   -- a list of calls is one run of picks from the fresh state
-  pub history-run : {now : Session} {events : List Happened} → History (compiled j) now events → (is : List ℕ) × (steps.run (sumOf j) (compiled j) (fresh (compiled j)) is ≡ record { state = now .state; events = events })
-  unfolding steps.run
-  history-run none = ([], refl)
+  pub history-run : {now : Session} {events : List Happened} (h : History (compiled j) now events) → steps.run (sumOf j) (compiled j) (fresh (compiled j)) (picksTaken h) ≡ record { state = now .state; events = events }
+  unfolding steps.run picksTaken
+  history-run none = refl
   history-run (turned-down h c l e) = history-run h
   history-run (followed {now} {events} {r} h c l e f g) =
-      let m = history-run h in
-      let x : r ≡ steps.run (sumOf j) (compiled j) (now .state) (picksOf c) = taken-run j (compiled j) read c r (e ∙ code-kept h) g ∙ ap (λ (y : State). steps.run (sumOf j) (compiled j) y (picksOf c)) f in (
-        m .0 ++ picksOf c,
-        run-append (sumOf j) (compiled j) (fresh (compiled j)) (m .0) (picksOf c)
-            ∙ (ap (λ (y : Ran). record { state = steps.run (sumOf j) (compiled j) (y .state) (picksOf c) .state; events = y .events ++ steps.run (sumOf j) (compiled j) (y .state) (picksOf c) .events }) (m .1)
-            ∙ ap (λ (y : Ran). record { state = y .state; events = events ++ y .events }) (sym x)),
-      )
+      let x : r ≡ steps.run (sumOf j) (compiled j) (now .state) (picksOf c) = taken-run j (compiled j) read c r (e ∙ code-kept h) g ∙ ap (λ (y : State). steps.run (sumOf j) (compiled j) y (picksOf c)) f in
+      run-append (sumOf j) (compiled j) (fresh (compiled j)) (picksTaken h) (picksOf c)
+      ∙ (ap (λ (y : Ran). record { state = steps.run (sumOf j) (compiled j) (y .state) (picksOf c) .state; events = y .events ++ steps.run (sumOf j) (compiled j) (y .state) (picksOf c) .events }) (history-run h)
+      ∙ ap (λ (y : Ran). record { state = y .state; events = events ++ y .events }) (sym x))
 
   -- what holds behind a list of calls
   record Behind (s : State) (events : List Happened) : Type 0 where
@@ -224,14 +223,14 @@ module _ (job : List ℕ) (j : Job) (b : Bytes job) (accepted : readJob job ≡ 
   behind : {now : Session} {events : List Happened} → History (compiled j) now events → Behind (now .state) events
   behind {now} {events} h =
       let m = history-run h in
-      let k = run-keeps is-code outer (sumOf j) (m .0) (fresh (compiled j)) (start registerCells (compileP (j .tree) ε)) (fresh-fits (compiled j)) (fresh-typed (compiled j)) (fresh-mirrors (compiled j) is-code outer) in
+      let k = run-keeps is-code outer (sumOf j) (picksTaken h) (fresh (compiled j)) (start registerCells (compileP (j .tree) ε)) (fresh-fits (compiled j)) (fresh-typed (compiled j)) (fresh-mirrors (compiled j) is-code outer) in
       record {
-        picks = m .0;
-        its-events = sym (ap (λ (r : Ran). r .events) (m .1)) ∙ k .events;
-        mirrors = subst (λ (r : Ran). Mirrors (compiled j) (r .state) (endOf registerCells (sumOf j) (start registerCells (compileP (j .tree) ε)) (m .0))) (m .1) (k .mirrors);
-        fit = subst (λ (r : Ran). Fits (compiled j) (r .state)) (m .1) (k .fits);
-        typed = subst (λ (r : Ran). Typed (r .state)) (m .1) (k .typed);
-        ranges = subst (λ (r : Ran). Ranged (r .state)) (m .1) (run-ranged is-code (sumOf j) wrapping-in-range (fresh (compiled j)) (fresh-fits (compiled j)) (fresh-typed (compiled j)) (fresh-ranged is-code) (m .0));
+        picks = picksTaken h;
+        its-events = sym (ap (λ (r : Ran). r .events) m) ∙ k .events;
+        mirrors = subst (λ (r : Ran). Mirrors (compiled j) (r .state) (endOf registerCells (sumOf j) (start registerCells (compileP (j .tree) ε)) (picksTaken h))) m (k .mirrors);
+        fit = subst (λ (r : Ran). Fits (compiled j) (r .state)) m (k .fits);
+        typed = subst (λ (r : Ran). Typed (r .state)) m (k .typed);
+        ranges = subst (λ (r : Ran). Ranged (r .state)) m (run-ranged is-code (sumOf j) wrapping-in-range (fresh (compiled j)) (fresh-fits (compiled j)) (fresh-typed (compiled j)) (fresh-ranged is-code) (picksTaken h));
       }
 
   -- ---- sound
@@ -447,11 +446,28 @@ module _ (job : List ℕ) (j : Job) (b : Bytes job) (accepted : readJob job ≡ 
       foreign-lent : Lent (step [] (fresh (compiled j)) 0)
       foreign-lent = record { code = no-bytes; state = fresh-typed (compiled j); ranges = fresh-ranged (is-code job j b accepted); picks = record { small = one-byte 0 (omega arith) } }
 
+  -- what a call leaves
+  refused-keeps′ : (c : Call) (number place : ℕ) → comesTo c ≡ refused number place → stateAfter c ≡ stateOf c
+  refused-keeps′ (step code s i) n p e = ap (λ (x : Returned StepReply). x .state) (step-refused code s i n p (not-taken (stepOf code s i) e))
+    where
+      not-taken : (o : Outcome Stepped) → mapped (alone i) o ≡ refused n p → o ≡ refused n p
+      not-taken (refused m q) e = cc
+      not-taken (done x) e = absurd (let z : _≡_ {A = ℕ} 0 1 = cc in omega arith)
+  refused-keeps′ (run code s is) n p e = ap (λ (x : Returned RunReply). x .state) (run-refused code s is n p e)
+
+  taken-leaves′ : (c : Call) (r : Ran) → comesTo c ≡ done r → stateAfter c ≡ r .state
+  taken-leaves′ (step code s i) r e =
+      let m = mapped-done (alone i) (stepOf code s i) r e in
+      ap (λ (x : Returned StepReply). x .state) (step-taken code s i (m .0) (m .1)) ∙ ap (λ (x : Ran). x .state) (m .2)
+  taken-leaves′ (run code s is) r e = ap (λ (x : Returned RunReply). x .state) (run-taken code s is r e)
+
   pub call-lists : CallLists j
   call-lists =
       record {
-        refused-anywhere = λ h c l e. turned-down h c l e;
-        taken-onward = λ h c l a d e. followed h c l a d e;
+        refused-next = λ h c l e. turned-down h c l e;
+        taken-next = λ h c l a d e. followed h c l a d e;
+        refused-keeps = refused-keeps′;
+        taken-leaves = taken-leaves′;
         mixed = mixed′;
         step-is-run = step-is-run′;
         one-run = λ h. history-run job j b accepted h;

@@ -5,19 +5,17 @@ use mathlib.Core.Logic.{_↔_}
 use mathlib.Core.Path.{_≡_}
 use mathlib.Core.List.{List, _∷_}
 use mathlib.Core.Option.{some}
-use lib.IntN.{pos}
+use lib.IntN.{ℤ, pos}
 use lib.ListN.{drop, replicate}
-use Rattle.guarantee.specs.Histories.{Session, History}
-use Rattle.code.specs.Compile.{ε}
+use Rattle.guarantee.specs.Histories.{Session, History, Ended}
 use Rattle.code.specs.Bytes.{compiled}
 use Rattle.code.specs.Ops.{opAt}
 use Rattle.code.specs.Ops as code
-use Rattle.thread.specs.declared.Thread.{Thread}
 use Rattle.thread.specs.Threads.{exists, stale}
 use Rattle.machine.specs.Steps.{State, threadAt, pick, DoesOne, FirstStale, FoundIn, fresh, run}
 use Rattle.machine.specs.Fits.{Exists, Fits, Typed}
 use Rattle.machine.specs.Answers.{sumOf}
-use Rattle.machine.specs.Source.{SThread, StepM, StepsM}
+use Rattle.machine.specs.Source.{SThread, Halted, StepM, StepsM}
 use Rattle.machine.specs.Soup.{Carries, Soup, StandsFor, ruleOf, IsFor, First, named, ByRule, load, PickOn}
 use Rattle.script.specs.Outcome.{done}
 use Rattle.script.specs.Jobs.{Job}
@@ -26,7 +24,7 @@ use Rattle.stm.specs.Events.{Source, idle, looked, committed, sentBack, Happene
 use Rattle.word.specs.Sum.{Rule}
 
 module _ (j : Job) where
-  -- the job's code, its rule for sums, and one pick
+  -- the job's code, and its rule for sums
   abbrev its : List ℕ
   its = compiled j
 
@@ -64,8 +62,10 @@ module _ (j : Job) where
     -- a fitting state stands for a soup, a fresh one for the loaded process
     pub fresh-soup : Soup its (fresh its) (load (j .tree))
     pub has-soup : (s : State) → Fits its s → Typed s → (soup : List SThread) × Soup its s soup
-    -- a thread has ended exactly if the source's is halted, with no code left
-    pub ended-halted : (t : Thread) (m : SThread) → Carries its t m → (t .place ≡ t .end) ↔ (m .code ≡ ε)
+    -- a thread has ended, with its result, exactly if the source's is halted with it
+    pub ended-halted :
+        (s : State) → Fits its s → Typed s → (i : ℕ) → Exists s i → (m : SThread) → Carries its (threadAt s i) m →
+        (n : ℤ) → Ended s i n ↔ Halted m n
     -- a pick that is not idle is a step of the soup on that thread, by the rule that its event names
     pub pick-is-step :
         (s : State) → Fits its s → Typed s → (soup : List SThread) → Soup its s soup →

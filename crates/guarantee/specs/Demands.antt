@@ -6,7 +6,7 @@ use mathlib.Core.List.{List, _∷_}
 use lib.IntN.{ℤ}
 use lib.ListN.{length, take}
 use Rattle.guarantee.specs.Agreement.{Agreement}
-use Rattle.guarantee.specs.Histories.{Session, History, Whole, IsOrder, SentBack}
+use Rattle.guarantee.specs.Histories.{Session, History, CallLists, Whole, IsOrder, SentBack}
 use Rattle.guarantee.specs.Rows.{JobAnswer, CompileAnswer, ReadBackAnswer}
 use Rattle.code.specs.Bytes.{compiled}
 use Rattle.code.specs.Reader.{readCode}
@@ -38,7 +38,7 @@ use Rattle.word.specs.Sum.{Rule}
 -- ending, inside the memory lent. Each other call is refused with the number and place document 01 gives, and no lent memory is altered."
 -- The rows say what a call returns, answer and all lent memory: a result, or the number and place with the memory as it was. What a call
 -- comes to is what one row says, and no row says anything else. That the functions end, inside the memory lent, is what the checker proves
--- of every function.
+-- of every function; `fresh`, `step` and `run` are definitions so far, without a function.
 pub record Demand1 : Type 0 where
   pub job-reader : (job : List ℕ) → Bytes job → (r : Reading) → JobAnswer job r ↔ (r ≡ answer (readJob job))
   pub compiling : (job before : List ℕ) → Bytes job → (d : Delivered) → CompileAnswer job before d ↔ (d ≡ compileTo job before)
@@ -88,8 +88,10 @@ pub record Demand2 : Type 0 where
       (code out out′ : List ℕ) (n : ℕ) → Bytes code → readBackTo code out .answer ≡ Done n → length code ≤ length out′ →
       compileTo (take n (readBackTo code out .output)) out′ ≡ record { answer = Done (length code); output = onto code out′ }
 
--- 3. "For every accepted job and every list of calls that run its code by picks, from a fresh state, idle picks and refused calls included":
-pub record Demand3 (j : Job) : Type 0 where
+-- 3. "every list of calls that run its code by picks, from a fresh state, idle picks and refused calls included":
+pub record AsScript (j : Job) : Type 0 where
+  -- which lists of calls there are
+  pub lists : CallLists j
   -- "after it the registers' values and the numbers of the threads that exist are exactly those of the script itself, its transactions whole
   -- and alone, given one turn for each outside sum, fork and commit in the order in which these came, and each thread that has ended has the
   -- script's result for it."
@@ -101,3 +103,7 @@ pub record Demand3 (j : Job) : Type 0 where
   -- "With K transactions, T threads, L instructions and longest transaction M, the job ends within L + (K−1)×(T−1)×M steps, or L if K is 0,
   -- idle picks uncounted."
   pub ends : {now : Session} {events : List Happened} → History (compiled j) now events → countsOf events .steps ≤ bound (j .tree)
+
+-- "For every accepted job"
+abbrev pub Demand3 : Type 0
+Demand3 = (job : List ℕ) (j : Job) → Bytes job → readJob job ≡ done j → AsScript j

@@ -53,7 +53,7 @@ pub record Session : Type 0 where
   pub code : List ℕ
   pub state : State
 
--- A list of calls that run a job's code by picks, from a fresh state: the code and the state behind it, and what its picks did. "The first
+-- A list of calls that run a job's code by picks, from a fresh state: the code and the state behind it, and what its picks did: "the first
 -- call that is not refused has the job's code and a fresh state; each later one that is not refused has the same code and the state that the
 -- one before it left." "A refused call, whatever it was lent, leaves that state as it was, and its picks do not count."
 pub data History (code : List ℕ) : Session → List Happened → Type 0 where
@@ -74,6 +74,17 @@ unfoldable pub callsOf : {code : List ℕ} {now : Session} {events : List Happen
 callsOf none = []
 callsOf (turned-down h c l e) = callsOf h ++ (c ∷ [])
 callsOf (followed h c l a b e) = callsOf h ++ (c ∷ [])
+
+-- the picks of its calls that are not refused, in their order
+unfoldable pub picksTaken : {code : List ℕ} {now : Session} {events : List Happened} → History code now events → List ℕ
+picksTaken none = []
+picksTaken (turned-down h c l e) = picksTaken h
+picksTaken (followed h c l a b e) = picksTaken h ++ picksOf c
+
+-- the state that a call leaves
+abbrev pub stateAfter : Call → State
+stateAfter (step code s i) = stepCall code s i .state
+stateAfter (run code s is) = runCall code s is .state
 
 -- the counts that its answers report, refused calls included
 abbrev pub reportedBy : Call → Counts
@@ -126,13 +137,13 @@ pub record SentBack (events : List Happened) : Type 0 where
 
 -- Which lists of calls there are.
 pub record CallLists (j : Job) : Type 0 where
-  -- any refused call may stand at any point of any list
-  pub refused-anywhere :
+  -- any refused call may come next in any list
+  pub refused-next :
       {now : Session} {events : List Happened} {number place : ℕ} →
       History (compiled j) now events → (c : Call) → Lent c → comesTo c ≡ refused number place →
       History (compiled j) now events
-  -- any call that is taken, with the code and the state so far, continues it
-  pub taken-onward :
+  -- and any call that is taken, with the code and the state so far
+  pub taken-next :
       {now : Session} {events : List Happened} {r : Ran} →
       History (compiled j) now events → (c : Call) → Lent c → codeOf c ≡ now .code → stateOf c ≡ now .state → comesTo c ≡ done r →
       History (compiled j) (record { code = now .code; state = r .state }) (events ++ r .events)
@@ -143,10 +154,13 @@ pub record CallLists (j : Job) : Type 0 where
       (callsOf h ≡ step [] (fresh (compiled j)) 0 ∷ run (compiled j) (fresh (compiled j)) js ∷ run (compiled j) (fresh (compiled j)) is ∷ [])))
   -- "a step by itself counts as one with a single pick"
   pub step-is-run : (code : List ℕ) (s : State) (i : ℕ) → comesTo (step code s i) ≡ comesTo (run code s (i ∷ []))
-  -- a list is one run of picks from the fresh state
+  -- a refused call leaves the state that it was lent, a taken one the state that the next must have
+  pub refused-keeps : (c : Call) (number place : ℕ) → comesTo c ≡ refused number place → stateAfter c ≡ stateOf c
+  pub taken-leaves : (c : Call) (r : Ran) → comesTo c ≡ done r → stateAfter c ≡ r .state
+  -- a list is one run, from the fresh state, of the picks of its calls that are not refused
   pub one-run :
-      {now : Session} {events : List Happened} → History (compiled j) now events →
-      (is : List ℕ) × (steps.run (sumOf j) (compiled j) (fresh (compiled j)) is ≡ record { state = now .state; events = events })
+      {now : Session} {events : List Happened} (h : History (compiled j) now events) →
+      steps.run (sumOf j) (compiled j) (fresh (compiled j)) (picksTaken h) ≡ record { state = now .state; events = events }
   -- the counts that its calls report add up to those of the whole list
   pub reports :
       {now : Session} {events : List Happened} (h : History (compiled j) now events) →

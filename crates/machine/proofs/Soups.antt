@@ -391,7 +391,7 @@ module _ (bytes : List ℕ) (sum : Rule) where
             ),
           )
 
--- a thread has ended exactly if the source's is halted: it has no code left
+-- a thread has ended exactly if the source's has no code left
 pub ended-halted : {bytes : List ℕ} {t : Thread} {m : SThread} → Carries bytes t m → (t .place ≡ t .end) ↔ (m .code ≡ ε)
 ended-halted {bytes} {t} {m} x = (there (m .code) (x .code), λ e. stands-end (subst (λ (c : Code). Stands bytes (t .place) (t .end) c) e (x .code)))
   where

@@ -41,7 +41,7 @@ stepOf code s i = onward (readCode code) (λ j. fitting code s (done (pick (sumO
 unfoldable pub runOf : (code : List ℕ) → State → (picks : List ℕ) → Outcome Ran
 runOf code s is = onward (readCode code) (λ j. fitting code s (refuse (ltb 32768 (length is)) 13 0 (done (run (sumOf j) code s is))))
 
--- ---- this paper's number, place and values in each answer; refusal 0 is none
+-- ---- document 01's number, place and values in each answer; refusal 0 is none
 abbrev pub freshReply : Outcome State → FreshReply
 freshReply (refused number place) = record { refusal = number; place = place }
 freshReply (done s) = record { refusal = 0; place = 0 }

@@ -1,5 +1,5 @@
--- Source 5.2.4: the virtual machine, on threads that carry their code. Changed are only the sum, which is the rule's, and the heap, which is
--- the table of 64 registers.
+-- Source 5.2.4: the virtual machine, on threads that carry their code. Changed are only the sum, which is the rule's, the heap, which is
+-- the table of 64 registers, and the logs, which are functions in place of finite maps.
 use Prim.Native.Nat.{ℕ, zero, suc}
 use mathlib.Core.Path.{_≡_}
 use mathlib.Core.Bool.{Bool, true, false, cond, not, _&&_, _||_}
@@ -35,6 +35,11 @@ pub record SThread : Type 0 where
 -- `(c, σ, f, r, w)`
 abbrev pub thread : Code → List ℤ → Code → Log → Log → SThread
 thread c σ f r w = record { code = c; stack = σ; again = f; reads = r; writes = w }
+
+-- `halted ([], n : [], _, _, _) = Just n`
+pub record Halted (m : SThread) (n : ℤ) : Type 0 where
+  pub code : m .code ≡ ε
+  pub stack : m .stack ≡ n ∷ []
 
 -- READ: the value, and the read log after it
 pub record Looked : Type 0 where
