@@ -1,6 +1,7 @@
 -- The by-value step of a record is `act` in a state that fits, and picks go through it. Assumes nothing.
 use Prim.Native.Nat.{ℕ, zero, suc, _+_, _-_, _≤_, _<_}
 use mathlib.Core.Bool.{Bool, true, false, cond, not, _||_}
+use mathlib.Core.Logic.{_⊎_, inl, inr}
 use mathlib.Core.Path.{_≡_, refl, sym, ap, ap₂, subst, _∙_}
 use mathlib.Core.List.{List, [], _∷_, _++_}
 use native.Mathlib.Omega.{arith}
@@ -25,7 +26,7 @@ use Rattle.thread.specs.InnerStep.{enoughFor, takesOp, sourceNumber, outsideTur
 use Rattle.machine.specs.Steps.{State, Stepped, Acted, Child, alters, committing, commit, act, settle, threadAt, pickAmong, DoesOne}
 use Rattle.machine.specs.Fits.{Exists, Fits, Typed}
 use Rattle.machine.specs.InnerStands.{registerCells, opOf, Ready}
-use Rattle.machine.specs.InnerTurn.{childrenAs, actedAs}
+use Rattle.machine.specs.InnerTurn.{childrenAs, actedAs, handedAs}
 use Rattle.machine.specs.Stands.{Stands, ValuedI, ValuedC}
 use Rattle.machine.proofs.Numbers.{in-table}
 use Rattle.machine.proofs.Codes.{stands-end, stands-inside, ready-op, ready-takes}
@@ -134,6 +135,42 @@ module _ (sum : Rule) (table : List ℤ) (t : Thread) where
   performs-acts (code.read v) = performs-read v
   performs-acts code.commit = performs-commit
 
+  -- and the other way: every number that is handed back is the event's
+  hands-add : performed sum table t (showOp code.add) ≡ handedAs (act sum table t code.add)
+  unfolding handedAs performed act eventNumber eventRegister turnNumber outsideTurn
+  hands-add = go (eqb (t .begin) 0)
+    where
+      go : (b : Bool) → handed (record { thread = add sum t; event = 2; register = 0; turn = cond b 1 0; start = 0; end = 0 }) table ≡ handedAs (alters (add sum t) table (summed (not b)))
+      go true = refl
+      go false = refl
+
+  hands-read : (v : ℕ) → performed sum table t (showOp (code.read v)) ≡ handedAs (act sum table t (code.read v))
+  unfolding handedAs performed act eventNumber eventRegister turnNumber sourceNumber sourceOf
+  hands-read v = go (member (t .writes) v) (member (t .reads) v)
+    where
+      go : (a b : Bool) → handed (record { thread = read table v t; event = cond a 5 (cond b 6 7); register = 0; turn = 0; start = 0; end = 0 }) table ≡ handedAs (alters (read table v t) table (looked (cond a fromWrites (cond b fromReads fromTable))))
+      go true b = refl
+      go false true = refl
+      go false false = refl
+
+  hands-commit : performed sum table t (showOp code.commit) ≡ handedAs (act sum table t code.commit)
+  unfolding handedAs performed act eventNumber eventRegister turnNumber committed commit
+  hands-commit = go (ltb (firstStale 64 0 t table) 64)
+    where
+      go : (b : Bool) → committedBy b (firstStale 64 0 t table) table t ≡ handedAs (committing b table t (firstStale 64 0 t table))
+      go true = refl
+      go false = refl
+
+  performs-hands : (op : Op) → performed sum table t (showOp op) ≡ handedAs (act sum table t op)
+  unfolding handedAs performed act eventNumber eventRegister turnNumber
+  performs-hands (code.push n) = refl
+  performs-hands (code.fork size) = refl
+  performs-hands code.begin = refl
+  performs-hands (code.write v) = refl
+  performs-hands code.add = hands-add
+  performs-hands (code.read v) = hands-read v
+  performs-hands code.commit = hands-commit
+
   -- nothing done
   idle-acts : actedAs (handed (unacted t) table) ≡ alters t table idle
   unfolding actedAs eventOf
@@ -153,12 +190,12 @@ module _ (sum : Rule) (table : List ℤ) (t : Thread) where
         go false q = rw (stepped, q, eq-eqb (t .place) (t .end) e)
 
     -- a record that has what its instruction takes does it
-    takes-acts : (t .start ≡ 0 → ⊥) → (t .place ≡ t .end → ⊥) → (op : Op) → opAt (drop (t .place) bytes) ≡ done op → takesOp (showOp op) (t .height) (t .base) (length table) (length bytes - t .place) ≡ true → actedAs (stepped sum bytes table t) ≡ act sum table t op
+    takes-performs : (t .start ≡ 0 → ⊥) → (t .place ≡ t .end → ⊥) → (op : Op) → opAt (drop (t .place) bytes) ≡ done op → takesOp (showOp op) (t .height) (t .base) (length table) (length bytes - t .place) ≡ true → stepped sum bytes table t ≡ performed sum table t (showOp op)
     unfolding stepped attempted
-    takes-acts s p op o k =
+    takes-performs s p op o k =
         let a : stepped sum bytes table t ≡ attempted sum bytes table t (shownOp (opAt (drop (t .place) bytes))) = rw (stepped, ne-eqb (t .start) 0 s, ne-eqb (t .place) (t .end) p) in
         let b : attempted sum bytes table t (showOp op) ≡ performed sum table t (showOp op) = rw (attempted, k) in
-        ap actedAs (a ∙ (ap (λ (x : Outcome Op). attempted sum bytes table t (shownOp x)) o ∙ b)) ∙ performs-acts op
+        a ∙ (ap (λ (x : Outcome Op). attempted sum bytes table t (shownOp x)) o ∙ b)
 
 -- ---- in a state that fits
 there : (t : Thread) → exists t ≡ true → t .start ≡ 0 → ⊥
@@ -175,9 +212,8 @@ base-low {bytes} {t} h = go (shape (h .region) (h .outer) (h .somewhere) (h .pla
     go (shape-open body c k r i e g) = let q = h .placed .base in let l = g .again .low in omega arith
 
 module _ {bytes : List ℕ} {j : Job} (c : IsCode bytes j) (sum : Rule) where
-  -- the step on a thread's record is the instruction at its place
-  pub step-acts : (s : State) → Fits bytes s → Typed s → (i : ℕ) → Exists s i → (threadAt s i .place ≡ threadAt s i .end → ⊥) → (op : Op) → opAt (drop (threadAt s i .place) bytes) ≡ done op → actedAs (stepped sum bytes (s .registers) (threadAt s i)) ≡ act sum (s .registers) (threadAt s i) op
-  step-acts s f y i e ne op o = go (shows-of (held c (outer c) s f y i e))
+  step-performs : (s : State) → Fits bytes s → Typed s → (i : ℕ) → Exists s i → (threadAt s i .place ≡ threadAt s i .end → ⊥) → (op : Op) → opAt (drop (threadAt s i .place) bytes) ≡ done op → stepped sum bytes (s .registers) (threadAt s i) ≡ performed sum (s .registers) (threadAt s i) (showOp op)
+  step-performs s f y i e ne op o = go (shows-of (held c (outer c) s f y i e))
     where
       low : threadAt s i .base ≤ 64
       low = base-low (held c (outer c) s f y i e)
@@ -185,17 +221,30 @@ module _ {bytes : List ℕ} {j : Job} (c : IsCode bytes j) (sum : Rule) where
       same-op : {a b : Op} → _≡_ {A = Outcome Op} (done a) (done b) → a ≡ b
       same-op e = cc
 
-      one : {ins : Instruction} {k : Code} → threadAt s i .base ≤ 64 → Ready bytes (threadAt s i .place) (threadAt s i .end) (ins ⨾ k) (threadAt s i .height) → actedAs (stepped sum bytes (s .registers) (threadAt s i)) ≡ act sum (s .registers) (threadAt s i) op
+      one : {ins : Instruction} {k : Code} → threadAt s i .base ≤ 64 → Ready bytes (threadAt s i .place) (threadAt s i .end) (ins ⨾ k) (threadAt s i .height) → stepped sum bytes (s .registers) (threadAt s i) ≡ performed sum (s .registers) (threadAt s i) (showOp op)
       one {ins} b r =
           let q : opOf ins ≡ op = same-op (sym (ready-op r) ∙ o) in
           let k : takesOp (showOp (opOf ins)) (threadAt s i .height) (threadAt s i .base) (length (s .registers)) (length bytes - threadAt s i .place) ≡ true = ap (λ (n : ℕ). takesOp (showOp (opOf ins)) (threadAt s i .height) (threadAt s i .base) n (length bytes - threadAt s i .place)) (f .registers) ∙ ready-able ins (threadAt s i .base) b r in
-          takes-acts sum (s .registers) (threadAt s i) bytes (there (threadAt s i) e) ne op o (subst (λ (x : Op). takesOp (showOp x) (threadAt s i .height) (threadAt s i .base) (length (s .registers)) (length bytes - threadAt s i .place) ≡ true) q k)
+          takes-performs sum (s .registers) (threadAt s i) bytes (there (threadAt s i) e) ne op o (subst (λ (x : Op). takesOp (showOp x) (threadAt s i .height) (threadAt s i .base) (length (s .registers)) (length bytes - threadAt s i .place) ≡ true) q k)
 
-      go : (task : Task registerCells) × Shows bytes (threadAt s i) task → actedAs (stepped sum bytes (s .registers) (threadAt s i)) ≡ act sum (s .registers) (threadAt s i) op
+      go : (task : Task registerCells) × Shows bytes (threadAt s i) task → stepped sum bytes (s .registers) (threadAt s i) ≡ performed sum (s .registers) (threadAt s i) (showOp op)
       go (task, shut ε r o z) = absurd (ne (stands-end (r .stands)))
       go (task, shut (ins ⨾ k) r o z) = one low r
       go (task, open′ body ε k r o h w g x q) = absurd (no-inside k (threadAt s i .base) o)
       go (task, open′ body (ins ⨾ k) n r o h w g x q) = one low r
+
+  -- the step on a thread's record is the instruction at its place, and each number that it hands back is that instruction's
+  pub step-acts : (s : State) → Fits bytes s → Typed s → (i : ℕ) → Exists s i → (threadAt s i .place ≡ threadAt s i .end → ⊥) → (op : Op) → opAt (drop (threadAt s i .place) bytes) ≡ done op → stepped sum bytes (s .registers) (threadAt s i) ≡ handedAs (act sum (s .registers) (threadAt s i) op)
+  step-acts s f y i e ne op o = step-performs s f y i e ne op o ∙ performs-hands sum (s .registers) (threadAt s i) op
+
+  acted-as : (s : State) → Fits bytes s → Typed s → (i : ℕ) → Exists s i → (threadAt s i .place ≡ threadAt s i .end → ⊥) → (op : Op) → opAt (drop (threadAt s i .place) bytes) ≡ done op → actedAs (stepped sum bytes (s .registers) (threadAt s i)) ≡ act sum (s .registers) (threadAt s i) op
+  acted-as s f y i e ne op o = ap actedAs (step-performs s f y i e ne op o) ∙ performs-acts sum (s .registers) (threadAt s i) op
+
+  -- a pick that no instruction follows hands the record back idle
+  pub idle-step : (table : List ℤ) (t : Thread) → ((t .start ≡ 0) ⊎ (t .place ≡ t .end)) → stepped sum bytes table t ≡ handedAs (alters t table idle)
+  unfolding handedAs eventNumber eventRegister turnNumber
+  idle-step table t (inl e) = no-thread-stays sum table t bytes e
+  idle-step table t (inr e) = ended-stays sum table t bytes e
 
   -- a pick of any record goes through the step on it
   pub step-picks : (s : State) → Fits bytes s → Typed s → (count i : ℕ) → i < length (s .threads) → pickAmong sum bytes count s i ≡ settle count s i (actedAs (stepped sum bytes (s .registers) (threadAt s i)))
@@ -216,7 +265,7 @@ module _ {bytes : List ℕ} {j : Job} (c : IsCode bytes j) (sum : Rule) where
       one : (e : exists (threadAt s i) ≡ true) (ne : threadAt s i .place ≡ threadAt s i .end → ⊥) → DoesOne sum bytes s i → pickAmong sum bytes count s i ≡ settle count s i (actedAs (stepped sum bytes (s .registers) (threadAt s i)))
       one e ne d =
           does sum bytes count s i (d .op) (lt-ltb i (length (s .threads)) l) e ne (d .at-place)
-          ∙ sym (ap (settle count s i) (step-acts s f y i e ne (d .op) (d .at-place)))
+          ∙ sym (ap (settle count s i) (acted-as s f y i e ne (d .op) (d .at-place)))
 
       go : (b : Bool) → exists (threadAt s i) ≡ b → (d : Bool) → eqb (threadAt s i .place) (threadAt s i .end) ≡ d → pickAmong sum bytes count s i ≡ settle count s i (actedAs (stepped sum bytes (s .registers) (threadAt s i)))
       go false e d z = missing-idle sum bytes count s i e ∙ still (no-thread-stays sum (s .registers) (threadAt s i) bytes (no-start (eqb (threadAt s i .start) 0) refl e))

@@ -1,10 +1,11 @@
--- For the proofs of functions over records, nobody has to believe it: what the by-value step of a record hands back, as an instruction leaves it.
+-- For the proofs of functions over records, nobody has to believe it: what the by-value step of a record hands back, as an instruction leaves
+-- it, and what an instruction leaves, as it is handed back.
 use Prim.Native.Nat.{ℕ}
 use mathlib.Core.Bool.{cond}
 use mathlib.Core.List.{List, [], _∷_}
 use lib.Dec.{eqb}
 use Rattle.machine.specs.Steps.{Acted, Child}
-use Rattle.stm.specs.Events.{eventOf}
+use Rattle.stm.specs.Events.{eventOf, eventNumber, eventRegister, turnNumber}
 use Rattle.thread.specs.InnerStep.{Handed}
 
 -- a FORK, event 3, has a child
@@ -18,4 +19,24 @@ actedAs h =
       table = h .table;
       children = childrenAs (h .acted .event) (h .acted .start) (h .acted .end);
       event = eventOf (h .acted .event) (h .acted .register) (h .acted .turn);
+    }
+
+-- a child's code, or 0 and 0
+abbrev pub childOf : List Child → Child
+childOf [] = record { start = 0; end = 0 }
+childOf (c ∷ cs) = c
+
+unfoldable pub handedAs : Acted → Handed
+handedAs a =
+    record {
+      acted =
+        record {
+          thread = a .thread;
+          event = eventNumber (a .event);
+          register = eventRegister (a .event);
+          turn = turnNumber (a .event);
+          start = childOf (a .children) .start;
+          end = childOf (a .children) .end;
+        };
+      table = a .table;
     }

@@ -1,4 +1,5 @@
--- Mirrors the methods of `Thread` for their proofs. Nobody has to believe it: in a state that fits, a step is `act` (`step-acts`, machine).
+-- Mirrors the methods of `Thread` for their proofs. Nobody has to believe it: in a state that fits, a step is `act` with every number that it
+-- hands back (`step-acts` and `idle-step`, machine/proofs/Actings). What it does of a record that no such state has is left free by the papers.
 use Prim.Native.Nat.{ℕ, zero, suc, _+_, _-_}
 use mathlib.Core.Bool.{Bool, true, false, cond, _&&_, _||_}
 use mathlib.Core.List.{List, _++_}

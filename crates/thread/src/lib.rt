@@ -27,12 +27,17 @@ pub struct Thread {
     pub writelog: [i32; 64],
 }
 
-// What a step hands back: the record, and what was done, in the numbers of a step's answer; a forked child's code, 0 and 0 if there is none.
+// What a step hands back.
 pub struct Action {
     pub thread: Thread,
+    // what was done: 0 nothing, 1 push, 2 sum, 3 fork, 4 begin, 5, 6, 7 read from the write log, the read log, the table, 8 write,
+    // 9 commit, 10 sent back
     pub event: usize,
+    // the first stale register of a send-back, else 0
     pub register: usize,
+    // 1 if it took a turn, else 0
     pub turn: usize,
+    // a forked child's code, else 0 and 0
     pub start: usize,
     pub end: usize,
 }
@@ -111,7 +116,7 @@ fn source(writes: u64, reads: u64, v: u8) -> usize
     7
 }
 
-// Whether an outside sum takes a turn.
+// The turns that an ADD takes: 1 if no transaction is open, else 0.
 fn outside(begin: usize) -> usize
     ensures { λ r. ⌜ r ≡ outsideTurn begin ⌝ }
 {
@@ -144,8 +149,8 @@ fn enough(low: usize, height: usize, high: usize, size: usize, left: usize) -> b
     size <= left
 }
 
-// Whether a record has what the instruction takes: numbers or room on its stack, a register and a table of 64, and the instruction's
-// own bytes, so many standing from its place on.
+// Whether a record has what the instruction takes: numbers or room on its stack, a height and a base of at most 64, a register and a table
+// of 64, and the instruction's own bytes, so many standing from its place on.
 fn takes(op: ops::Op, height: usize, base: usize, registers: usize, left: usize) -> bool
     ensures { λ r. ⌜ r ≡ takesOp op height base registers left ⌝ }
 {
