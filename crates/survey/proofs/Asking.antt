@@ -18,7 +18,7 @@ use Rattle.survey.specs.declared.Asked.{Asked}
 use Rattle.survey.specs.InnerWalk.{ownAt, noted, asks, askedFor, marks, ones, allAsked}
 use Rattle.survey.proofs.Yes.{alike, first, second, both, not-not}
 use Rattle.survey.proofs.Shows.{at}
-use Rattle.word.specs.Registers.{member, with}
+use Rattle.word.specs.Registers.{member}
 use Rattle.word.proofs.Sets.{member-same, member-other}
 
 or-right : (a : Bool) → true ≡ (a || true)

@@ -1,7 +1,7 @@
 -- The survey of any records says exactly what the test of machine/specs/FitTest says of them. Assumes nothing.
-use Prim.Native.Nat.{ℕ, suc, _+_, _≤_, _<_}
-use mathlib.Core.Bool.{Bool, true, false, cond, not, _&&_, _||_}
-use mathlib.Core.Path.{_≡_, refl, sym, ap, subst, _∙_}
+use Prim.Native.Nat.{ℕ, suc, _+_, _<_}
+use mathlib.Core.Bool.{Bool, true, false, not, _&&_, _||_}
+use mathlib.Core.Path.{_≡_, refl, sym, ap, _∙_}
 use mathlib.Core.List.{List, [], _∷_, _++_}
 use mathlib.Core.Option.{Option, none, some}
 use native.Mathlib.Omega.{arith}
@@ -17,13 +17,12 @@ use Rattle.machine.specs.Fits.{Walked, ownCode}
 use Rattle.machine.specs.FitTest.{walkTo, free, agreesWith, placed, allZero, noneBehind, inFront, same, passedBy, among, allAmong, oneEach, fits}
 use Rattle.survey.specs.declared.Survey.{Survey}
 use Rattle.survey.specs.declared.Row.{Row}
-use Rattle.survey.specs.declared.Verdict.{Verdict}
 use Rattle.survey.specs.InnerRecords.{emptySurvey, cellsFree, tidy, withTo, surveyFrom, surveyOf}
 use Rattle.survey.specs.InnerWalk.{ownAt, firstVerdict, rowAt, judgeAll, allAsked, surveyFits}
 use Rattle.survey.proofs.Yes.{never, alike, first, second, both}
-use Rattle.survey.proofs.Records.{zeros-of, shut, Tidy, tidy-of, is-tidy}
-use Rattle.survey.proofs.Judging.{SurveyFits, survey-parts, survey-whole}
-use Rattle.survey.proofs.Shows.{tidyFront, at, rowOf, Shows, survey-shows, survey-good}
+use Rattle.survey.proofs.Records.{zeros-of, shut, tidy-of, is-tidy}
+use Rattle.survey.proofs.Judging.{survey-parts, survey-whole}
+use Rattle.survey.proofs.Shows.{tidyFront, at, Shows, survey-shows, survey-good}
 use Rattle.survey.proofs.Asking.{asked-among}
 use Rattle.survey.proofs.Judges.{agrees, agreeAll, AllJudged, all-judged, judged-all}
 use Rattle.word.specs.Registers.{member}

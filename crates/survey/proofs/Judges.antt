@@ -1,12 +1,11 @@
 -- What the walks of all threads come to: each record agrees with its walk, each FORK passed has exactly one thread, and the records asked
 -- for are those whose own code a FORK passed has. Assumes nothing.
-use Prim.Native.Nat.{ℕ, zero, suc, _+_, _≤_, _<_}
+use Prim.Native.Nat.{ℕ, zero, suc, _+_, _<_}
 use mathlib.Core.Bool.{Bool, true, false, cond, not, _&&_, _||_}
 use mathlib.Core.Path.{_≡_, refl, sym, ap, subst, _∙_}
 use mathlib.Core.List.{List, [], _∷_, _++_}
 use mathlib.Core.Option.{Option, none, some}
 use native.Mathlib.Omega.{arith}
-use borrow.Author.Tests.{eqb-true, eqb-false, eq-eqb, ne-eqb, not-true, not-false}
 use lib.Dec.{eqb, ltb}
 use lib.ListN.{length, drop, drop-of-length-le}
 use lib.Seq.{drop-cons}
@@ -18,12 +17,11 @@ use Rattle.thread.specs.Threads.{blank, exists}
 use Rattle.machine.specs.Steps.{Child}
 use Rattle.machine.specs.Fits.{Walked, unmoved, walkOp, nextPlace, ownCode}
 use Rattle.machine.specs.FitTest.{goingOn, walk, walkTo, childrenOf, passedBy, same, among, threadsOf, oneEach}
-use Rattle.survey.specs.declared.Survey.{Survey}
 use Rattle.survey.specs.declared.Row.{Row}
 use Rattle.survey.specs.declared.Walk.{Walk}
 use Rattle.survey.specs.declared.Verdict.{Verdict}
-use Rattle.survey.specs.InnerWalk.{ownAt, lostWalk, marks, ones, walkOf, told, walkFrom, agreeing, unfit, judgedBy, judgeTo, rowAt, judgeFrom}
-use Rattle.survey.proofs.Yes.{never, first, second, both, clash}
+use Rattle.survey.specs.InnerWalk.{ownAt, lostWalk, marks, ones, walkOf, told, walkFrom, agreeing, unfit, judgedBy, judgeTo, judgeFrom}
+use Rattle.survey.proofs.Yes.{never, first, second, both}
 use Rattle.survey.proofs.Shows.{at, rowOf}
 use Rattle.survey.proofs.Asking.{or-left, Behind, no-more, one-more, marked, ones-each}
 use Rattle.word.specs.Registers.{member}

@@ -42,18 +42,30 @@ askedFor starts ends c asked = asks 16 0 starts ends c (record { number = 0; ask
 unfoldable pub lostWalk : Walk
 lostWalk = record { place = 0; height = 0; begin = 0; base = 0; asked = 0; good = false }
 
--- PUSH and READ, ADD, WRITE, BEGIN and COMMIT
-unfoldable pub riseTo : Walk → (size : ℕ) → Walk
-riseTo w size =
+-- what goes on at a place, unless that is behind the target
+abbrev pub upTo : (target place : ℕ) → Walk → Walk
+upTo target place w = cond (ltb target place) lostWalk w
+
+-- PUSH and READ: so many bytes further, and one number more on the stack
+unfoldable pub rose : Walk → (size : ℕ) → Walk
+rose w size =
     record { place = w .place + size; height = w .height + 1; begin = w .begin; base = w .base; asked = w .asked; good = true }
 
+unfoldable pub riseTo : Walk → (target size : ℕ) → Walk
+riseTo w target size = upTo target (w .place + size) (rose w size)
+
+-- ADD
 unfoldable pub fallTo : Walk → Walk
 fallTo w =
     record { place = w .place + 1; height = w .height - 1; begin = w .begin; base = w .base; asked = w .asked; good = true }
 
-unfoldable pub stayTo : Walk → Walk
-stayTo w = record { place = w .place + 2; height = w .height; begin = w .begin; base = w .base; asked = w .asked; good = true }
+-- WRITE
+unfoldable pub stayTo : Walk → (target : ℕ) → Walk
+stayTo w target =
+    upTo target (w .place + 2)
+    (record { place = w .place + 2; height = w .height; begin = w .begin; base = w .base; asked = w .asked; good = true })
 
+-- BEGIN and COMMIT: other notes
 unfoldable pub noteTo : Walk → (begin base : ℕ) → Walk
 noteTo w begin base =
     record { place = w .place + 1; height = w .height; begin = begin; base = base; asked = w .asked; good = true }
@@ -66,19 +78,20 @@ forked w size a =
     (record { place = w .place + 3 + size; height = w .height + 1; begin = w .begin; base = w .base; asked = a .asked; good = true })
     lostWalk
 
-unfoldable pub forkTo : (starts ends : List ℕ) → Walk → (size : ℕ) → Walk
-forkTo starts ends w size =
-    forked w size (askedFor starts ends (record { start = w .place + 3; end = w .place + 3 + size }) (w .asked))
+unfoldable pub forkTo : (starts ends : List ℕ) → Walk → (target size : ℕ) → Walk
+forkTo starts ends w target size =
+    upTo target (w .place + 3 + size)
+    (forked w size (askedFor starts ends (record { start = w .place + 3; end = w .place + 3 + size }) (w .asked)))
 
--- the instruction at the walk's place, the next one being behind the target or not
+-- the instruction at the walk's place, which is before the target
 unfoldable pub stepTo : (starts ends : List ℕ) (target : ℕ) → Walk → Op → Walk
-stepTo starts ends target w (op.Push n) = cond (ltb target (w .place + 5)) lostWalk (riseTo w 5)
+stepTo starts ends target w (op.Push n) = riseTo w target 5
 stepTo starts ends target w op.Add = fallTo w
-stepTo starts ends target w (op.Read v) = cond (ltb target (w .place + 2)) lostWalk (riseTo w 2)
-stepTo starts ends target w (op.Write v) = cond (ltb target (w .place + 2)) lostWalk (stayTo w)
+stepTo starts ends target w (op.Read v) = riseTo w target 2
+stepTo starts ends target w (op.Write v) = stayTo w target
 stepTo starts ends target w op.Begin = noteTo w (w .place) (w .height)
 stepTo starts ends target w op.Commit = noteTo w 0 0
-stepTo starts ends target w (op.Fork size) = cond (ltb target (w .place + 3 + size)) lostWalk (forkTo starts ends w size)
+stepTo starts ends target w (op.Fork size) = forkTo starts ends w target size
 stepTo starts ends target w op.Foreign = lostWalk
 
 -- ---- a whole walk, told by what the definition finds

@@ -2,7 +2,7 @@
 use mathlib.Core.Path.{sym, _∙_}
 use borrow.Author.Tests.{not-true, not-false}
 use Rattle.survey.proofs.Yes.{is-false, alike, clash}
-use Rattle.survey.proofs.Records.{Zeros, zeros-of, all-zero}
+use Rattle.survey.proofs.Records.{zeros-of, all-zero}
 use borrow.Author.Needs.{needs}
 use Rattle.survey.proofs.is_blank.Statement.{statement}
 use Rattle.survey.proofs.is_blank.Tie as tie

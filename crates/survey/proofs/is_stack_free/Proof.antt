@@ -1,7 +1,6 @@
 -- `survey::is_stack_free` meets its contract. Assumes nothing.
 use Prim.Native.Nat.{ℕ, _-_, _≤_}
 use mathlib.Core.Path.{_≡_, refl, sym, _∙_}
-use mathlib.Core.Bool.{Bool}
 use native.Mathlib.Omega.{arith}
 use borrow.Author.Needs.{needs, sfits-of}
 use borrow.Author.Tests.{not-true, not-false}
@@ -25,14 +24,14 @@ mul-is-kept : tie.Need-mul-is-kept Inv-loop μ-loop
 mul-is-kept c = search needs
 
 element-copy-out-is-kept : tie.Need-element-copy-out-is-kept Inv-loop μ-loop
-element-copy-out-is-kept c = c .loop-test .taken
+element-copy-out-is-kept c = omega arith
 
 is-kept-requires : tie.Need-is-kept-requires Inv-loop μ-loop
 is-kept-requires c κs = tt
 
 returns : tie.Need-returns Inv-loop μ-loop
 unfolding cellsFree
-returns c = free-fails (λ (k : ℕ). ltb k (c .before .before .before .before .before .args .height)) (c .before .before .before .before .before .args .cells .now) (c .before .before .before .before .loop .n) (c .before .before .before .loop-test .taken) (c .before .before .before .before .loop .inv .1) (sym (rw (toZ-ofZ (sfits-of (c .before .before .is-kept-arg .given))) at (c .before .is-kept .ensures)) ∙ not-true _ (c .if1 .taken))
+returns c = free-fails (λ (k : ℕ). ltb k (c .before .before .before .before .before .args .height)) (c .before .before .before .before .before .args .cells .now) (c .before .before .before .before .loop .n) (omega arith) (c .before .before .before .before .loop .inv .1) (sym (rw (toZ-ofZ (sfits-of (c .before .before .is-kept-arg .given))) at (c .before .is-kept .ensures)) ∙ not-true _ (c .if1 .taken))
 
 add-n : tie.Need-add-n Inv-loop μ-loop
 add-n c = omega arith
@@ -41,7 +40,7 @@ loop-less : tie.Need-loop-less Inv-loop μ-loop
 loop-less c = omega arith
 
 loop-again : tie.Need-loop-again Inv-loop μ-loop
-loop-again c = (omega arith, free-again (λ (k : ℕ). ltb k (c .before .before .before .before .before .args .height)) (c .before .before .before .before .before .args .cells .now) (c .before .before .before .before .loop .n) (c .before .before .before .loop-test .taken) (c .before .before .before .before .loop .inv .1) (sym (rw (toZ-ofZ (sfits-of (c .before .before .is-kept-arg .given))) at (c .before .is-kept .ensures)) ∙ not-false _ (c .if1 .left)))
+loop-again c = (omega arith, free-again (λ (k : ℕ). ltb k (c .before .before .before .before .before .args .height)) (c .before .before .before .before .before .args .cells .now) (c .before .before .before .before .loop .n) (omega arith) (c .before .before .before .before .loop .inv .1) (sym (rw (toZ-ofZ (sfits-of (c .before .before .is-kept-arg .given))) at (c .before .is-kept .ensures)) ∙ not-false _ (c .if1 .left)))
 
 returns-2 : tie.Need-returns-2 Inv-loop μ-loop
 unfolding cellsFree

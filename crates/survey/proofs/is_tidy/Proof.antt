@@ -2,7 +2,7 @@
 use mathlib.Core.Path.{sym, _∙_}
 use borrow.Author.Tests.{not-true, not-false}
 use Rattle.survey.proofs.Yes.{is-false, alike, clash}
-use Rattle.survey.proofs.Records.{Tidy, tidy-of, is-tidy}
+use Rattle.survey.proofs.Records.{tidy-of, is-tidy}
 use borrow.Author.Needs.{needs}
 use Rattle.survey.proofs.is_tidy.Statement.{statement}
 use Rattle.survey.proofs.is_tidy.Tie as tie
