@@ -17,7 +17,7 @@ use Rattle.machine.specs.Fits.{Walked, ownCode}
 use Rattle.machine.specs.FitTest.{walkTo, free, agreesWith, placed, allZero, noneBehind, inFront, same, passedBy, among, allAmong, oneEach, fits}
 use Rattle.survey.specs.declared.Survey.{Survey}
 use Rattle.survey.specs.declared.Row.{Row}
-use Rattle.survey.specs.InnerRecords.{emptySurvey, cellsFree, tidy, withTo, surveyFrom, surveyOf}
+use Rattle.survey.specs.InnerRecords.{emptySurvey, zeroFrom, tidy, withTo, surveyFrom, surveyOf}
 use Rattle.survey.specs.InnerWalk.{ownAt, firstVerdict, rowAt, judgeAll, allAsked, surveyFits}
 use Rattle.survey.proofs.Yes.{never, alike, first, second, both}
 use Rattle.survey.proofs.Records.{zeros-of, shut, tidy-of, is-tidy}
@@ -58,7 +58,7 @@ module _ (bytes : List ℕ) (t : Thread) where
       both (eq-eqb (t .height) (w .height) h) (both (eq-eqb (t .begin) (w .begin) b) (both (eq-eqb (t .base) (w .base) c) (shut-by t (w .begin) b ∙ s)))
 
   placed-parts : placed bytes t ≡ true → (tidy t ≡ true) × (agrees t (walkTo bytes t) ≡ true)
-  unfolding placed cellsFree
+  unfolding placed zeroFrom
   placed-parts e =
       let a = agreed (walkTo bytes t) (first _ _ e) in
       let e1 = second (agreesWith t (walkTo bytes t)) _ e in
@@ -68,7 +68,7 @@ module _ (bytes : List ℕ) (t : Thread) where
       )
 
   parts-placed : tidy t ≡ true → agrees t (walkTo bytes t) ≡ true → placed bytes t ≡ true
-  unfolding placed cellsFree
+  unfolding placed zeroFrom
   parts-placed y a =
       let z = tidy-of t y in
       both (agreeing-back (walkTo bytes t) a (z .shut)) (both (z .readlog) (both (z .writelog) (z .cells)))

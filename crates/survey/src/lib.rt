@@ -4,7 +4,7 @@ ghost use lib.Dec.{eqb};
 ghost use mathlib.Core.Bool.{_&&_, _||_, not};
 ghost use mathlib.Core.Path.{_≡_};
 ghost use Rattle.machine.specs.FitTest.{allZero, free, isZero};
-ghost use Rattle.survey.specs.InnerRecords.{cellsFree, emptySurvey, unfitTo, passTo, putTo, tidy, withTo};
+ghost use Rattle.survey.specs.InnerRecords.{zeroFrom, emptySurvey, unfitTo, passTo, putTo, tidy, withTo};
 ghost use Rattle.survey.specs.InnerWalk.{agreeing, allAsked, askedFor, fallTo, forkTo, judgeAll, judgeTo, lostWalk, noteTo, noted, riseTo, stayTo, stepTo, surveyFits, walkFrom};
 ghost use Rattle.word.specs.Registers.{member};
 
@@ -92,13 +92,13 @@ fn is_log_free(set: u64, values: &[i32; 64]) -> bool
     true
 }
 
-// Whether the stack cells above the height are 0.
-fn is_stack_free(height: usize, cells: &[i32; 64]) -> bool
-    ensures { λ r. ⌜ r ≡ cellsFree height (now (cells .entry)) ⌝ }
+// Whether the numbers from a height on are 0.
+fn is_zero_from(height: usize, numbers: &[i32; 64]) -> bool
+    ensures { λ r. ⌜ r ≡ zeroFrom height (now (numbers .entry)) ⌝ }
 {
     let mut n: usize = 0;
     while n < 64 {
-        if !is_kept(n < height, cells[n]) {
+        if !is_kept(n < height, numbers[n]) {
             return false;
         }
         n += 1;
@@ -135,15 +135,15 @@ fn is_blank(t: thread::Thread) -> bool
         return false;
     }
     let cells = t.cells;
-    if !is_stack_free(0, &cells) {
+    if !is_zero_from(0, &cells) {
         return false;
     }
     let readlog = t.readlog;
-    if !is_stack_free(0, &readlog) {
+    if !is_zero_from(0, &readlog) {
         return false;
     }
     let writelog = t.writelog;
-    is_stack_free(0, &writelog)
+    is_zero_from(0, &writelog)
 }
 
 // Whether a transaction is open or no register is marked.
@@ -175,7 +175,7 @@ fn is_tidy(t: thread::Thread) -> bool
         return false;
     }
     let cells = t.cells;
-    is_stack_free(t.height, &cells)
+    is_zero_from(t.height, &cells)
 }
 
 impl Survey {
