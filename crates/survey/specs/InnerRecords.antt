@@ -94,10 +94,11 @@ withTo s t =
     (unfitTo s))
     s
 
--- the records one after the other
+-- more records, one after the other
 unfoldable pub surveyFrom : Survey → List Thread → Survey
 surveyFrom s [] = s
 surveyFrom s (t ∷ ts) = surveyFrom (withTo s t) ts
 
+-- the survey of these records
 unfoldable pub surveyOf : List Thread → Survey
 surveyOf ts = surveyFrom emptySurvey ts

@@ -51,6 +51,7 @@ unfoldable pub rose : Walk → (size : ℕ) → Walk
 rose w size =
     record { place = w .place + size; height = w .height + 1; begin = w .begin; base = w .base; asked = w .asked; good = true }
 
+-- the same, if that is not behind the target
 unfoldable pub riseTo : Walk → (target size : ℕ) → Walk
 riseTo w target size = upTo target (w .place + size) (rose w size)
 
@@ -78,6 +79,7 @@ forked w size a =
     (record { place = w .place + 3 + size; height = w .height + 1; begin = w .begin; base = w .base; asked = a .asked; good = true })
     lostWalk
 
+-- the same, with the records whose own code it is, if the parent does not go on behind the target
 unfoldable pub forkTo : (starts ends : List ℕ) → Walk → (target size : ℕ) → Walk
 forkTo starts ends w target size =
     upTo target (w .place + 3 + size)
@@ -96,16 +98,18 @@ stepTo starts ends target w op.Foreign = lostWalk
 
 -- ---- a whole walk, told by what the definition finds
 
--- the records that the FORKs passed ask for, the last FORK first; and whether each has exactly one thread
+-- the records that the FORKs passed ask for, the last FORK first
 unfoldable pub marks : (starts ends : List ℕ) → List Child → (asked : ℕ) → ℕ
 marks starts ends [] asked = asked
 marks starts ends (c ∷ cs) asked = askedFor starts ends c (marks starts ends cs asked) .asked
 
+-- each of these FORKs has exactly one thread
 unfoldable pub ones : (starts ends : List ℕ) → List Child → (asked : ℕ) → Bool
 ones starts ends [] asked = true
 ones starts ends (c ∷ cs) asked =
     eqb (askedFor starts ends c (marks starts ends cs asked) .number) 1 && ones starts ends cs asked
 
+-- where a walk stands that the definition finds at a place
 unfoldable pub walkOf : (starts ends : List ℕ) (asked place : ℕ) → Walked → Walk
 walkOf starts ends asked place w =
     record {
@@ -117,23 +121,28 @@ walkOf starts ends asked place w =
       good = true;
     }
 
+-- what the definition finds: the thread's place with each FORK passed having its thread, or not
 unfoldable pub told : (starts ends : List ℕ) (asked target : ℕ) → Option Walked → Walk
 told starts ends asked target none = lostWalk
 told starts ends asked target (some w) =
     cond (ones starts ends (w .children) asked) (walkOf starts ends asked target w) lostWalk
 
+-- from a thread's start to its place
 unfoldable pub walkFrom : (bytes starts ends : List ℕ) (start end target asked : ℕ) → Walk
 walkFrom bytes starts ends start end target asked =
     told starts ends asked target (walk (suc target) bytes end target start unmoved)
 
 -- ---- the threads
 
+-- the record has what the walk comes to
 unfoldable pub agreeing : Walk → Row → Bool
 agreeing w r = w .good && (eqb (w .height) (r .height) && (eqb (w .begin) (r .begin) && eqb (w .base) (r .base)))
 
+-- no thread was judged yet
 unfoldable pub firstVerdict : Verdict
 firstVerdict = record { asked = 0; good = true }
 
+-- a thread does not fit the code
 unfoldable pub unfit : Verdict
 unfit = record { asked = 0; good = false }
 
@@ -141,6 +150,7 @@ unfit = record { asked = 0; good = false }
 unfoldable pub judgedBy : Row → Walk → Verdict
 judgedBy r w = cond (agreeing w r) (record { asked = w .asked; good = true }) unfit
 
+-- one record more: a record of no thread changes nothing, nor does any behind a thread that does not fit
 unfoldable pub judgeTo : (bytes starts ends : List ℕ) → Row → Verdict → Verdict
 judgeTo bytes starts ends r v =
     cond
@@ -151,6 +161,7 @@ judgeTo bytes starts ends r v =
     (judgedBy r (walkFrom bytes starts ends (r .start) (r .end) (r .place) (v .asked))))
     v
 
+-- the numbers of record i
 abbrev pub rowAt : Survey → ℕ → Row
 rowAt s i =
     record {
@@ -176,9 +187,11 @@ unfoldable pub allAsked : (left i : ℕ) (starts : List ℕ) (asked : ℕ) → B
 allAsked zero i starts asked = true
 allAsked (suc left) i starts asked = (eqb (getD starts i 0) 0 || member asked i) && allAsked left (suc i) starts asked
 
+-- each thread fits, and each but the first was asked for
 abbrev pub allJudged : Verdict → (starts : List ℕ) → Bool
 allJudged v starts = v .good && allAsked 15 1 starts (v .asked)
 
+-- the whole test: 16 records, 64 registers, thread 0 with the whole code, and the threads
 unfoldable pub surveyFits : Survey → (bytes : List ℕ) (registers : ℕ) → Bool
 surveyFits s bytes registers =
     s .good
