@@ -5,3 +5,7 @@ pub mod Records
 pub mod Steps
 pub mod Walks
 pub mod Judging
+pub mod Shows
+pub mod Asking
+pub mod Judges
+pub mod Exact

@@ -11,7 +11,7 @@ use Rattle.thread.specs.declared.Thread.{Thread}
 use Rattle.machine.specs.FitTest.{free, allZero}
 use Rattle.word.specs.Registers.{member}
 use Rattle.survey.specs.declared.Survey.{Survey}
-use Rattle.survey.specs.InnerRecords.{unfitTo, passTo, putTo, cellsFree, tidy, withTo}
+use Rattle.survey.specs.InnerRecords.{unfitTo, passTo, putTo, zeroFrom, tidy, withTo}
 use Rattle.survey.proofs.Yes.{first, second, both, when-true, when-false}
 
 -- ---- a record of no thread
@@ -24,13 +24,13 @@ pub record Zeros (t : Thread) : Type 0 where
   pub base : t .base ≡ 0
   pub reads : t .reads ≡ 0
   pub writes : t .writes ≡ 0
-  pub cells : cellsFree 0 (t .cells) ≡ true
-  pub readlog : cellsFree 0 (t .readlog) ≡ true
-  pub writelog : cellsFree 0 (t .writelog) ≡ true
+  pub cells : zeroFrom 0 (t .cells) ≡ true
+  pub readlog : zeroFrom 0 (t .readlog) ≡ true
+  pub writelog : zeroFrom 0 (t .writelog) ≡ true
 
 -- no cell is below height 0
-none-below : (ns : List ℤ) → cellsFree 0 ns ≡ free (λ n. false) ns
-unfolding cellsFree
+none-below : (ns : List ℤ) → zeroFrom 0 ns ≡ free (λ n. false) ns
+unfolding zeroFrom
 none-below ns = ap (λ (used : ℕ → Bool). free used ns) (fun-ext (λ n. le-ltb n 0 (omega arith)))
 
 pub zeros-of : (t : Thread) → allZero t ≡ true → Zeros t
@@ -80,7 +80,7 @@ pub record Tidy (t : Thread) : Type 0 where
   pub shut : shut t ≡ true
   pub readlog : free (member (t .reads)) (t .readlog) ≡ true
   pub writelog : free (member (t .writes)) (t .writelog) ≡ true
-  pub cells : cellsFree (t .height) (t .cells) ≡ true
+  pub cells : zeroFrom (t .height) (t .cells) ≡ true
 
 pub tidy-of : (t : Thread) → tidy t ≡ true → Tidy t
 unfolding tidy

@@ -2,11 +2,11 @@
 use Prim.Native.Nat.{ℕ, zero, suc, _+_, _-_, _≤_, _<_}
 use mathlib.Core.Bool.{Bool, true, false, cond, _&&_}
 use mathlib.Core.Path.{_≡_, refl, sym, ap, subst, _∙_}
-use mathlib.Core.List.{List, [], _∷_}
+use mathlib.Core.List.{List}
 use mathlib.Core.Option.{Option, none, some}
 use native.Mathlib.Numerals.{add-one}
 use native.Mathlib.Omega.{arith}
-use borrow.Author.Tests.{eq-eqb, ne-eqb, eqb-true, lt-ltb, le-ltb, ltb-true, ltb-false}
+use borrow.Author.Tests.{eq-eqb, ne-eqb, lt-ltb, le-ltb, ltb-true}
 use lib.Dec.{eqb, ltb}
 use lib.ListN.{drop}
 use Rattle.code.specs.Ops.{opAt}
@@ -19,7 +19,8 @@ use Rattle.machine.specs.FitTest.{goingOn, walk}
 use Rattle.machine.proofs.Walking.{next-after}
 use Rattle.survey.specs.declared.Asked.{Asked}
 use Rattle.survey.specs.declared.Walk.{Walk}
-use Rattle.survey.specs.InnerWalk.{askedFor, lostWalk, riseTo, fallTo, stayTo, noteTo, forked, forkTo, stepTo, marks, ones, walkOf, told, walkFrom}
+use Rattle.survey.specs.InnerWalk.{askedFor, lostWalk, rose, riseTo, fallTo, stayTo, noteTo, forked, forkTo, stepTo, marks, ones, walkOf, told, walkFrom}
+use Rattle.survey.proofs.Steps.{near}
 use Rattle.survey.proofs.Yes.{never, clash, when-true, when-false, and-no, and-yes}
 
 -- the records that the FORK at a place asks for, and whether it is one
@@ -95,17 +96,14 @@ module _ (bytes starts ends : List ℕ) (end target asked : ℕ) where
       one false ih = two (ltb place end) ih
 
   -- one instruction
-  rises : (place size : ℕ) (v : Walked) → riseTo (walkOf starts ends asked place v) size ≡ walkOf starts ends asked (place + size) (risen (suc (v .height)) v)
-  unfolding riseTo walkOf
+  rises : (place size : ℕ) (v : Walked) → rose (walkOf starts ends asked place v) size ≡ walkOf starts ends asked (place + size) (risen (suc (v .height)) v)
+  unfolding rose walkOf
   rises place size v =
       ap (λ (h : ℕ). record { place = place + size; height = h; begin = v .begin; base = v .base; asked = marks starts ends (v .children) asked; good = true }) (add-one (v .height))
 
   module _ (place : ℕ) (v : Walked) (all : ones starts ends (v .children) asked ≡ true) (l : place < target) where
     abbrev here : Walk
     here = walkOf starts ends asked place v
-
-    near : (x : Walk) (q : ℕ) → q ≤ target → x ≡ cond (ltb target q) lostWalk x
-    near x q h = when-false (ltb target q) lostWalk x (le-ltb target q h)
 
     abbrev behind : (size height : ℕ) → Walk
     behind size height =
@@ -115,13 +113,13 @@ module _ (bytes starts ends : List ℕ) (end target asked : ℕ) where
     stepsTo op = stepTo starts ends target here (showOp op) ≡ cond (ltb target (nextPlace op place)) lostWalk (toldAt (nextPlace op place) (walkOp op place v))
 
     one-op : (op : code.Op) → stepsTo op
-    unfolding stepTo nextPlace walkOp ones forkTo forked fallTo stayTo noteTo walkOf marks
+    unfolding stepTo nextPlace walkOp ones riseTo forkTo forked fallTo stayTo noteTo walkOf marks
     one-op (code.push n) = ap (cond (ltb target (place + 5)) lostWalk) (rises place 5 v ∙ when-true _ _ lostWalk all)
-    one-op code.add = when-true (ones starts ends (v .children) asked) _ lostWalk all ∙ near _ (place + 1) (omega arith)
+    one-op code.add = when-true (ones starts ends (v .children) asked) _ lostWalk all ∙ near target (place + 1) _ (omega arith)
     one-op (code.read r) = ap (cond (ltb target (place + 2)) lostWalk) (rises place 2 v ∙ when-true _ _ lostWalk all)
     one-op (code.write r) = ap (cond (ltb target (place + 2)) lostWalk) (when-true (ones starts ends (v .children) asked) _ lostWalk all)
-    one-op code.begin = when-true (ones starts ends (v .children) asked) _ lostWalk all ∙ near _ (place + 1) (omega arith)
-    one-op code.commit = when-true (ones starts ends (v .children) asked) _ lostWalk all ∙ near _ (place + 1) (omega arith)
+    one-op code.begin = when-true (ones starts ends (v .children) asked) _ lostWalk all ∙ near target (place + 1) _ (omega arith)
+    one-op code.commit = when-true (ones starts ends (v .children) asked) _ lostWalk all ∙ near target (place + 1) _ (omega arith)
     one-op (code.fork size) =
         let n = alone starts ends place size (marks starts ends (v .children) asked) in
         ap

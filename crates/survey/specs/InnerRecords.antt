@@ -70,15 +70,15 @@ putTo s t =
       good = s .good;
     }
 
--- the cells above a height are 0
-unfoldable pub cellsFree : (height : ℕ) → List ℤ → Bool
-cellsFree height ns = free (λ n. ltb n height) ns
+-- the numbers from a height on are 0
+unfoldable pub zeroFrom : (height : ℕ) → List ℤ → Bool
+zeroFrom height ns = free (λ n. ltb n height) ns
 
 -- the logs are empty outside a transaction, and what is not in use is 0
 unfoldable pub tidy : Thread → Bool
 tidy t =
     (not (eqb (t .begin) 0) || (eqb (t .reads) 0 && eqb (t .writes) 0))
-    && (free (member (t .reads)) (t .readlog) && (free (member (t .writes)) (t .writelog) && cellsFree (t .height) (t .cells)))
+    && (free (member (t .reads)) (t .readlog) && (free (member (t .writes)) (t .writelog) && zeroFrom (t .height) (t .cells)))
 
 -- the next record
 unfoldable pub withTo : Survey → Thread → Survey
@@ -94,10 +94,11 @@ withTo s t =
     (unfitTo s))
     s
 
--- the records one after the other
+-- more records, one after the other
 unfoldable pub surveyFrom : Survey → List Thread → Survey
 surveyFrom s [] = s
 surveyFrom s (t ∷ ts) = surveyFrom (withTo s t) ts
 
+-- the survey of these records
 unfoldable pub surveyOf : List Thread → Survey
 surveyOf ts = surveyFrom emptySurvey ts

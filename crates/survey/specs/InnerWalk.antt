@@ -42,18 +42,31 @@ askedFor starts ends c asked = asks 16 0 starts ends c (record { number = 0; ask
 unfoldable pub lostWalk : Walk
 lostWalk = record { place = 0; height = 0; begin = 0; base = 0; asked = 0; good = false }
 
--- PUSH and READ, ADD, WRITE, BEGIN and COMMIT
-unfoldable pub riseTo : Walk → (size : ℕ) → Walk
-riseTo w size =
+-- what goes on at a place, unless that is behind the target
+abbrev pub upTo : (target place : ℕ) → Walk → Walk
+upTo target place w = cond (ltb target place) lostWalk w
+
+-- PUSH and READ: so many bytes further, and one number more on the stack
+unfoldable pub rose : Walk → (size : ℕ) → Walk
+rose w size =
     record { place = w .place + size; height = w .height + 1; begin = w .begin; base = w .base; asked = w .asked; good = true }
 
+-- the same, if that is not behind the target
+unfoldable pub riseTo : Walk → (target size : ℕ) → Walk
+riseTo w target size = upTo target (w .place + size) (rose w size)
+
+-- ADD
 unfoldable pub fallTo : Walk → Walk
 fallTo w =
     record { place = w .place + 1; height = w .height - 1; begin = w .begin; base = w .base; asked = w .asked; good = true }
 
-unfoldable pub stayTo : Walk → Walk
-stayTo w = record { place = w .place + 2; height = w .height; begin = w .begin; base = w .base; asked = w .asked; good = true }
+-- WRITE
+unfoldable pub stayTo : Walk → (target : ℕ) → Walk
+stayTo w target =
+    upTo target (w .place + 2)
+    (record { place = w .place + 2; height = w .height; begin = w .begin; base = w .base; asked = w .asked; good = true })
 
+-- BEGIN and COMMIT: other notes
 unfoldable pub noteTo : Walk → (begin base : ℕ) → Walk
 noteTo w begin base =
     record { place = w .place + 1; height = w .height; begin = begin; base = base; asked = w .asked; good = true }
@@ -66,33 +79,37 @@ forked w size a =
     (record { place = w .place + 3 + size; height = w .height + 1; begin = w .begin; base = w .base; asked = a .asked; good = true })
     lostWalk
 
-unfoldable pub forkTo : (starts ends : List ℕ) → Walk → (size : ℕ) → Walk
-forkTo starts ends w size =
-    forked w size (askedFor starts ends (record { start = w .place + 3; end = w .place + 3 + size }) (w .asked))
+-- the same, with the records whose own code it is, if the parent does not go on behind the target
+unfoldable pub forkTo : (starts ends : List ℕ) → Walk → (target size : ℕ) → Walk
+forkTo starts ends w target size =
+    upTo target (w .place + 3 + size)
+    (forked w size (askedFor starts ends (record { start = w .place + 3; end = w .place + 3 + size }) (w .asked)))
 
--- the instruction at the walk's place, the next one being behind the target or not
+-- the instruction at the walk's place, which is before the target
 unfoldable pub stepTo : (starts ends : List ℕ) (target : ℕ) → Walk → Op → Walk
-stepTo starts ends target w (op.Push n) = cond (ltb target (w .place + 5)) lostWalk (riseTo w 5)
+stepTo starts ends target w (op.Push n) = riseTo w target 5
 stepTo starts ends target w op.Add = fallTo w
-stepTo starts ends target w (op.Read v) = cond (ltb target (w .place + 2)) lostWalk (riseTo w 2)
-stepTo starts ends target w (op.Write v) = cond (ltb target (w .place + 2)) lostWalk (stayTo w)
+stepTo starts ends target w (op.Read v) = riseTo w target 2
+stepTo starts ends target w (op.Write v) = stayTo w target
 stepTo starts ends target w op.Begin = noteTo w (w .place) (w .height)
 stepTo starts ends target w op.Commit = noteTo w 0 0
-stepTo starts ends target w (op.Fork size) = cond (ltb target (w .place + 3 + size)) lostWalk (forkTo starts ends w size)
+stepTo starts ends target w (op.Fork size) = forkTo starts ends w target size
 stepTo starts ends target w op.Foreign = lostWalk
 
 -- ---- a whole walk, told by what the definition finds
 
--- the records that the FORKs passed ask for, the last FORK first; and whether each has exactly one thread
+-- the records that the FORKs passed ask for, the last FORK first
 unfoldable pub marks : (starts ends : List ℕ) → List Child → (asked : ℕ) → ℕ
 marks starts ends [] asked = asked
 marks starts ends (c ∷ cs) asked = askedFor starts ends c (marks starts ends cs asked) .asked
 
+-- each of these FORKs has exactly one thread
 unfoldable pub ones : (starts ends : List ℕ) → List Child → (asked : ℕ) → Bool
 ones starts ends [] asked = true
 ones starts ends (c ∷ cs) asked =
     eqb (askedFor starts ends c (marks starts ends cs asked) .number) 1 && ones starts ends cs asked
 
+-- where a walk stands that the definition finds at a place
 unfoldable pub walkOf : (starts ends : List ℕ) (asked place : ℕ) → Walked → Walk
 walkOf starts ends asked place w =
     record {
@@ -104,23 +121,28 @@ walkOf starts ends asked place w =
       good = true;
     }
 
+-- what the definition finds: the thread's place with each FORK passed having its thread, or not
 unfoldable pub told : (starts ends : List ℕ) (asked target : ℕ) → Option Walked → Walk
 told starts ends asked target none = lostWalk
 told starts ends asked target (some w) =
     cond (ones starts ends (w .children) asked) (walkOf starts ends asked target w) lostWalk
 
+-- from a thread's start to its place
 unfoldable pub walkFrom : (bytes starts ends : List ℕ) (start end target asked : ℕ) → Walk
 walkFrom bytes starts ends start end target asked =
     told starts ends asked target (walk (suc target) bytes end target start unmoved)
 
 -- ---- the threads
 
+-- the record has what the walk comes to
 unfoldable pub agreeing : Walk → Row → Bool
 agreeing w r = w .good && (eqb (w .height) (r .height) && (eqb (w .begin) (r .begin) && eqb (w .base) (r .base)))
 
+-- no thread was judged yet
 unfoldable pub firstVerdict : Verdict
 firstVerdict = record { asked = 0; good = true }
 
+-- a thread does not fit the code
 unfoldable pub unfit : Verdict
 unfit = record { asked = 0; good = false }
 
@@ -128,6 +150,7 @@ unfit = record { asked = 0; good = false }
 unfoldable pub judgedBy : Row → Walk → Verdict
 judgedBy r w = cond (agreeing w r) (record { asked = w .asked; good = true }) unfit
 
+-- one record more: a record of no thread changes nothing, nor does any behind a thread that does not fit
 unfoldable pub judgeTo : (bytes starts ends : List ℕ) → Row → Verdict → Verdict
 judgeTo bytes starts ends r v =
     cond
@@ -138,6 +161,7 @@ judgeTo bytes starts ends r v =
     (judgedBy r (walkFrom bytes starts ends (r .start) (r .end) (r .place) (v .asked))))
     v
 
+-- the numbers of record i
 abbrev pub rowAt : Survey → ℕ → Row
 rowAt s i =
     record {
@@ -163,9 +187,11 @@ unfoldable pub allAsked : (left i : ℕ) (starts : List ℕ) (asked : ℕ) → B
 allAsked zero i starts asked = true
 allAsked (suc left) i starts asked = (eqb (getD starts i 0) 0 || member asked i) && allAsked left (suc i) starts asked
 
+-- each thread fits, and each but the first was asked for
 abbrev pub allJudged : Verdict → (starts : List ℕ) → Bool
 allJudged v starts = v .good && allAsked 15 1 starts (v .asked)
 
+-- the whole test: 16 records, 64 registers, thread 0 with the whole code, and the threads
 unfoldable pub surveyFits : Survey → (bytes : List ℕ) (registers : ℕ) → Bool
 surveyFits s bytes registers =
     s .good

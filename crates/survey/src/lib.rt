@@ -4,7 +4,7 @@ ghost use lib.Dec.{eqb};
 ghost use mathlib.Core.Bool.{_&&_, _||_, not};
 ghost use mathlib.Core.Path.{_≡_};
 ghost use Rattle.machine.specs.FitTest.{allZero, free, isZero};
-ghost use Rattle.survey.specs.InnerRecords.{cellsFree, emptySurvey, unfitTo, passTo, putTo, tidy, withTo};
+ghost use Rattle.survey.specs.InnerRecords.{zeroFrom, emptySurvey, unfitTo, passTo, putTo, tidy, withTo};
 ghost use Rattle.survey.specs.InnerWalk.{agreeing, allAsked, askedFor, fallTo, forkTo, judgeAll, judgeTo, lostWalk, noteTo, noted, riseTo, stayTo, stepTo, surveyFits, walkFrom};
 ghost use Rattle.word.specs.Registers.{member};
 
@@ -92,13 +92,13 @@ fn is_log_free(set: u64, values: &[i32; 64]) -> bool
     true
 }
 
-// Whether the stack cells above the height are 0.
-fn is_stack_free(height: usize, cells: &[i32; 64]) -> bool
-    ensures { λ r. ⌜ r ≡ cellsFree height (now (cells .entry)) ⌝ }
+// Whether the numbers from a height on are 0.
+fn is_zero_from(height: usize, numbers: &[i32; 64]) -> bool
+    ensures { λ r. ⌜ r ≡ zeroFrom height (now (numbers .entry)) ⌝ }
 {
     let mut n: usize = 0;
     while n < 64 {
-        if !is_kept(n < height, cells[n]) {
+        if !is_kept(n < height, numbers[n]) {
             return false;
         }
         n += 1;
@@ -135,15 +135,15 @@ fn is_blank(t: thread::Thread) -> bool
         return false;
     }
     let cells = t.cells;
-    if !is_stack_free(0, &cells) {
+    if !is_zero_from(0, &cells) {
         return false;
     }
     let readlog = t.readlog;
-    if !is_stack_free(0, &readlog) {
+    if !is_zero_from(0, &readlog) {
         return false;
     }
     let writelog = t.writelog;
-    is_stack_free(0, &writelog)
+    is_zero_from(0, &writelog)
 }
 
 // Whether a transaction is open or no register is marked.
@@ -175,7 +175,7 @@ fn is_tidy(t: thread::Thread) -> bool
         return false;
     }
     let cells = t.cells;
-    is_stack_free(t.height, &cells)
+    is_zero_from(t.height, &cells)
 }
 
 impl Survey {
@@ -329,13 +329,18 @@ fn lost() -> Walk
 
 impl Walk {
     // PUSH or READ: so many bytes further, and one number more on the stack.
-    fn rise(self, size: usize) -> Walk
-        requires { ⌜ (self .place + size < 2 ^ 64) × (self .height < 2 ^ 64 - 1) ⌝ }
-        ensures { λ r. ⌜ r ≡ riseTo self size ⌝ }
+    fn rise(self, target: usize, size: usize) -> Walk
+        requires { ⌜ (self .place < target) × (self .height ≤ self .place) ⌝ }
+        ensures { λ r. ⌜ r ≡ riseTo self target size ⌝ }
     {
+        if target - self.place < size {
+            return lost();
+        }
+        let place = self.place + size;
+        let height = self.height + 1;
         Walk {
-            place: self.place + size,
-            height: self.height + 1,
+            place,
+            height,
             begin: self.begin,
             base: self.base,
             asked: self.asked,
@@ -359,12 +364,16 @@ impl Walk {
     }
 
     // WRITE.
-    fn stay(self) -> Walk
-        requires { ⌜ self .place < 2 ^ 64 - 2 ⌝ }
-        ensures { λ r. ⌜ r ≡ stayTo self ⌝ }
+    fn stay(self, target: usize) -> Walk
+        requires { ⌜ self .place < target ⌝ }
+        ensures { λ r. ⌜ r ≡ stayTo self target ⌝ }
     {
+        if target - self.place < 2 {
+            return lost();
+        }
+        let place = self.place + 2;
         Walk {
-            place: self.place + 2,
+            place,
             height: self.height,
             begin: self.begin,
             base: self.base,
@@ -389,10 +398,17 @@ impl Walk {
     }
 
     // FORK: exactly one record has its child code as its own.
-    fn fork(self, starts: &[usize; 16], ends: &[usize; 16], size: usize) -> Walk
-        requires { ⌜ (self .place + 3 + size < 2 ^ 64) × (self .height < 2 ^ 64 - 1) ⌝ }
-        ensures { λ r. ⌜ r ≡ forkTo (now (starts .entry)) (now (ends .entry)) self size ⌝ }
+    fn fork(self, starts: &[usize; 16], ends: &[usize; 16], target: usize, size: usize) -> Walk
+        requires { ⌜ (self .place < target) × (self .height ≤ self .place) ⌝ }
+        ensures { λ r. ⌜ r ≡ forkTo (now (starts .entry)) (now (ends .entry)) self target size ⌝ }
     {
+        let left = target - self.place;
+        if left < 3 {
+            return lost();
+        }
+        if left - 3 < size {
+            return lost();
+        }
         let start = self.place + 3;
         let end = start + size;
         let a = ask(starts, ends, start, end, self.asked);
@@ -410,47 +426,23 @@ impl Walk {
         }
     }
 
-    // One instruction, if the next one is not behind the target.
+    // One instruction. The walk is lost if the next one is behind the target.
     fn step(self, starts: &[usize; 16], ends: &[usize; 16], target: usize, op: ops::Op) -> Walk
         requires { ⌜ (self .place < target) × (self .height ≤ self .place) ⌝ }
         ensures { λ r. ⌜ r ≡ stepTo (now (starts .entry)) (now (ends .entry)) target self op ⌝ }
     {
-        let left = target - self.place;
         match op {
-            ops::Op::Push(_) => {
-                if left < 5 {
-                    return lost();
-                }
-                self.rise(5)
-            }
+            ops::Op::Push(_) => self.rise(target, 5),
             ops::Op::Add => self.fall(),
-            ops::Op::Read(_) => {
-                if left < 2 {
-                    return lost();
-                }
-                self.rise(2)
-            }
-            ops::Op::Write(_) => {
-                if left < 2 {
-                    return lost();
-                }
-                self.stay()
-            }
+            ops::Op::Read(_) => self.rise(target, 2),
+            ops::Op::Write(_) => self.stay(target),
             ops::Op::Begin => {
                 let place = self.place;
                 let height = self.height;
                 self.note(place, height)
             }
             ops::Op::Commit => self.note(0, 0),
-            ops::Op::Fork(size) => {
-                if left < 3 {
-                    return lost();
-                }
-                if left - 3 < size {
-                    return lost();
-                }
-                self.fork(starts, ends, size)
-            }
+            ops::Op::Fork(size) => self.fork(starts, ends, target, size),
             ops::Op::Foreign => lost(),
         }
     }

@@ -4,11 +4,11 @@ use mathlib.Core.Path.{_≡_, sym}
 use native.Mathlib.Omega.{arith}
 use borrow.Author.Needs.{needs}
 use borrow.Author.Tests.{lt-ltb, le-ltb}
-use lib.IntN.{ℤ, pos, _-ℤ_}
+use lib.IntN.{pos, _-ℤ_}
 use mir.Syntax.{w32, w64}
 use mir.Val.{SFits, toZ}
 use mir.Facts.{toZ-ofZ, toZ-pos, sfits-widen}
-use Rattle.word.specs.Sum.{InRange, signed}
+use Rattle.word.specs.Sum.{signed}
 use Rattle.word.proofs.Sums.{range→fits, signed-in-range}
 use Rattle.ops.proofs.with_sign.Statement.{statement}
 use Rattle.ops.proofs.with_sign.Tie as tie

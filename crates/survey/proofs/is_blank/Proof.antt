@@ -2,7 +2,7 @@
 use mathlib.Core.Path.{sym, _∙_}
 use borrow.Author.Tests.{not-true, not-false}
 use Rattle.survey.proofs.Yes.{is-false, alike, clash}
-use Rattle.survey.proofs.Records.{Zeros, zeros-of, all-zero}
+use Rattle.survey.proofs.Records.{zeros-of, all-zero}
 use borrow.Author.Needs.{needs}
 use Rattle.survey.proofs.is_blank.Statement.{statement}
 use Rattle.survey.proofs.is_blank.Tie as tie
@@ -31,23 +31,23 @@ returns-7 c = is-false _ (λ e. c .if7 .taken (zeros-of (c .before .before .befo
 returns-8 : tie.Need-returns-8
 returns-8 c = is-false _ (λ e. c .if8 .taken (zeros-of (c .before .before .before .before .before .before .before .before .before .before .before .before .before .before .before .before .args .t) e .writes))
 
-is-stack-free-requires : tie.Need-is-stack-free-requires
-is-stack-free-requires c κs = search needs
+is-zero-from-requires : tie.Need-is-zero-from-requires
+is-zero-from-requires c κs = search needs
 
 returns-9 : tie.Need-returns-9
-returns-9 c = is-false _ (λ e. clash (sym (c .before .is-stack-free .ensures) ∙ not-true _ (c .if9 .taken)) (zeros-of (c .before .before .before .before .before .before .before .before .before .before .before .before .before .before .before .before .before .before .before .before .args .t) e .cells))
+returns-9 c = is-false _ (λ e. clash (sym (c .before .is-zero-from .ensures) ∙ not-true _ (c .if9 .taken)) (zeros-of (c .before .before .before .before .before .before .before .before .before .before .before .before .before .before .before .before .before .before .before .before .args .t) e .cells))
 
-is-stack-free-requires-2 : tie.Need-is-stack-free-requires-2
-is-stack-free-requires-2 c κs = search needs
+is-zero-from-requires-2 : tie.Need-is-zero-from-requires-2
+is-zero-from-requires-2 c κs = search needs
 
 returns-10 : tie.Need-returns-10
-returns-10 c = is-false _ (λ e. clash (sym (c .before .is-stack-free2 .ensures) ∙ not-true _ (c .if10 .taken)) (zeros-of (c .before .before .before .before .before .before .before .before .before .before .before .before .before .before .before .before .before .before .before .before .before .before .before .before .args .t) e .readlog))
+returns-10 c = is-false _ (λ e. clash (sym (c .before .is-zero-from2 .ensures) ∙ not-true _ (c .if10 .taken)) (zeros-of (c .before .before .before .before .before .before .before .before .before .before .before .before .before .before .before .before .before .before .before .before .before .before .before .before .args .t) e .readlog))
 
-is-stack-free-requires-3 : tie.Need-is-stack-free-requires-3
-is-stack-free-requires-3 c κs = search needs
+is-zero-from-requires-3 : tie.Need-is-zero-from-requires-3
+is-zero-from-requires-3 c κs = search needs
 
 returns-11 : tie.Need-returns-11
-returns-11 c = alike _ _ (λ e. all-zero (c .before .before .before .before .before .before .before .before .before .before .before .before .before .before .before .before .before .before .before .before .before .before .before .before .before .before .before .args .t) (record { start = c .before .before .before .before .before .before .before .before .before .before .before .before .before .before .before .before .before .before .before .before .before .before .before .before .before .if1 .left; end = c .before .before .before .before .before .before .before .before .before .before .before .before .before .before .before .before .before .before .before .before .before .before .before .if2 .left; place = c .before .before .before .before .before .before .before .before .before .before .before .before .before .before .before .before .before .before .before .before .before .if3 .left; height = c .before .before .before .before .before .before .before .before .before .before .before .before .before .before .before .before .before .before .before .if4 .left; begin = c .before .before .before .before .before .before .before .before .before .before .before .before .before .before .before .before .before .if5 .left; base = c .before .before .before .before .before .before .before .before .before .before .before .before .before .before .before .if6 .left; reads = c .before .before .before .before .before .before .before .before .before .before .before .before .before .if7 .left; writes = c .before .before .before .before .before .before .before .before .before .before .before .if8 .left; cells = sym (c .before .before .before .before .before .before .before .before .is-stack-free .ensures) ∙ not-false _ (c .before .before .before .before .before .before .before .if9 .left); readlog = sym (c .before .before .before .before .is-stack-free2 .ensures) ∙ not-false _ (c .before .before .before .if10 .left); writelog = sym (c .is-stack-free3 .ensures) ∙ e })) (λ e. c .is-stack-free3 .ensures ∙ zeros-of (c .before .before .before .before .before .before .before .before .before .before .before .before .before .before .before .before .before .before .before .before .before .before .before .before .before .before .before .args .t) e .writelog)
+returns-11 c = alike _ _ (λ e. all-zero (c .before .before .before .before .before .before .before .before .before .before .before .before .before .before .before .before .before .before .before .before .before .before .before .before .before .before .before .args .t) (record { start = c .before .before .before .before .before .before .before .before .before .before .before .before .before .before .before .before .before .before .before .before .before .before .before .before .before .if1 .left; end = c .before .before .before .before .before .before .before .before .before .before .before .before .before .before .before .before .before .before .before .before .before .before .before .if2 .left; place = c .before .before .before .before .before .before .before .before .before .before .before .before .before .before .before .before .before .before .before .before .before .if3 .left; height = c .before .before .before .before .before .before .before .before .before .before .before .before .before .before .before .before .before .before .before .if4 .left; begin = c .before .before .before .before .before .before .before .before .before .before .before .before .before .before .before .before .before .if5 .left; base = c .before .before .before .before .before .before .before .before .before .before .before .before .before .before .before .if6 .left; reads = c .before .before .before .before .before .before .before .before .before .before .before .before .before .if7 .left; writes = c .before .before .before .before .before .before .before .before .before .before .before .if8 .left; cells = sym (c .before .before .before .before .before .before .before .before .is-zero-from .ensures) ∙ not-false _ (c .before .before .before .before .before .before .before .if9 .left); readlog = sym (c .before .before .before .before .is-zero-from2 .ensures) ∙ not-false _ (c .before .before .before .if10 .left); writelog = sym (c .is-zero-from3 .ensures) ∙ e })) (λ e. c .is-zero-from3 .ensures ∙ zeros-of (c .before .before .before .before .before .before .before .before .before .before .before .before .before .before .before .before .before .before .before .before .before .before .before .before .before .before .before .args .t) e .writelog)
 
 pub is-blank-spec : {M : Type 1} → statement M
 is-blank-spec =
@@ -61,9 +61,9 @@ is-blank-spec =
     returns-6
     returns-7
     returns-8
-    is-stack-free-requires
+    is-zero-from-requires
     returns-9
-    is-stack-free-requires-2
+    is-zero-from-requires-2
     returns-10
-    is-stack-free-requires-3
+    is-zero-from-requires-3
     returns-11)

@@ -2,7 +2,7 @@
 use mathlib.Core.Path.{sym, _∙_}
 use borrow.Author.Tests.{not-true, not-false}
 use Rattle.survey.proofs.Yes.{is-false, alike, clash}
-use Rattle.survey.proofs.Records.{Tidy, tidy-of, is-tidy}
+use Rattle.survey.proofs.Records.{tidy-of, is-tidy}
 use borrow.Author.Needs.{needs}
 use Rattle.survey.proofs.is_tidy.Statement.{statement}
 use Rattle.survey.proofs.is_tidy.Tie as tie
@@ -25,11 +25,11 @@ is-log-free-requires-2 c κs = search needs
 returns-3 : tie.Need-returns-3
 returns-3 c = is-false _ (λ e. clash (sym (c .before .is-log-free2 .ensures) ∙ not-true _ (c .if3 .taken)) (tidy-of (c .before .before .before .before .before .before .before .before .before .before .args .t) e .writelog))
 
-is-stack-free-requires : tie.Need-is-stack-free-requires
-is-stack-free-requires c κs = search needs
+is-zero-from-requires : tie.Need-is-zero-from-requires
+is-zero-from-requires c κs = search needs
 
 returns-4 : tie.Need-returns-4
-returns-4 c = alike _ _ (λ e. is-tidy (c .before .before .before .before .before .before .before .before .before .before .before .before .before .args .t) (record { shut = sym (c .before .before .before .before .before .before .before .before .before .before .before .before .is-shut .ensures) ∙ not-false _ (c .before .before .before .before .before .before .before .before .before .before .before .if1 .left); readlog = sym (c .before .before .before .before .before .before .before .before .is-log-free .ensures) ∙ not-false _ (c .before .before .before .before .before .before .before .if2 .left); writelog = sym (c .before .before .before .before .is-log-free2 .ensures) ∙ not-false _ (c .before .before .before .if3 .left); cells = sym (c .is-stack-free .ensures) ∙ e })) (λ e. c .is-stack-free .ensures ∙ tidy-of (c .before .before .before .before .before .before .before .before .before .before .before .before .before .args .t) e .cells)
+returns-4 c = alike _ _ (λ e. is-tidy (c .before .before .before .before .before .before .before .before .before .before .before .before .before .args .t) (record { shut = sym (c .before .before .before .before .before .before .before .before .before .before .before .before .is-shut .ensures) ∙ not-false _ (c .before .before .before .before .before .before .before .before .before .before .before .if1 .left); readlog = sym (c .before .before .before .before .before .before .before .before .is-log-free .ensures) ∙ not-false _ (c .before .before .before .before .before .before .before .if2 .left); writelog = sym (c .before .before .before .before .is-log-free2 .ensures) ∙ not-false _ (c .before .before .before .if3 .left); cells = sym (c .is-zero-from .ensures) ∙ e })) (λ e. c .is-zero-from .ensures ∙ tidy-of (c .before .before .before .before .before .before .before .before .before .before .before .before .before .args .t) e .cells)
 
 pub is-tidy-spec : {M : Type 1} → statement M
 is-tidy-spec =
@@ -41,5 +41,5 @@ is-tidy-spec =
     returns-2
     is-log-free-requires-2
     returns-3
-    is-stack-free-requires
+    is-zero-from-requires
     returns-4)

@@ -4,7 +4,7 @@ use borrow.Author.Tests.{not-true, not-false}
 use Rattle.survey.specs.declared.Verdict.{Verdict}
 use Rattle.survey.specs.InnerWalk.{allAsked}
 use Rattle.survey.proofs.Yes.{is-false, alike, clash}
-use Rattle.survey.proofs.Judging.{SurveyFits, survey-parts, survey-whole}
+use Rattle.survey.proofs.Judging.{survey-parts, survey-whole}
 use borrow.Author.Needs.{needs}
 use Rattle.survey.proofs.Survey.fits.Statement.{statement}
 use Rattle.survey.proofs.Survey.fits.Tie as tie

@@ -1,0 +1,214 @@
+-- The survey of any records says exactly what the test of machine/specs/FitTest says of them. Assumes nothing.
+use Prim.Native.Nat.{ℕ, suc, _+_, _<_}
+use mathlib.Core.Bool.{Bool, true, false, not, _&&_, _||_}
+use mathlib.Core.Path.{_≡_, refl, sym, ap, _∙_}
+use mathlib.Core.List.{List, [], _∷_, _++_}
+use mathlib.Core.Option.{Option, none, some}
+use native.Mathlib.Omega.{arith}
+use borrow.Author.Tests.{eqb-true, eq-eqb}
+use lib.Dec.{eqb}
+use lib.IntN.{ℤ}
+use lib.ListN.{length, drop, take}
+use lib.Seq.{take-suc}
+use Rattle.thread.specs.declared.Thread.{Thread}
+use Rattle.thread.specs.Threads.{blank, exists}
+use Rattle.machine.specs.Steps.{State, threadAt, Child, numberOf}
+use Rattle.machine.specs.Fits.{Walked, ownCode}
+use Rattle.machine.specs.FitTest.{walkTo, free, agreesWith, placed, allZero, noneBehind, inFront, same, passedBy, among, allAmong, oneEach, fits}
+use Rattle.survey.specs.declared.Survey.{Survey}
+use Rattle.survey.specs.declared.Row.{Row}
+use Rattle.survey.specs.InnerRecords.{emptySurvey, zeroFrom, tidy, withTo, surveyFrom, surveyOf}
+use Rattle.survey.specs.InnerWalk.{ownAt, firstVerdict, rowAt, judgeAll, allAsked, surveyFits}
+use Rattle.survey.proofs.Yes.{never, alike, first, second, both}
+use Rattle.survey.proofs.Records.{zeros-of, shut, tidy-of, is-tidy}
+use Rattle.survey.proofs.Judging.{survey-parts, survey-whole}
+use Rattle.survey.proofs.Shows.{tidyFront, at, Shows, survey-shows, survey-good}
+use Rattle.survey.proofs.Asking.{asked-among}
+use Rattle.survey.proofs.Judges.{agrees, agreeAll, AllJudged, all-judged, judged-all}
+use Rattle.word.specs.Registers.{member}
+use Rattle.word.specs.Registers as registers
+use Rattle.word.proofs.Sets.{member-none}
+
+-- ---- a thread's record: what needs no code, and what its walk says
+shut-by : (t : Thread) (n : ℕ) → t .begin ≡ n → (not (eqb n 0) || (eqb (t .reads) 0 && eqb (t .writes) 0)) ≡ shut t
+shut-by t n e = ap (λ (b : ℕ). not (eqb b 0) || (eqb (t .reads) 0 && eqb (t .writes) 0)) (sym e)
+
+module _ (bytes : List ℕ) (t : Thread) where
+  agreed : (o : Option Walked) → agreesWith t o ≡ true → (agrees t o ≡ true) × (shut t ≡ true)
+  unfolding registers.none
+  agreed none e = never (sym e)
+  agreed (some w) e =
+      let e1 = second (eqb (t .height) (w .height)) _ e in
+      let e2 = second (eqb (t .begin) (w .begin)) _ e1 in
+      let h : t .height ≡ w .height = eqb-true (t .height) (w .height) (first _ _ e) in
+      let b : t .begin ≡ w .begin = eqb-true (t .begin) (w .begin) (first _ _ e1) in
+      let c : t .base ≡ w .base = eqb-true (t .base) (w .base) (first _ _ e2) in (
+        both (eq-eqb (w .height) (t .height) (sym h)) (both (eq-eqb (w .begin) (t .begin) (sym b)) (eq-eqb (w .base) (t .base) (sym c))),
+        sym (shut-by t (w .begin) b) ∙ second (eqb (t .base) (w .base)) _ e2,
+      )
+
+  agreeing-back : (o : Option Walked) → agrees t o ≡ true → shut t ≡ true → agreesWith t o ≡ true
+  unfolding registers.none
+  agreeing-back none e s = never (sym e)
+  agreeing-back (some w) e s =
+      let e1 = second (eqb (w .height) (t .height)) _ e in
+      let h : t .height ≡ w .height = sym (eqb-true (w .height) (t .height) (first _ _ e)) in
+      let b : t .begin ≡ w .begin = sym (eqb-true (w .begin) (t .begin) (first _ _ e1)) in
+      let c : t .base ≡ w .base = sym (eqb-true (w .base) (t .base) (second (eqb (w .begin) (t .begin)) _ e1)) in
+      both (eq-eqb (t .height) (w .height) h) (both (eq-eqb (t .begin) (w .begin) b) (both (eq-eqb (t .base) (w .base) c) (shut-by t (w .begin) b ∙ s)))
+
+  placed-parts : placed bytes t ≡ true → (tidy t ≡ true) × (agrees t (walkTo bytes t) ≡ true)
+  unfolding placed zeroFrom
+  placed-parts e =
+      let a = agreed (walkTo bytes t) (first _ _ e) in
+      let e1 = second (agreesWith t (walkTo bytes t)) _ e in
+      let e2 = second (free (member (t .reads)) (t .readlog)) _ e1 in (
+        is-tidy t (record { shut = a .1; readlog = first _ _ e1; writelog = first _ _ e2; cells = second (free (member (t .writes)) (t .writelog)) _ e2 }),
+        a .0,
+      )
+
+  parts-placed : tidy t ≡ true → agrees t (walkTo bytes t) ≡ true → placed bytes t ≡ true
+  unfolding placed zeroFrom
+  parts-placed y a =
+      let z = tidy-of t y in
+      both (agreeing-back (walkTo bytes t) a (z .shut)) (both (z .readlog) (both (z .writelog) (z .cells)))
+
+-- ---- the records one after the other
+none-agree : (bytes : List ℕ) (ts : List Thread) → noneBehind ts ≡ true → agreeAll bytes ts ≡ true
+unfolding noneBehind agreeAll
+none-agree bytes [] e = refl
+none-agree bytes (t ∷ ts) e =
+    let x : not (exists t) ≡ true = ap (λ (b : Bool). not (not b)) (eq-eqb (t .start) 0 (zeros-of t (first (allZero t) _ e) .start)) in
+    both (ap (λ (b : Bool). b || agrees t (walkTo bytes t)) x) (none-agree bytes ts (second (allZero t) _ e))
+
+front-parts : (bytes : List ℕ) (ts : List Thread) → inFront bytes ts ≡ true → (tidyFront ts ≡ true) × (agreeAll bytes ts ≡ true)
+unfolding inFront tidyFront agreeAll
+front-parts bytes [] e = (refl, refl)
+front-parts bytes (t ∷ ts) e = go (exists t) refl e (λ f. front-parts bytes ts f)
+  where
+    go : (b : Bool) → exists t ≡ b → elim b [ true ↦ placed bytes t && inFront bytes ts | false ↦ noneBehind (t ∷ ts) ] ≡ true → (inFront bytes ts ≡ true → (tidyFront ts ≡ true) × (agreeAll bytes ts ≡ true)) → (elim b [ true ↦ tidy t && tidyFront ts | false ↦ noneBehind (t ∷ ts) ] ≡ true) × (((not b || agrees t (walkTo bytes t)) && agreeAll bytes ts) ≡ true)
+    go true x f ih =
+        let p = placed-parts bytes t (first (placed bytes t) _ f) in
+        let r = ih (second (placed bytes t) _ f) in
+        (both (p .0) (r .0), both (p .1) (r .1))
+    go false x f ih = (f, second (not (exists t) || agrees t (walkTo bytes t)) _ (none-agree bytes (t ∷ ts) f))
+
+parts-front : (bytes : List ℕ) (ts : List Thread) → tidyFront ts ≡ true → agreeAll bytes ts ≡ true → inFront bytes ts ≡ true
+unfolding inFront tidyFront agreeAll
+parts-front bytes [] e a = refl
+parts-front bytes (t ∷ ts) e a = go (exists t) e a (λ f g. parts-front bytes ts f g)
+  where
+    go : (b : Bool) → elim b [ true ↦ tidy t && tidyFront ts | false ↦ noneBehind (t ∷ ts) ] ≡ true → ((not b || agrees t (walkTo bytes t)) && agreeAll bytes ts) ≡ true → (tidyFront ts ≡ true → agreeAll bytes ts ≡ true → inFront bytes ts ≡ true) → elim b [ true ↦ placed bytes t && inFront bytes ts | false ↦ noneBehind (t ∷ ts) ] ≡ true
+    go true f a ih = both (parts-placed bytes t (first (tidy t) _ f) (first (agrees t (walkTo bytes t)) _ a)) (ih (second (tidy t) _ f) (second (agrees t (walkTo bytes t)) _ a))
+    go false f a ih = f
+
+-- ---- the whole test
+module _ (bytes : List ℕ) (ts : List Thread) (table : List ℤ) where
+  abbrev state : State
+  state = record { registers = table; threads = ts }
+
+  abbrev whole : Child
+  whole = record { start = 5; end = length bytes }
+
+  record FitParts : Type 0 where
+    records : length ts ≡ 16
+    registers : length table ≡ 64
+    root : same (ownCode (threadAt state 0)) whole ≡ true
+    front : inFront bytes ts ≡ true
+    children : allAmong (passedBy bytes ts) (drop 1 ts) ≡ true
+    one : oneEach (passedBy bytes ts) ts ≡ true
+
+  fit-parts : fits bytes state ≡ true → FitParts
+  unfolding fits
+  fit-parts e =
+      let e1 = second (eqb (length ts) 16) _ e in
+      let e2 = second (eqb (length table) 64) _ e1 in
+      let e3 = second (same (ownCode (threadAt state 0)) whole) _ e2 in
+      let e4 = second (inFront bytes ts) _ e3 in
+      record {
+        records = eqb-true (length ts) 16 (first _ _ e);
+        registers = eqb-true (length table) 64 (first _ _ e1);
+        root = first _ _ e2;
+        front = first _ _ e3;
+        children = first _ _ e4;
+        one = second (allAmong (passedBy bytes ts) (drop 1 ts)) _ e4;
+      }
+
+  parts-fit : FitParts → fits bytes state ≡ true
+  unfolding fits
+  parts-fit p =
+      both (eq-eqb (length ts) 16 (p .records))
+      (both (eq-eqb (length table) 64 (p .registers)) (both (p .root) (both (p .front) (both (p .children) (p .one)))))
+
+  abbrev s : Survey
+  s = surveyOf ts
+
+  module _ (sh : Shows ts s) (long : length ts ≡ 16) where
+    owns : (i : ℕ) → ownAt (s .starts) (s .ends) i ≡ ownCode (at ts i)
+    owns i = ap (λ (r : Row). record { start = r .start; end = r .end }) (sh .rows i)
+
+    judged : judgeAll bytes s .good ≡ true → AllJudged bytes ts long (s .starts) (s .ends) owns ts firstVerdict (judgeAll bytes s)
+    unfolding judgeAll
+    judged g = all-judged bytes ts long (s .starts) (s .ends) owns (rowAt s) (sh .rows) 16 0 firstVerdict refl g
+
+    members : judgeAll bytes s .good ≡ true → (j : ℕ) → j < 16 → member (judgeAll bytes s .asked) j ≡ among (ownAt (s .starts) (s .ends) j) (passedBy bytes ts)
+    unfolding firstVerdict registers.none
+    members g j h = judged g .all j h ∙ ap (λ (b : Bool). b || among (ownAt (s .starts) (s .ends) j) (passedBy bytes ts)) (member-none j)
+
+    asked-is : judgeAll bytes s .good ≡ true → allAsked 15 1 (s .starts) (judgeAll bytes s .asked) ≡ allAmong (passedBy bytes ts) (drop 1 ts)
+    asked-is g = asked-among ts long (s .starts) (s .ends) owns (passedBy bytes ts) (judgeAll bytes s .asked) (members g) 15 1 refl
+
+    root-is : same (ownAt (s .starts) (s .ends) 0) whole ≡ same (ownCode (threadAt state 0)) whole
+    root-is = ap (λ (c : Child). same c whole) (owns 0)
+
+  there : surveyFits s bytes (length table) ≡ true → fits bytes state ≡ true
+  there e =
+      let p = survey-parts s bytes (length table) e in
+      let sh = survey-shows ts (p .good) in
+      let long : length ts ≡ 16 = sym (sh .seen) ∙ p .seen in
+      let j = judged sh long (p .judged) in
+      parts-fit
+      (record {
+        records = long;
+        registers = p .table;
+        root = sym (root-is sh long) ∙ p .root;
+        front = parts-front bytes ts (sh .front) (j .agree);
+        children = sym (asked-is sh long (p .judged)) ∙ p .asked;
+        one = j .one;
+      })
+
+  back : fits bytes state ≡ true → surveyFits s bytes (length table) ≡ true
+  unfolding judgeAll firstVerdict
+  back e =
+      let p = fit-parts e in
+      let f = front-parts bytes ts (p .front) in
+      let long = p .records in
+      let sh = survey-shows ts (survey-good ts (omega arith) (f .0)) in
+      let g : judgeAll bytes s .good ≡ true = judged-all bytes ts long (s .starts) (s .ends) (owns sh long) (rowAt s) (sh .rows) 16 0 firstVerdict refl refl (f .1) (p .one) in
+      survey-whole s bytes (length table)
+      (record {
+        good = sh .good;
+        seen = sh .seen ∙ long;
+        table = p .registers;
+        root = root-is sh long ∙ p .root;
+        judged = g;
+        asked = asked-is sh long g ∙ p .children;
+      })
+
+-- the survey of any records, any code and any register table says what `fits` says
+pub survey-fits : (bytes : List ℕ) (s : State) → surveyFits (surveyOf (s .threads)) bytes (length (s .registers)) ≡ fits bytes s
+survey-fits bytes s = alike _ _ (there bytes (s .threads) (s .registers)) (back bytes (s .threads) (s .registers))
+
+-- a good survey has the number of threads
+pub survey-count : (ts : List Thread) → surveyOf ts .good ≡ true → surveyOf ts .count ≡ numberOf ts
+survey-count ts g = survey-shows ts g .count
+
+-- ---- the survey, record after record
+from-more : (s : Survey) (ts : List Thread) (t : Thread) → surveyFrom s (ts ++ t ∷ []) ≡ withTo (surveyFrom s ts) t
+unfolding surveyFrom
+from-more s [] t = refl
+from-more s (p ∷ ts) t = from-more (withTo s p) ts t
+
+pub survey-more : (ts : List Thread) (i : ℕ) → i < length ts → surveyOf (take (suc i) ts) ≡ withTo (surveyOf (take i ts)) (at ts i)
+unfolding surveyOf
+survey-more ts i h = ap surveyOf (take-suc ts i blank h) ∙ from-more emptySurvey (take i ts) (at ts i)

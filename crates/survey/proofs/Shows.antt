@@ -1,0 +1,297 @@
+-- What a survey shows of the records that came: it is good exactly if there are at most 16, threads first and tidy and then records of no
+-- thread, and it then holds the numbers of each. Assumes nothing.
+use Prim.Native.Nat.{ℕ, suc, _+_, _≤_, _<_}
+use mathlib.Core.Bool.{Bool, true, false, cond, not, _&&_}
+use mathlib.Core.Path.{_≡_, refl, sym, ap, subst, _∙_}
+use mathlib.Core.List.{List, [], _∷_, _++_, append-assoc, append-nil}
+use native.Mathlib.Decide.{decLt, ℕ-discrete}
+use native.Mathlib.Omega.{arith}
+use borrow.Author.Tests.{eqb-false, eq-eqb, ne-eqb, not-true}
+use lib.Dec.{eqb}
+use lib.ListN.{length, getD, set, replicate, getD-replicate, length-append, length-set, List·getD-append, List·getD-eq-default}
+use lib.Seq.{getD-append-seam, getD-set-same, getD-set-other}
+use Rattle.thread.specs.declared.Thread.{Thread}
+use Rattle.thread.specs.Threads.{blank, exists}
+use Rattle.machine.specs.Steps.{numberOf}
+use Rattle.machine.specs.FitTest.{allZero, noneBehind}
+use Rattle.survey.specs.declared.Survey.{Survey}
+use Rattle.survey.specs.declared.Row.{Row}
+use Rattle.survey.specs.InnerRecords.{emptySurvey, unfitTo, passTo, putTo, tidy, withTo, surveyFrom, surveyOf}
+use Rattle.survey.specs.InnerWalk.{rowAt}
+use Rattle.survey.proofs.Yes.{never, first, second, both, clash}
+use Rattle.survey.proofs.Records.{Zeros, zeros-of, with-bad, with-many, with-blank, with-marred, with-gap, with-untidy, with-put}
+
+-- ---- threads first, each tidy; then records of no thread only
+unfoldable pub tidyFront : List Thread → Bool
+tidyFront [] = true
+tidyFront (t ∷ ts) = elim (exists t) [ true ↦ tidy t && tidyFront ts | false ↦ noneBehind (t ∷ ts) ]
+
+abbrev pub at : List Thread → ℕ → Thread
+at ts i = getD ts i blank
+
+abbrev pub rowOf : Thread → Row
+rowOf t = record { start = t .start; end = t .end; place = t .place; height = t .height; begin = t .begin; base = t .base }
+
+abbrev last : Thread → List Thread
+last t = t ∷ []
+
+-- one more record behind records of no thread, and behind threads
+none-more : (ts : List Thread) (t : Thread) → noneBehind ts ≡ true → allZero t ≡ true → noneBehind (ts ++ last t) ≡ true
+unfolding noneBehind
+none-more [] t e z = both z refl
+none-more (p ∷ ts) t e z = both (first (allZero p) _ e) (none-more ts t (second (allZero p) _ e) z)
+
+tidy-none : (ts : List Thread) (t : Thread) → tidyFront ts ≡ true → exists t ≡ false → allZero t ≡ true → tidyFront (ts ++ last t) ≡ true
+unfolding tidyFront noneBehind
+tidy-none [] t e x z = rw (x, tidyFront) (both z refl)
+tidy-none (p ∷ ts) t e x z = go (exists p) refl e (λ f. tidy-none ts t f x z)
+  where
+    go : (b : Bool) → exists p ≡ b → elim b [ true ↦ tidy p && tidyFront ts | false ↦ noneBehind (p ∷ ts) ] ≡ true → (tidyFront ts ≡ true → tidyFront (ts ++ last t) ≡ true) → elim b [ true ↦ tidy p && tidyFront (ts ++ last t) | false ↦ noneBehind (p ∷ (ts ++ last t)) ] ≡ true
+    go true y f ih = both (first (tidy p) _ f) (ih (second (tidy p) _ f))
+    go false y f ih = none-more (p ∷ ts) t f z
+
+tidy-more : (ts : List Thread) (t : Thread) → tidyFront ts ≡ true → numberOf ts ≡ length ts → exists t ≡ true → tidy t ≡ true → tidyFront (ts ++ last t) ≡ true
+unfolding tidyFront numberOf
+tidy-more [] t e n x y = rw (x, tidyFront) (both y refl)
+tidy-more (p ∷ ts) t e n x y = go (exists p) refl e n (λ f m. tidy-more ts t f m x y)
+  where
+    go : (b : Bool) → exists p ≡ b → elim b [ true ↦ tidy p && tidyFront ts | false ↦ noneBehind (p ∷ ts) ] ≡ true → cond b (suc (numberOf ts)) 0 ≡ suc (length ts) → (tidyFront ts ≡ true → numberOf ts ≡ length ts → tidyFront (ts ++ last t) ≡ true) → elim b [ true ↦ tidy p && tidyFront (ts ++ last t) | false ↦ noneBehind (p ∷ (ts ++ last t)) ] ≡ true
+    go true y f m ih = both (first (tidy p) _ f) (ih (second (tidy p) _ f) (omega arith))
+    go false y f m ih = absurd (omega arith)
+
+number-none : (ts : List Thread) (t : Thread) → exists t ≡ false → numberOf (ts ++ last t) ≡ numberOf ts
+unfolding numberOf
+number-none [] t x = rw x
+number-none (p ∷ ts) t x = ap (λ (n : ℕ). cond (exists p) (suc n) 0) (number-none ts t x)
+
+number-more : (ts : List Thread) (t : Thread) → numberOf ts ≡ length ts → exists t ≡ true → numberOf (ts ++ last t) ≡ suc (length ts)
+unfolding numberOf
+number-more [] t n x = rw x
+number-more (p ∷ ts) t n x = go (exists p) n (λ m. number-more ts t m x)
+  where
+    go : (b : Bool) → cond b (suc (numberOf ts)) 0 ≡ suc (length ts) → (numberOf ts ≡ length ts → numberOf (ts ++ last t) ≡ suc (length ts)) → cond b (suc (numberOf (ts ++ last t))) 0 ≡ suc (suc (length ts))
+    go true m ih = ap suc (ih (omega arith))
+    go false m ih = absurd (omega arith)
+
+-- the records, with one more
+at-last : (ts : List Thread) (t : Thread) → at (ts ++ last t) (length ts) ≡ t
+at-last ts t = getD-append-seam ts t [] blank
+
+at-other : (ts : List Thread) (t : Thread) (i : ℕ) → (i ≡ length ts → ⊥) → at (ts ++ last t) i ≡ at ts i
+at-other ts t i n = go (decLt i (length ts))
+  where
+    go : Dec (i < length ts) → at (ts ++ last t) i ≡ at ts i
+    go (yes l) = List·getD-append ts (last t) blank i l
+    go (no l) =
+        List·getD-eq-default (ts ++ last t) blank {n = i} (omega (arith, length-append ts (last t)))
+        ∙ sym (List·getD-eq-default ts blank {n = i} (omega arith))
+
+-- ---- what a good survey shows
+pub record Long (s : Survey) : Type 0 where
+  starts : length (s .starts) ≡ 16
+  ends : length (s .ends) ≡ 16
+  places : length (s .places) ≡ 16
+  heights : length (s .heights) ≡ 16
+  begins : length (s .begins) ≡ 16
+  bases : length (s .bases) ≡ 16
+
+pub record Shows (ts : List Thread) (s : Survey) : Type 0 where
+  pub good : s .good ≡ true
+  pub seen : s .seen ≡ length ts
+  pub few : length ts ≤ 16
+  pub count : s .count ≡ numberOf ts
+  pub front : tidyFront ts ≡ true
+  pub rows : (i : ℕ) → rowAt s i ≡ rowOf (at ts i)
+  pub long : Long s
+
+stored : (xs : List ℕ) (k v i : ℕ) → length xs ≡ 16 → k < 16 → i ≡ k → getD (set xs k v) i 0 ≡ v
+stored xs k v i n h e = rw e (getD-set-same xs k v 0 (omega arith))
+
+set-long : (xs : List ℕ) (k v : ℕ) → length xs ≡ 16 → length (set xs k v) ≡ 16
+set-long xs k v n = length-set xs k v ∙ n
+
+-- one record more
+module _ (ts : List Thread) (s : Survey) (sh : Shows ts s) (t : Thread) where
+  more : length (ts ++ last t) ≡ length ts + 1
+  more = length-append ts (last t)
+
+  module _ (h : s .seen < 16) where
+    room : length ts < 16
+    room = omega (arith, sh .seen)
+
+    abbrev put : Survey
+    put = putTo s t
+
+    put-rows : (i : ℕ) → rowAt put i ≡ rowOf (at (ts ++ last t) i)
+    unfolding putTo
+    put-rows i = go (ℕ-discrete i (s .seen))
+      where
+        go : Dec (i ≡ s .seen) → rowAt put i ≡ rowOf (at (ts ++ last t) i)
+        go (yes e) =
+            let l : Long s = sh .long in
+            let f : t ≡ at (ts ++ last t) i = sym (ap (at (ts ++ last t)) (e ∙ sh .seen) ∙ at-last ts t) in
+            (λ j. record {
+              start = stored (s .starts) (s .seen) (t .start) i (l .starts) h e j;
+              end = stored (s .ends) (s .seen) (t .end) i (l .ends) h e j;
+              place = stored (s .places) (s .seen) (t .place) i (l .places) h e j;
+              height = stored (s .heights) (s .seen) (t .height) i (l .heights) h e j;
+              begin = stored (s .begins) (s .seen) (t .begin) i (l .begins) h e j;
+              base = stored (s .bases) (s .seen) (t .base) i (l .bases) h e j;
+            })
+            ∙ ap rowOf f
+        go (no n) =
+            let f : at ts i ≡ at (ts ++ last t) i = sym (at-other ts t i (λ x. n (x ∙ sym (sh .seen)))) in
+            (λ j. record {
+              start = getD-set-other (s .starts) (s .seen) i (t .start) 0 n j;
+              end = getD-set-other (s .ends) (s .seen) i (t .end) 0 n j;
+              place = getD-set-other (s .places) (s .seen) i (t .place) 0 n j;
+              height = getD-set-other (s .heights) (s .seen) i (t .height) 0 n j;
+              begin = getD-set-other (s .begins) (s .seen) i (t .begin) 0 n j;
+              base = getD-set-other (s .bases) (s .seen) i (t .base) 0 n j;
+            })
+            ∙ (sh .rows i ∙ ap rowOf f)
+
+    put-shows : exists t ≡ true → s .count ≡ s .seen → tidy t ≡ true → Shows (ts ++ last t) put
+    unfolding putTo
+    put-shows x c y =
+        let l : Long s = sh .long in
+        let all : numberOf ts ≡ length ts = sym (sh .count) ∙ (c ∙ sh .seen) in
+        record {
+          good = sh .good;
+          seen = omega (arith, sh .seen, more);
+          few = omega (arith, more, room);
+          count = omega (arith, sh .count, all, number-more ts t all x);
+          front = tidy-more ts t (sh .front) all x y;
+          rows = put-rows;
+          long = record {
+            starts = set-long (s .starts) (s .seen) (t .start) (l .starts);
+            ends = set-long (s .ends) (s .seen) (t .end) (l .ends);
+            places = set-long (s .places) (s .seen) (t .place) (l .places);
+            heights = set-long (s .heights) (s .seen) (t .height) (l .heights);
+            begins = set-long (s .begins) (s .seen) (t .begin) (l .begins);
+            bases = set-long (s .bases) (s .seen) (t .base) (l .bases);
+          };
+        }
+
+    pass-rows : Zeros t → (i : ℕ) → rowAt s i ≡ rowOf (at (ts ++ last t) i)
+    unfolding blank
+    pass-rows z i = go (ℕ-discrete i (length ts))
+      where
+        go : Dec (i ≡ length ts) → rowAt s i ≡ rowOf (at (ts ++ last t) i)
+        go (yes e) =
+            let f : at ts i ≡ blank = List·getD-eq-default ts blank {n = i} (omega arith) in
+            let g : t ≡ at (ts ++ last t) i = sym (ap (at (ts ++ last t)) e ∙ at-last ts t) in
+            let k : rowOf blank ≡ rowOf t = λ j. record { start = sym (z .start) j; end = sym (z .end) j; place = sym (z .place) j; height = sym (z .height) j; begin = sym (z .begin) j; base = sym (z .base) j } in
+            sh .rows i ∙ (ap rowOf f ∙ (k ∙ ap rowOf g))
+        go (no n) = sh .rows i ∙ ap rowOf (sym (at-other ts t i n))
+
+    pass-shows : exists t ≡ false → allZero t ≡ true → Shows (ts ++ last t) (passTo s)
+    unfolding passTo
+    pass-shows x z =
+        let l : Long s = sh .long in
+        record {
+          good = sh .good;
+          seen = omega (arith, sh .seen, more);
+          few = omega (arith, more, room);
+          count = sh .count ∙ sym (number-none ts t x);
+          front = tidy-none ts t (sh .front) x z;
+          rows = pass-rows (zeros-of t z);
+          long = record { starts = l .starts; ends = l .ends; places = l .places; heights = l .heights; begins = l .begins; bases = l .bases };
+        }
+
+  unfit-bad : {A : Type 0} → unfitTo s ≡ withTo s t → withTo s t .good ≡ true → A
+  unfolding unfitTo
+  unfit-bad e g = never (sym g ∙ sym (ap (λ (r : Survey). r .good) e))
+
+  with-shows : withTo s t .good ≡ true → Shows (ts ++ last t) (withTo s t)
+  with-shows g = few (decLt (s .seen) 16)
+    where
+      blanks : s .seen < 16 → t .start ≡ 0 → (b : Bool) → allZero t ≡ b → Shows (ts ++ last t) (withTo s t)
+      blanks h e true z = subst (Shows (ts ++ last t)) (with-blank s t (sh .good) h e z) (pass-shows h (ap not (eq-eqb (t .start) 0 e)) z)
+      blanks h e false z = unfit-bad (with-marred s t (sh .good) h e z) g
+
+      tidies : s .seen < 16 → (t .start ≡ 0 → ⊥) → s .count ≡ s .seen → (b : Bool) → tidy t ≡ b → Shows (ts ++ last t) (withTo s t)
+      tidies h n c true y = subst (Shows (ts ++ last t)) (with-put s t (sh .good) h n c y) (put-shows h (ap not (ne-eqb (t .start) 0 n)) c y)
+      tidies h n c false y = unfit-bad (with-untidy s t (sh .good) h n c y) g
+
+      gaps : s .seen < 16 → (t .start ≡ 0 → ⊥) → Dec (s .count ≡ s .seen) → Shows (ts ++ last t) (withTo s t)
+      gaps h n (yes c) = tidies h n c (tidy t) refl
+      gaps h n (no c) = unfit-bad (with-gap s t (sh .good) h n c) g
+
+      kinds : s .seen < 16 → Dec (t .start ≡ 0) → Shows (ts ++ last t) (withTo s t)
+      kinds h (yes e) = blanks h e (allZero t) refl
+      kinds h (no n) = gaps h n (ℕ-discrete (s .count) (s .seen))
+
+      few : Dec (s .seen < 16) → Shows (ts ++ last t) (withTo s t)
+      few (yes h) = kinds h (ℕ-discrete (t .start) 0)
+      few (no h) = unfit-bad (with-many s t (sh .good) (omega arith)) g
+
+-- a survey that is not good stays so
+stays : (ts : List Thread) (s : Survey) → s .good ≡ false → surveyFrom s ts .good ≡ false
+unfolding surveyFrom
+stays [] s g = g
+stays (t ∷ ts) s g = stays ts (withTo s t) (ap (λ (r : Survey). r .good) (sym (with-bad s t g)) ∙ g)
+
+-- all the records
+from-shows : (ps ts : List Thread) (s : Survey) → Shows ps s → surveyFrom s ts .good ≡ true → Shows (ps ++ ts) (surveyFrom s ts)
+unfolding surveyFrom
+from-shows ps [] s sh g = subst (λ (l : List Thread). Shows l s) (sym (append-nil ps)) sh
+from-shows ps (t ∷ ts) s sh g =
+    subst (λ (l : List Thread). Shows l (surveyFrom (withTo s t) ts)) (append-assoc ps (last t) ts)
+    (from-shows (ps ++ last t) ts (withTo s t) (go (withTo s t .good) refl) g)
+  where
+    go : (b : Bool) → withTo s t .good ≡ b → Shows (ps ++ last t) (withTo s t)
+    go true e = with-shows ps s sh t e
+    go false e = absurd (clash (stays ts (withTo s t) e) g)
+
+empty-shows : Shows [] emptySurvey
+unfolding emptySurvey tidyFront numberOf blank
+empty-shows =
+    record {
+      good = refl;
+      seen = refl;
+      few = omega arith;
+      count = refl;
+      front = refl;
+      rows = rows;
+      long = record { starts = refl; ends = refl; places = refl; heights = refl; begins = refl; bases = refl };
+    }
+  where
+    none : (i : ℕ) → _≡_ {A = ℕ} (getD (replicate 16 0) i 0) 0
+    none i = go (decLt i 16)
+      where
+        go : Dec (i < 16) → _≡_ {A = ℕ} (getD (replicate 16 0) i 0) 0
+        go (yes l) = getD-replicate 16 i 0 0 l
+        go (no l) = List·getD-eq-default (replicate 16 0) 0 {n = i} (let n : length {A = ℕ} (replicate 16 0) ≡ 16 = refl in omega arith)
+
+    rows : (i : ℕ) → rowAt emptySurvey i ≡ rowOf (at [] i)
+    rows i j = record { start = none i j; end = none i j; place = none i j; height = none i j; begin = none i j; base = none i j }
+
+pub survey-shows : (ts : List Thread) → surveyOf ts .good ≡ true → Shows ts (surveyOf ts)
+unfolding surveyOf
+survey-shows ts g = from-shows [] ts emptySurvey empty-shows g
+
+-- ---- and it is good if the records are so
+blank-good : (ts : List Thread) (s : Survey) → s .good ≡ true → s .seen + length ts ≤ 16 → noneBehind ts ≡ true → surveyFrom s ts .good ≡ true
+unfolding surveyFrom noneBehind passTo
+blank-good [] s g l e = g
+blank-good (t ∷ ts) s g l e =
+    let z : allZero t ≡ true = first (allZero t) _ e in
+    let w = with-blank s t g (omega arith) (zeros-of t z .start) z in
+    subst (λ (r : Survey). surveyFrom r ts .good ≡ true) w (blank-good ts (passTo s) g (omega arith) (second (allZero t) _ e))
+
+tidy-good : (ts : List Thread) (s : Survey) → s .good ≡ true → s .count ≡ s .seen → s .seen + length ts ≤ 16 → tidyFront ts ≡ true → surveyFrom s ts .good ≡ true
+unfolding surveyFrom tidyFront putTo
+tidy-good [] s g c l e = g
+tidy-good (t ∷ ts) s g c l e = go (exists t) refl e (λ f. tidy-good ts (putTo s t) g (omega arith) (omega arith) f)
+  where
+    go : (b : Bool) → exists t ≡ b → elim b [ true ↦ tidy t && tidyFront ts | false ↦ noneBehind (t ∷ ts) ] ≡ true → (tidyFront ts ≡ true → surveyFrom (putTo s t) ts .good ≡ true) → surveyFrom (withTo s t) ts .good ≡ true
+    go true x f ih =
+        let n : t .start ≡ 0 → ⊥ = eqb-false (t .start) 0 (not-true (eqb (t .start) 0) x) in
+        let w = with-put s t g (omega arith) n c (first (tidy t) _ f) in
+        subst (λ (r : Survey). surveyFrom r ts .good ≡ true) w (ih (second (tidy t) _ f))
+    go false x f ih = blank-good (t ∷ ts) s g l f
+
+pub survey-good : (ts : List Thread) → length ts ≤ 16 → tidyFront ts ≡ true → surveyOf ts .good ≡ true
+unfolding surveyOf emptySurvey
+survey-good ts l e = tidy-good ts emptySurvey refl refl (omega arith) e
