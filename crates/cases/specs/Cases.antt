@@ -1,4 +1,4 @@
--- The joint table of worked cases: each row is an equation between what a definition computes and what document 01 says. The rows of the
+-- The joint table of worked cases: each row says what a definition computes and what document 01 says of it. The rows of the
 -- cases that it marks M come first.
 use Prim.Native.Nat.{ℕ}
 use mathlib.Core.Bool.{true, false}

@@ -13,7 +13,8 @@ use lib.Seq.{getD-set-same, getD-set-other, length-take-le}
 use Rattle.thread.specs.declared.Thread.{Thread}
 use Rattle.thread.specs.Threads.{zeros, spawned, push, add, begin, below, sourceOf, readFrom, noted, read, write, closed}
 use Rattle.stm.specs.Events.{Source, fromWrites, fromReads, fromTable}
-use Rattle.machine.specs.Fits.{Walked, unmoved, undone, walkOp, nextPlace, Walks, starts, passes, Placed, TypedThread}
+use Rattle.machine.specs.Fits.{Walked, unmoved, walkOp, nextPlace, Walks, starts, passes, Placed, TypedThread}
+use Rattle.machine.specs.InnerStands.{undone}
 use Rattle.code.specs.Ops.{Op, opAt}
 use Rattle.code.specs.Ops as code
 use Rattle.script.specs.Outcome.{done}

@@ -17,8 +17,8 @@ use Rattle.script.specs.Jobs.{Job}
 use Rattle.thread.specs.declared.Thread.{Thread}
 use Rattle.thread.specs.Threads.{blank, spawned, push, add, begin, below, sourceOf, readFrom, noted, read, write, closed, firstStale, overlaid, exists}
 use Rattle.machine.specs.Steps.{State, Stepped, numberOf, threadAt, instruction, pick, fresh, run, act, settle, committing, commit, seated, Acted, Child}
-use Rattle.machine.specs.Fits.{Walked, Exists, Fits, Typed, RangedThread, Ranged, InRangeRule}
-use Rattle.machine.specs.InnerStands.{opOf, Ready}
+use Rattle.machine.specs.Fits.{Walked, Exists, Fits, Typed, RangedThread, Ranged}
+use Rattle.machine.specs.InnerStands.{opOf, Ready, InRangeRule}
 use Rattle.machine.specs.Stands.{Stands, ValuedI, ValuedC}
 use Rattle.machine.proofs.Numbers.{in-table}
 use Rattle.machine.proofs.Codes.{stands-end, stands-inside, ready-op}

@@ -7,9 +7,9 @@ use lib.ListN.{drop}
 use Rattle.code.specs.Compile.{Instruction, Code, PUSH, ADD, READ, WRITE, BEGIN, COMMIT, FORK, ε, _⨾_}
 use Rattle.code.specs.Ops.{Op, opAt}
 use Rattle.script.specs.Outcome.{Outcome, done}
-use Rattle.machine.specs.Fits.{Walked, notes, shut, undone, walkOp, nextPlace, Walks, starts, passes}
+use Rattle.machine.specs.Fits.{Walked, notes, shut, walkOp, nextPlace, Walks, starts, passes}
 use Rattle.machine.proofs.Walking.{not-before}
-use Rattle.machine.specs.InnerStands.{opOf, Ready}
+use Rattle.machine.specs.InnerStands.{opOf, Ready, undone}
 use Rattle.machine.proofs.Codes.{stands-end, ready-op, ready-next}
 use Rattle.stm.specs.InnerMeaning.{taking1, taking2, TakesOutside, TakesInside, Outside, Inside, behind}
 

@@ -18,9 +18,9 @@ use Rattle.thread.specs.declared.Thread.{Thread}
 use Rattle.thread.specs.Threads.{zeros, spawned, push, add, begin, below, sourceOf, readFrom, noted, read, write, closed, firstStale, overlaid, logOf, readLog, writeLog}
 use Rattle.stm.specs.Events.{Source, fromWrites, fromReads, fromTable, summed, looked, sentBack, committed}
 use Rattle.machine.specs.Steps.{State, Stepped, numberOf, committing, commit, instruction, Child, act, settle}
-use Rattle.machine.specs.Fits.{undone, walkOp, nextPlace, Walks, Placed, TypedThread}
+use Rattle.machine.specs.Fits.{walkOp, nextPlace, Walks, Placed, TypedThread}
 use Rattle.machine.proofs.Walking.{not-before}
-use Rattle.machine.specs.InnerStands.{registerCells, tableOf, opOf, Ready}
+use Rattle.machine.specs.InnerStands.{registerCells, tableOf, opOf, Ready, undone}
 use Rattle.machine.specs.Stands.{stackFrom}
 use Rattle.machine.proofs.Codes.{stands-inside, ready-op, ready-next, ready-child, ready-takes}
 use Rattle.machine.proofs.Shapes.{taking-two, taking-less, Shape, out, open′ as shape-open, shape}

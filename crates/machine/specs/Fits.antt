@@ -12,7 +12,7 @@ use Rattle.code.specs.Ops.{Op, opAt}
 use Rattle.code.specs.Ops as code
 use Rattle.script.specs.Outcome.{done}
 use Rattle.word.specs.Registers.{none, member}
-use Rattle.word.specs.Sum.{InRange, Rule}
+use Rattle.word.specs.Sum.{InRange}
 
 -- What the instructions before a place leave there: the stack height; the place and stack height of the BEGIN of an open transaction, 0
 -- if none is open; and the child codes of the FORKs passed, the last one first.
@@ -38,10 +38,6 @@ forking child w = record { height = w .height; begin = w .begin; base = w .base;
 -- no transaction is open
 abbrev pub shut : Walked → Walked
 shut w = notes 0 0 w
-
--- what was left before the BEGIN of the open transaction: no FORK stands inside one
-abbrev pub undone : Walked → Walked
-undone w = risen (w .base) (shut w)
 
 -- the instruction at a place
 unfoldable pub walkOp : Op → (place : ℕ) → Walked → Walked
@@ -166,7 +162,3 @@ pub record RangedThread (t : Thread) : Type 0 where
 pub record Ranged (s : State) : Type 0 where
   pub registers : (v : ℕ) → InRange (getD (s .registers) v (pos 0))
   pub threads : (i : ℕ) → RangedThread (threadAt s i)
-
--- a rule for sums that stays in range
-abbrev pub InRangeRule : Rule → Type 0
-InRangeRule sum = (a b : ℤ) → InRange a → InRange b → InRange (sum a b)

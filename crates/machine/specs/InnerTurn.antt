@@ -30,13 +30,13 @@ unfoldable pub handedAs : Acted → Handed
 handedAs a =
     record {
       acted =
-        record {
-          thread = a .thread;
-          event = eventNumber (a .event);
-          register = eventRegister (a .event);
-          turn = turnNumber (a .event);
-          start = childOf (a .children) .start;
-          end = childOf (a .children) .end;
-        };
+          record {
+            thread = a .thread;
+            event = eventNumber (a .event);
+            register = eventRegister (a .event);
+            turn = turnNumber (a .event);
+            start = childOf (a .children) .start;
+            end = childOf (a .children) .end;
+          };
       table = a .table;
     }
