@@ -1,0 +1,3 @@
+-- Why the functions do what their mirrors say.
+pub mod Refusals
+pub mod Performs
