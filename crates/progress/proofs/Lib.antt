@@ -1,3 +1,4 @@
 -- Why the functions do what their mirrors say.
 pub mod Refusals
 pub mod Performs
+pub mod Turns

@@ -1,18 +1,22 @@
 -- For the proofs of functions over records only: one pick by value, and with what a call begins and ends. Nobody has to believe it:
 -- `perform-turns` and `admits` (proofs) tie it to `turned` and to `stepOf`, `runOf`.
-use Prim.Native.Nat.{ℕ, _+_}
+use Prim.Native.Nat.{ℕ, _+_, _<_}
 use mathlib.Core.Bool.{Bool, cond, not}
 use mathlib.Core.List.{List}
 use lib.Dec.{eqb, ltb}
 use lib.IntN.{ℤ}
+use lib.ListN.{set}
 use Rattle.progress.specs.declared.Picked.{Picked}
 use Rattle.progress.specs.declared.Progress.{Progress}
+use Rattle.machine.specs.InnerTally as tally
+use Rattle.machine.specs.Steps.{State}
 use Rattle.machine.specs.declared.RunReply.{RunReply}
 use Rattle.machine.specs.declared.StepReply.{StepReply}
 use Rattle.script.specs.Outcome.{Outcome, refused, done}
 use Rattle.script.specs.Jobs.{Job}
 use Rattle.thread.specs.declared.Thread.{Thread}
 use Rattle.thread.specs.InnerStep.{Handed, handed, unacted, stepped}
+use Rattle.thread.specs.Threads.{spawned}
 use Rattle.word.specs.Sum.{wrapping}
 
 -- one more if so; the greatest number stays
@@ -99,3 +103,31 @@ stepReplyOf p = record { refusal = p .refusal; place = 0; event = p .event; regi
 abbrev pub runReplyOf : Progress → RunReply
 runReplyOf p =
     record { refusal = p .refusal; place = 0; steps = p .steps; idle = p .idle; commits = p .commits; back = p .back }
+
+-- what a run that is told forward carries of it
+abbrev pub shown : Progress → tally.Progress
+shown p =
+    record {
+      threads = p .threads;
+      counts = record { steps = p .steps; idle = p .idle; commits = p .commits; back = p .back };
+    }
+
+-- no number is the greatest
+pub record Low (p : Progress) : Type 0 where
+  pub threads : p .threads < 18446744073709551615
+  pub steps : p .steps < 18446744073709551615
+  pub idle : p .idle < 18446744073709551615
+  pub commits : p .commits < 18446744073709551615
+  pub back : p .back < 18446744073709551615
+
+-- a pick's record put back, and a forked child at its seat
+abbrev pub settledBy : State → (who : ℕ) → Given → tally.Tallied
+settledBy s who g =
+    record {
+      state =
+          record {
+            registers = g .table;
+            threads = set (set (s .threads) who (g .picked .thread)) (g .picked .seat) (spawned (g .picked .start) (g .picked .end));
+          };
+      progress = shown (g .picked .progress);
+    }
