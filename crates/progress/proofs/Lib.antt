@@ -2,3 +2,4 @@
 pub mod Refusals
 pub mod Performs
 pub mod Turns
+pub mod Drives

@@ -1,15 +1,15 @@
 -- For the proofs of functions over records only: one pick by value, and with what a call begins and ends. Nobody has to believe it:
 -- `perform-turns` and `admits` (proofs) tie it to `turned` and to `stepOf`, `runOf`.
-use Prim.Native.Nat.{ℕ, _+_, _<_}
+use Prim.Native.Nat.{ℕ, zero, suc, _+_, _<_}
 use mathlib.Core.Bool.{Bool, cond, not}
-use mathlib.Core.List.{List}
+use mathlib.Core.List.{List, [], _∷_}
 use lib.Dec.{eqb, ltb}
 use lib.IntN.{ℤ}
 use lib.ListN.{set}
 use Rattle.progress.specs.declared.Picked.{Picked}
 use Rattle.progress.specs.declared.Progress.{Progress}
 use Rattle.machine.specs.InnerTally as tally
-use Rattle.machine.specs.Steps.{State}
+use Rattle.machine.specs.Steps.{State, threadAt}
 use Rattle.machine.specs.declared.RunReply.{RunReply}
 use Rattle.machine.specs.declared.StepReply.{StepReply}
 use Rattle.script.specs.Outcome.{Outcome, refused, done}
@@ -131,3 +131,26 @@ settledBy s who g =
           };
       progress = shown (g .picked .progress);
     }
+
+-- ---- picks, one after the other
+pub record Driven : Type 0 where
+  pub state : State
+  pub progress : Progress
+
+abbrev pub drivenBy : State → (who : ℕ) → Given → Driven
+drivenBy s who g = record { state = settledBy s who g .state; progress = g .picked .progress }
+
+unfoldable pub driven : (code : List ℕ) (left : ℕ) (picks : List ℕ) → Driven → Driven
+driven bytes zero is d = d
+driven bytes (suc left) [] d = d
+driven bytes (suc left) (i ∷ is) d =
+    driven bytes left is
+    (drivenBy (d .state) (whichOf i) (pickedBy bytes (d .state .registers) i (threadAt (d .state) (whichOf i)) (d .progress)))
+
+-- so many picks more keep each number low
+pub record Room (n : ℕ) (p : Progress) : Type 0 where
+  pub threads : p .threads + n < 18446744073709551615
+  pub steps : p .steps + n < 18446744073709551615
+  pub idle : p .idle + n < 18446744073709551615
+  pub commits : p .commits + n < 18446744073709551615
+  pub back : p .back + n < 18446744073709551615
