@@ -3,3 +3,4 @@ pub mod Refusals
 pub mod Performs
 pub mod Turns
 pub mod Drives
+pub mod Calls

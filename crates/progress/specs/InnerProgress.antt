@@ -5,15 +5,19 @@ use mathlib.Core.Bool.{Bool, cond, not}
 use mathlib.Core.List.{List, [], _∷_}
 use lib.Dec.{eqb, ltb}
 use lib.IntN.{ℤ}
-use lib.ListN.{set}
+use lib.ListN.{length, set}
+use Rattle.code.specs.Reader.{readCode}
 use Rattle.progress.specs.declared.Picked.{Picked}
 use Rattle.progress.specs.declared.Progress.{Progress}
+use Rattle.machine.specs.Answers.{Returned}
 use Rattle.machine.specs.InnerTally as tally
 use Rattle.machine.specs.Steps.{State, threadAt}
 use Rattle.machine.specs.declared.RunReply.{RunReply}
 use Rattle.machine.specs.declared.StepReply.{StepReply}
 use Rattle.script.specs.Outcome.{Outcome, refused, done}
 use Rattle.script.specs.Jobs.{Job}
+use Rattle.survey.specs.InnerRecords.{surveyOf}
+use Rattle.survey.specs.InnerWalk.{surveyFits}
 use Rattle.thread.specs.declared.Thread.{Thread}
 use Rattle.thread.specs.InnerStep.{Handed, handed, unacted, stepped}
 use Rattle.thread.specs.Threads.{spawned}
@@ -154,3 +158,20 @@ pub record Room (n : ℕ) (p : Progress) : Type 0 where
   pub idle : p .idle + n < 18446744073709551615
   pub commits : p .commits + n < 18446744073709551615
   pub back : p .back + n < 18446744073709551615
+
+-- a run by value: what it leaves, and its answer
+abbrev pub answering : Driven → Returned RunReply
+answering d = record { state = d .state; reply = runReplyOf (d .progress) }
+
+unfoldable pub admitting : (code : List ℕ) → State → (picks : ℕ) → Progress
+admitting code s picks =
+    admittedTo
+    (readCode code)
+    (surveyFits (surveyOf (s .threads)) code (length (s .registers)))
+    (surveyOf (s .threads) .count)
+    picks
+
+unfoldable pub ranBy : (code : List ℕ) → State → (picks : List ℕ) → Returned RunReply
+ranBy code s picks =
+    let p = admitting code s (length picks) in
+    answering (driven code (p .limit) picks (record { state = s; progress = p }))
