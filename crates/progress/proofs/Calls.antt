@@ -10,21 +10,25 @@ use lib.IntN.{ℤ}
 use lib.ListN.{length}
 use Rattle.code.specs.Bytes.{IsCode}
 use Rattle.code.specs.Reader.{readCode}
+use Rattle.code.proofs.Foreign.{only-foreign}
 use Rattle.code.proofs.ReadBack.{read-is-code}
-use Rattle.progress.specs.InnerProgress.{beginning, refusalOf, admittedTo, shown, Driven, driven, Room, runReplyOf, answering, admitting, ranBy, whichOf, Given, pickedOf, pickedBy, advancedTo, drivenBy}
+use Rattle.progress.specs.InnerProgress.{beginning, refusalOf, admittedTo, shown, Driven, driven, Room, runReplyOf, answering, admitting, ranBy, steppedBy, stepReplyOf, Low, settledBy, whichOf, Given, pickedOf, pickedBy, advancedTo, drivenBy}
 use Rattle.progress.specs.declared.Progress.{Progress}
+use Rattle.progress.proofs.Turns.{Tells, perform-turns, perform-tells}
 use Rattle.progress.proofs.Drives.{drive-runs, run-refuses, Taken, admits}
-use Rattle.machine.specs.Answers.{Returned, runOf, runCall, runReply, sumOf}
+use Rattle.machine.specs.Answers.{Returned, stepOf, stepCall, stepReply, runOf, runCall, runReply, sumOf}
 use Rattle.machine.specs.Fits.{Fits, Typed}
 use Rattle.machine.specs.FitTest.{fits}
 use Rattle.machine.specs.InnerTally as tally
-use Rattle.machine.specs.Steps.{State, numberOf, threadAt, Ran, run}
+use Rattle.machine.specs.Steps.{State, Stepped, numberOf, threadAt, pick, pickAmong, Ran, run}
 use Rattle.machine.specs.declared.RunReply.{RunReply}
-use Rattle.machine.proofs.Calls.{run-refused, run-taken}
+use Rattle.machine.specs.declared.StepReply.{StepReply}
+use Rattle.machine.proofs.Calls.{step-refused, step-taken, run-refused, run-taken}
 use Rattle.machine.proofs.FitTests.{fits-exactly}
 use Rattle.script.specs.Bytes.{Bytes}
+use Rattle.script.specs.Jobs.{Job}
 use Rattle.script.specs.Outcome.{Outcome, refused, done}
-use Rattle.stm.specs.Events.{Counts, uncounted, countsOf}
+use Rattle.stm.specs.Events.{Event, Counts, uncounted, countsOf, eventNumber, eventRegister, turnNumber}
 use Rattle.survey.specs.InnerRecords.{surveyOf}
 use Rattle.survey.specs.InnerWalk.{surveyFits}
 use Rattle.survey.proofs.Judging.{survey-parts}
@@ -105,3 +109,58 @@ module _ (code : List ℕ) (s : State) (is : List ℕ) (b : Bytes code) (y : Typ
       go : (r : ℕ) → refusalOf (readCode code) (fits code s) (length is) ≡ r → from (beginning (refusalOf (readCode code) (fits code s) (length is)) (surveyOf (s .threads) .count) (length is)) ≡ runCall code s is
       go zero e = ap (λ (r : ℕ). from (beginning r (surveyOf (s .threads) .count) (length is))) e ∙ taken-run e
       go (suc n) e = ap (λ (r : ℕ). from (beginning r (surveyOf (s .threads) .count) (length is))) e ∙ refused-run n e
+
+-- ---- a step
+answers-step : (s : State) (who : ℕ) (g : Given) (r : Stepped) → settledBy s who g .state ≡ r .state → g .picked .progress .refusal ≡ 0 → Tells (r .event) (g .picked .progress) → _≡_ {A = Returned StepReply} (record { state = settledBy s who g .state; reply = stepReplyOf (g .picked .progress) }) (record { state = r .state; reply = stepReply (done r) })
+answers-step s who g r a z w = λ i. record { state = a i; reply = record { refusal = z i; place = 0; event = w .event i; register = w .register i; turn = w .turn i } }
+
+pub step-refuses : (code : List ℕ) (s : State) (i n : ℕ) → refusalOf (readCode code) (fits code s) 1 ≡ suc n → stepOf code s i ≡ refused (suc n) 0
+unfolding stepOf refusalOf
+step-refuses code s i n e = go (readCode code) refl (fits code s) refl e
+  where
+    go : (o : Outcome Job) → readCode code ≡ o → (b : Bool) → fits code s ≡ b → refusalOf o b 1 ≡ suc n → stepOf code s i ≡ refused (suc n) 0
+    go (refused m q) x b z e =
+        let k = only-foreign code m q x in
+        rw x (ap₂ (λ (u v : ℕ). refused u v) (k .0 ∙ e) (k .1))
+    go (done k) x false z e = rw (x, z) (ap (λ (u : ℕ). refused u 0) e)
+    go (done k) x true z e = absurd (omega arith)
+
+module _ (code : List ℕ) (s : State) (i : ℕ) (b : Bytes code) (y : Typed s) where
+  admitted-one : admitting code s 1 ≡ beginning (refusalOf (readCode code) (fits code s) 1) (surveyOf (s .threads) .count) 1
+  unfolding admitting
+  admitted-one = ap (λ (x : Bool). beginning (refusalOf (readCode code) x 1) (surveyOf (s .threads) .count) 1) (survey-fits code s)
+
+  abbrev one-from : Progress → Returned StepReply
+  one-from p =
+      let d = driven code (p .limit) (i ∷ []) (record { state = s; progress = p }) in
+      record { state = d .state; reply = stepReplyOf (d .progress) }
+
+  refused-step : (n : ℕ) → refusalOf (readCode code) (fits code s) 1 ≡ suc n → one-from (beginning (suc n) (surveyOf (s .threads) .count) 1) ≡ stepCall code s i
+  unfolding beginning driven
+  refused-step n e = rw (ne-eqb (suc n) 0 (λ e. absurd (omega arith))) (sym (step-refused code s i (suc n) 0 (step-refuses code s i n e)))
+
+  taken-step : refusalOf (readCode code) (fits code s) 1 ≡ 0 → one-from (beginning 0 (surveyOf (s .threads) .count) 1) ≡ stepCall code s i
+  unfolding beginning stepOf driven tally.turned
+  taken-step e =
+      let k = admits code s 1 e in
+      let c = read-is-code code (k .job) b (k .read) in
+      let f = fits-exactly code s y .0 (k .fit) in
+      let n : surveyOf (s .threads) .count ≡ numberOf (s .threads) = survey-count (s .threads) (survey-parts (surveyOf (s .threads)) code (length (s .registers)) (survey-fits code s ∙ k .fit) .good) in
+      let few : surveyOf (s .threads) .count ≤ 16 = let a = number-low (s .threads) in let r = f .records in omega arith in
+      let p : Progress = beginning 0 (surveyOf (s .threads) .count) 1 in
+      let low : Low p = record { threads = omega arith; steps = omega arith; idle = omega arith; commits = omega arith; back = omega arith } in
+      let t = perform-turns c s f y i p low in
+      let w = perform-tells c s f y i p in
+      let same : pickAmong wrapping code (p .threads) s i ≡ pick wrapping code s i = ap (λ (m : ℕ). pickAmong wrapping code m s i) n in
+      let ran : stepOf code s i ≡ done (pick wrapping code s i) = rw (k .read, k .fit) in
+      let state = ap (λ (x : tally.Tallied). x .state) t ∙ ap (λ (x : Stepped). x .state) same in
+      answers-step s (whichOf i) (pickedBy code (s .registers) i (threadAt s (whichOf i)) p) (pick wrapping code s i) state (kept-refusal code (s .registers) i (threadAt s (whichOf i)) p) (subst (λ (x : Stepped). Tells (x .event) (pickedBy code (s .registers) i (threadAt s (whichOf i)) p .picked .progress)) same w)
+      ∙ sym (step-taken code s i (pick wrapping code s i) ran)
+
+  pub step-by-value : steppedBy code s i ≡ stepCall code s i
+  unfolding steppedBy
+  step-by-value = ap one-from admitted-one ∙ go (refusalOf (readCode code) (fits code s) 1) refl
+    where
+      go : (r : ℕ) → refusalOf (readCode code) (fits code s) 1 ≡ r → one-from (beginning (refusalOf (readCode code) (fits code s) 1) (surveyOf (s .threads) .count) 1) ≡ stepCall code s i
+      go zero e = ap (λ (r : ℕ). one-from (beginning r (surveyOf (s .threads) .count) 1)) e ∙ taken-step e
+      go (suc n) e = ap (λ (r : ℕ). one-from (beginning r (surveyOf (s .threads) .count) 1)) e ∙ refused-step n e

@@ -134,6 +134,15 @@ seats ts count event start end l = go (eqb event 3)
     go true = refl
     go false = set-out ts 16 (spawned start end) (omega arith)
 
+-- a progress that tells an event
+pub record Tells (e : Event) (p : Progress) : Type 0 where
+  pub event : p .event ≡ eventNumber e
+  pub register : p .register ≡ eventRegister e
+  pub turn : p .turn ≡ turnNumber e
+
+by-numbers : (event register turn : ℕ) (e : Event) → event ≡ eventNumber e → register ≡ eventRegister e → turn ≡ turnNumber e → eventOf event register turn ≡ e
+by-numbers event register turn e a b c = rw (a, b, c) (event-of e)
+
 module _ {bytes : List ℕ} {j : Job} (c : IsCode bytes j) where
   numbered : (s : State) → Fits bytes s → Typed s → (i : ℕ) → Numbered (stepped wrapping bytes (s .registers) (threadAt s i))
   numbered s f y i = go (eqb (threadAt s i .start) 0) refl (eqb (threadAt s i .place) (threadAt s i .end)) refl
@@ -181,3 +190,33 @@ module _ {bytes : List ℕ} {j : Job} (c : IsCode bytes j) where
       go : (b : Bool) → ltb i 16 ≡ b → settledBy s (cond (ltb i 16) i 0) (cond (ltb i 16) (pickedOf (stepped wrapping bytes (s .registers) (threadAt s (cond (ltb i 16) i 0))) p) (pickedOf (handed (unacted (threadAt s (cond (ltb i 16) i 0))) (s .registers)) p)) ≡ tally.turned wrapping bytes s (shown p) i
       go true e = rw e (settles s f y i p l (ltb-true i 16 e))
       go false e = rw e (stays s f i p l (ltb-false i 16 e))
+
+  -- and its numbers are those of the pick's event
+  tells-some : (s : State) → Fits bytes s → Typed s → (i : ℕ) (p : Progress) → i < 16 → Tells (pickAmong wrapping bytes (p .threads) s i .event) (pickedOf (stepped wrapping bytes (s .registers) (threadAt s i)) p .picked .progress)
+  unfolding settle actedAs advancedTo
+  tells-some s f y i p q =
+      let n = numbered s f y i in
+      let k = step-picks c wrapping s f y (p .threads) i (subst (λ (m : ℕ). i < m) (sym (f .records)) q) in
+      let h : Handed = stepped wrapping bytes (s .registers) (threadAt s i) in
+      let e : pickAmong wrapping bytes (p .threads) s i .event ≡ n .what =
+      ap (λ (x : Stepped). x .event) k ∙ (by-numbers (h .acted .event) (h .acted .register) (h .acted .turn) (n .what) (n .event) (n .register) (n .turn))
+      in
+      record {
+        event = n .event ∙ ap eventNumber (sym e);
+        register = n .register ∙ ap eventRegister (sym e);
+        turn = n .turn ∙ ap turnNumber (sym e);
+      }
+
+  tells-none : (s : State) → Fits bytes s → (i : ℕ) (p : Progress) → 16 ≤ i → Tells (pickAmong wrapping bytes (p .threads) s i .event) (pickedOf (handed (unacted (threadAt s 0)) (s .registers)) p .picked .progress)
+  unfolding pickAmong advancedTo eventNumber eventRegister turnNumber
+  tells-none s f i p q =
+      let e : pickAmong wrapping bytes (p .threads) s i .event ≡ idle = ap (λ (x : Stepped). x .event) (let k : pickAmong wrapping bytes (p .threads) s i ≡ record { state = s; event = idle } = rw (pickAmong, le-ltb i (length (s .threads)) (subst (λ (m : ℕ). m ≤ i) (sym (f .records)) q)) in k) in
+      record { event = ap eventNumber (sym e); register = ap eventRegister (sym e); turn = ap turnNumber (sym e) }
+
+  pub perform-tells : (s : State) → Fits bytes s → Typed s → (i : ℕ) (p : Progress) → Tells (pickAmong wrapping bytes (p .threads) s i .event) (pickedBy bytes (s .registers) i (threadAt s (whichOf i)) p .picked .progress)
+  unfolding pickedBy whichOf
+  perform-tells s f y i p = go (ltb i 16) refl
+    where
+      go : (b : Bool) → ltb i 16 ≡ b → Tells (pickAmong wrapping bytes (p .threads) s i .event) (cond (ltb i 16) (pickedOf (stepped wrapping bytes (s .registers) (threadAt s (cond (ltb i 16) i 0))) p) (pickedOf (handed (unacted (threadAt s (cond (ltb i 16) i 0))) (s .registers)) p) .picked .progress)
+      go true e = rw e (tells-some s f y i p (ltb-true i 16 e))
+      go false e = rw e (tells-none s f i p (ltb-false i 16 e))

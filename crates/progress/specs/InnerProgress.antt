@@ -175,3 +175,10 @@ unfoldable pub ranBy : (code : List ℕ) → State → (picks : List ℕ) → Re
 ranBy code s picks =
     let p = admitting code s (length picks) in
     answering (driven code (p .limit) picks (record { state = s; progress = p }))
+
+-- a step by value
+unfoldable pub steppedBy : (code : List ℕ) → State → (pick : ℕ) → Returned StepReply
+steppedBy code s i =
+    let p = admitting code s 1 in
+    let d = driven code (p .limit) (i ∷ []) (record { state = s; progress = p }) in
+    record { state = d .state; reply = stepReplyOf (d .progress) }
