@@ -1,4 +1,4 @@
--- Writing over the first of a list: a turn of such a loop, its end, and what comes of it for a state of 16 records and 64 registers. Assumes nothing.
+-- Writing over the first of a list: a turn of such a loop, its end, and what comes of it for 16 records and 64 registers. Assumes nothing.
 use Prim.Native.Nat.{ℕ, zero, suc, _+_, _<_, _≤_}
 use mathlib.Core.Bool.{Bool, true, false, cond}
 use mathlib.Core.Path.{_≡_, refl, sym, ap, _∙_}
@@ -11,9 +11,10 @@ use lib.IntN.{ℤ, pos}
 use lib.ListN.{length, set, replicate}
 use Rattle.thread.specs.declared.Thread.{Thread}
 use Rattle.thread.specs.Threads.{blank, spawned}
+use Rattle.machine.specs.Steps.{State, fresh}
 use Rattle.engine.specs.InnerEngine.{leastOf, overwritten, recordOf, laid, cleared}
 
--- the lesser of two numbers is at most each
+-- the lesser of two numbers is at most the first
 pub least-first : (a b : ℕ) → leastOf a b ≤ a
 unfolding leastOf
 least-first a b = by-test (ltb a b) refl
@@ -22,6 +23,7 @@ least-first a b = by-test (ltb a b) refl
     by-test true e = omega arith
     by-test false e = ltb-false a b e
 
+-- and at most the second
 pub least-second : (a b : ℕ) → leastOf a b ≤ b
 unfolding leastOf
 least-second a b = by-test (ltb a b) refl
@@ -113,3 +115,13 @@ cleared-all rs h = overwritten-all (λ _. pos 0) (pos 0) 64 0 rs (λ k l. refl) 
 pub cleared-none : (rs : List ℤ) → cleared 0 rs ≡ rs
 unfolding cleared
 cleared-none rs = overwritten-none (λ _. pos 0) rs
+
+-- a state of these registers and records
+abbrev stateOf : List ℤ → List Thread → State
+stateOf rs ts = record { registers = rs; threads = ts }
+
+-- both loops together make 64 registers and 16 records the fresh state
+pub makes-fresh : (code : List ℕ) (rs : List ℤ) (ts : List Thread) → length rs ≡ 64 → length ts ≡ 16 → stateOf (cleared 64 rs) (laid (length code) 16 ts) ≡ fresh code
+unfolding fresh
+makes-fresh code rs ts h k =
+    ap (λ (l : List ℤ). stateOf l (laid (length code) 16 ts)) (cleared-all rs h) ∙ ap (stateOf (replicate 64 (pos 0))) (laid-all (length code) ts k)

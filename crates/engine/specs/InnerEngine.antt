@@ -1,4 +1,5 @@
--- For the proof of `gather`, `lay`, `clear` only: what each leaves. Nobody has to believe it: `laid-all`, `laid-none`, `cleared-all`, `cleared-none` (proofs/Laying) say what comes of it.
+-- For the proof of `gather`, `lay`, `clear` only: what each leaves. Nobody has to believe it: `laid-all`, `laid-none`, `cleared-all` and
+-- `cleared-none` (proofs/Laying) say what comes of the last two, and `Gathered` speaks of `surveyOf` alone, which `survey-fits` ties to `fits`.
 use Prim.Native.Nat.{ℕ, zero, suc}
 use mathlib.Core.Path.{_≡_}
 use mathlib.Core.Bool.{cond}

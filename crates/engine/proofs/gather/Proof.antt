@@ -137,6 +137,13 @@ all-known ys known j = by-test (ltb j (length ys)) refl
 none : (j : ℕ) → j < 0 → ⊥
 none j h = omega (arith, h)
 
+-- at the end the contract holds
+all-gathered : (ys : List Thread) (st : St ys) → length ys ≤ st .i → Gathered ys (st .s)
+all-gathered ys st out = record { survey = none-left ys (st .i) (st .s) out ∙ st .same; typed = λ j. every j .typed; ranged = λ j. every j .ranged }
+  where
+    every : (j : ℕ) → Known (getD ys j blank)
+    every = all-known ys (λ j h. st .known j (omega (arith, h, out)))
+
 -- the type of a number
 abbrev word : Ty
 word = tyInt w64
@@ -207,12 +214,9 @@ module _ {M : Type 1} (𝓤 : URA M) (H : Heap 𝓤) (A : Atoms 𝓤) (W : Given
   exits : (st : State) → length ys ≤ st .i → ent 𝓤 (⋆ 𝓤 H A (‵ (flft κ q) ∷ [])) (Post (survey-val (st .s)))
   exits st out =
       qed W (‵ (flft κ q) ∷ []) ∵ suffices ! _ (ends-at 𝓤 H A gather.ended stayed (gather.clauses 𝓤 H A mem rn) W bound (survey-val (st .s)) (st .s) (tt, tt) (tt, tt)) $
-      says ! (record { survey = none-left ys (st .i) (st .s) out ∙ st .same; typed = λ j. every j .typed; ranged = λ j. every j .ranged }) $
+      says ! (all-gathered ys st out) $
       nothing ! $ move ! (1 ∷ 0 ∷ []) $ join ! $ frame ! $ nothing ! $ nothing ! $ fjoin ! $ frame ! $
       owned ! SurveyR (Is SurveyR) (survey-makes 𝓤 H A) (st .s) _ (st .is-s) $ done !
-    where
-      every : (j : ℕ) → Known (getD ys j blank)
-      every = all-known ys (λ j h. st .known j (omega (arith, h, out)))
 
   module _ (𝓣 : Tables 𝓤 H) (known-start : Triple 𝓤 (𝓣 .C #start) (Start 𝓤 H A mem rn)) (known-with : Triple 𝓤 (𝓣 .C #with) (With 𝓤 H A mem rn)) (room : Room ThreadR (length ys)) where
     -- the functions that can be called
