@@ -1,0 +1,22 @@
+-- `engine::record_of` meets its contract. Assumes nothing.
+use mathlib.Core.Path.{_≡_, refl}
+use borrow.Author.Tests.{ne-eqb}
+use Rattle.thread.specs.Threads.{blank, spawned}
+use Rattle.word.specs.Registers as registers
+use Rattle.engine.specs.InnerEngine.{recordOf}
+use Rattle.engine.proofs.record_of.Statement.{statement}
+use Rattle.engine.proofs.record_of.Tie as tie
+
+-- record 0
+returns : tie.Need-returns
+unfolding recordOf spawned registers.none
+returns c = rw (c .if1 .taken)
+
+-- another one
+returns-2 : tie.Need-returns-2
+unfolding recordOf blank registers.none
+returns-2 c = rw (ne-eqb (c .before .args .i) 0 (c .if1 .left))
+
+-- the function meets its contract
+pub record-of-spec : {M : Type 1} → statement M
+record-of-spec = tie.close (tie.spec returns returns-2)

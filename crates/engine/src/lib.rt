@@ -1,0 +1,85 @@
+// The calls over a state that is lent: every record is read or written one by one, in a slice of any length.
+ghost use mathlib.Core.Path.{_≡_};
+ghost use Rattle.engine.specs.InnerEngine.{Gathered, cleared, laid, leastOf, recordOf};
+
+// The lesser of two numbers.
+fn least(a: usize, b: usize) -> usize
+    ensures { λ r. ⌜ r ≡ leastOf a b ⌝ }
+{
+    if a < b {
+        return a;
+    }
+    b
+}
+
+// Record i of a fresh state: record 0 is a thread at the start of the whole code, the others are of no thread.
+fn record_of(i: usize, end: usize) -> thread::Thread
+    ensures { λ r. ⌜ r ≡ recordOf i end ⌝ }
+{
+    if i == 0 {
+        return thread::Thread {
+            start: 5,
+            end,
+            place: 5,
+            height: 0,
+            cells: [0; 64],
+            begin: 0,
+            base: 0,
+            reads: 0,
+            readlog: [0; 64],
+            writes: 0,
+            writelog: [0; 64],
+        };
+    }
+    thread::Thread {
+        start: 0,
+        end: 0,
+        place: 0,
+        height: 0,
+        cells: [0; 64],
+        begin: 0,
+        base: 0,
+        reads: 0,
+        readlog: [0; 64],
+        writes: 0,
+        writelog: [0; 64],
+    }
+}
+
+// The survey of all records.
+fn gather(threads: &[thread::Thread]) -> survey::Survey
+    ensures { λ r. ⌜ Gathered (now (threads .entry)) r ⌝ }
+{
+    let mut s = survey::Survey::start();
+    let mut i: usize = 0;
+    while i < threads.len() {
+        let t = threads[i];
+        s = s.with(t);
+        i += 1;
+    }
+    s
+}
+
+// The first `limit` records become those of a fresh state, as far as there are so many.
+fn lay(threads: &mut [thread::Thread], end: usize, limit: usize)
+    ensures { λ _. ⌜ now (threads .exit) ≡ laid end limit (now (threads .entry)) ⌝ }
+{
+    let n = least(limit, threads.len());
+    let mut i: usize = 0;
+    while i < n {
+        threads[i] = record_of(i, end);
+        i += 1;
+    }
+}
+
+// The first `limit` registers become 0, as far as there are so many.
+fn clear(registers: &mut [i32], limit: usize)
+    ensures { λ _. ⌜ now (registers .exit) ≡ cleared limit (now (registers .entry)) ⌝ }
+{
+    let n = least(limit, registers.len());
+    let mut i: usize = 0;
+    while i < n {
+        registers[i] = 0;
+        i += 1;
+    }
+}
