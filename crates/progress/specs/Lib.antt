@@ -1,0 +1,2 @@
+-- Mirrors of what is done by value around a pick.
+pub mod InnerProgress

@@ -1,0 +1,185 @@
+// What is carried from pick to pick, and one pick of a record, by value; which refusal a call has, and what it answers.
+ghost use mathlib.Core.Path.{_≡_};
+ghost use lib.Dec.{eqb};
+ghost use lib.ListN.{length};
+ghost use Rattle.code.specs.Reader.{readCode};
+ghost use Rattle.progress.specs.InnerProgress.{admittedTo, advancedTo, given, moreTo, pickedBy, refusalOf, runReplyOf, seatOf, stepReplyOf, whichOf};
+ghost use Rattle.survey.specs.InnerWalk.{surveyFits};
+
+// The number of threads, how many picks are to be done, document 01's number of the refusal, 0 if there is none, the counts so far, and what
+// the last pick did, in the numbers of a step's answer.
+pub struct Progress {
+    pub threads: usize,
+    pub limit: usize,
+    pub refusal: usize,
+    pub steps: usize,
+    pub idle: usize,
+    pub commits: usize,
+    pub back: usize,
+    pub event: usize,
+    pub register: usize,
+    pub turn: usize,
+}
+
+// What a pick of a record leaves: the record, the seat of a forked child, 16 if there is none, the child's own code, and the progress.
+pub struct Picked {
+    pub thread: thread::Thread,
+    pub seat: usize,
+    pub start: usize,
+    pub end: usize,
+    pub progress: Progress,
+}
+
+// One more if so; the greatest number stays.
+fn more(so: bool, n: usize) -> usize
+    ensures { λ r. ⌜ r ≡ moreTo so n ⌝ }
+{
+    if !so {
+        return n;
+    }
+    if n == 18446744073709551615 {
+        return n;
+    }
+    n + 1
+}
+
+// The seat that a forked child takes.
+fn seat(event: usize, threads: usize) -> usize
+    ensures { λ r. ⌜ r ≡ seatOf event threads ⌝ }
+{
+    if event == 3 {
+        return threads;
+    }
+    16
+}
+
+impl Progress {
+    // After a pick that did this.
+    fn after(self, event: usize, register: usize, turn: usize) -> Progress
+        ensures { λ r. ⌜ r ≡ advancedTo event register turn self ⌝ }
+    {
+        Progress {
+            threads: more(event == 3, self.threads),
+            limit: self.limit,
+            refusal: self.refusal,
+            steps: more(event != 0, self.steps),
+            idle: more(event == 0, self.idle),
+            commits: more(event == 9, self.commits),
+            back: more(event == 10, self.back),
+            event,
+            register,
+            turn,
+        }
+    }
+
+    // The answer of `step`.
+    pub fn step_reply(self) -> machine::StepReply
+        ensures { λ r. ⌜ r ≡ stepReplyOf self ⌝ }
+    {
+        machine::StepReply {
+            refusal: self.refusal,
+            place: 0,
+            event: self.event,
+            register: self.register,
+            turn: self.turn,
+        }
+    }
+
+    // The answer of `run`.
+    pub fn run_reply(self) -> machine::RunReply
+        ensures { λ r. ⌜ r ≡ runReplyOf self ⌝ }
+    {
+        machine::RunReply {
+            refusal: self.refusal,
+            place: 0,
+            steps: self.steps,
+            idle: self.idle,
+            commits: self.commits,
+            back: self.back,
+        }
+    }
+}
+
+// The record that a pick takes out: of 16 and above record 0, which is put back as it was.
+pub fn which(pick: u8) -> usize
+    ensures { λ r. ⌜ r ≡ whichOf pick ⌝ }
+{
+    if pick < 16 {
+        return pick as usize;
+    }
+    0
+}
+
+// One pick of the record that was taken out.
+pub fn perform(
+    t: thread::Thread,
+    code: &[u8],
+    registers: &mut [i32],
+    pick: u8,
+    p: Progress,
+) -> Picked
+    ensures { λ r. ⌜ given r (now (registers .exit)) ≡ pickedBy (now (code .entry)) (now (registers .entry)) pick t p ⌝ }
+{
+    if pick >= 16 {
+        return Picked {
+            thread: t,
+            seat: 16,
+            start: 0,
+            end: 0,
+            progress: p.after(0, 0, 0),
+        };
+    }
+    let threads = p.threads;
+    let a = t.step(code, registers);
+    let event = a.event;
+    let after = a.thread;
+    Picked {
+        thread: after,
+        seat: seat(event, threads),
+        start: a.start,
+        end: a.end,
+        progress: p.after(event, a.register, a.turn),
+    }
+}
+
+// Which refusal a call with code, a state and so many picks has: 0 if none.
+fn refusal(code: &[u8], survey: survey::Survey, registers: usize, picks: usize) -> usize
+    ensures { λ r. ⌜ r ≡ refusalOf (readCode (now (code .entry))) (surveyFits survey (now (code .entry)) registers) picks ⌝ }
+{
+    match scan::scan_code(code) {
+        scan::Scanned::Refused(_, _) => 11,
+        scan::Scanned::Job(_, _, _) => {
+            if !survey.fits(code, registers) {
+                return 12;
+            }
+            if picks > 32768 {
+                return 13;
+            }
+            0
+        }
+    }
+}
+
+// The progress with which a call begins: no pick is to be done if it is refused.
+pub fn admitted(code: &[u8], survey: survey::Survey, registers: usize, picks: usize) -> Progress
+    ensures { λ r. ⌜ r ≡ admittedTo (readCode (now (code .entry))) (surveyFits survey (now (code .entry)) registers) (survey .count) picks ⌝ }
+{
+    let threads = survey.count;
+    let refusal = refusal(code, survey, registers, picks);
+    let mut limit: usize = 0;
+    if refusal == 0 {
+        limit = picks;
+    }
+    Progress {
+        threads,
+        limit,
+        refusal,
+        steps: 0,
+        idle: 0,
+        commits: 0,
+        back: 0,
+        event: 0,
+        register: 0,
+        turn: 0,
+    }
+}
