@@ -1,9 +1,9 @@
 // The calls over a state that is lent: every record is read or written one by one, in a slice of any length.
-ghost use Prim.Native.Nat.{_<_};
+ghost use Prim.Native.Nat.{_<_, _≤_};
 ghost use mathlib.Core.Path.{_≡_};
 ghost use lib.ListN.{getD, length};
 ghost use Rattle.engine.specs.InnerEngine.{Gathered, cleared, drove, laid, leastOf, recordOf, stateOf};
-ghost use Rattle.progress.specs.InnerProgress.{drivenBy, pickedBy, whichOf};
+ghost use Rattle.progress.specs.InnerProgress.{driven, drivenBy, pickedBy, whichOf};
 ghost use Rattle.thread.specs.Threads.{blank, spawned};
 
 // The lesser of two numbers.
@@ -115,4 +115,34 @@ fn turn(
         threads[seat] = spawned(out.start, out.end);
     }
     out.progress
+}
+
+// Pick number i.
+fn pick_at(picks: &[u8], i: usize) -> u8
+    requires { ⌜ i < length (now picks) ⌝ }
+    ensures { λ r. ⌜ r ≡ getD (now (picks .entry)) i 0 ⌝ }
+{
+    picks[i]
+}
+
+// So many of the picks as are to be done, one after the other.
+fn drive(
+    code: &[u8],
+    registers: &mut [i32],
+    threads: &mut [thread::Thread],
+    picks: &[u8],
+    p: progress::Progress,
+) -> progress::Progress
+    requires { ⌜ (p .limit ≤ length (now picks)) × (0 < p .limit → length (now threads) ≡ 16) ⌝ }
+    ensures { λ r. ⌜ drove (now (registers .exit)) (now (threads .exit)) r ≡ driven (now (code .entry)) (p .limit) (now (picks .entry)) (drove (now (registers .entry)) (now (threads .entry)) p) ⌝ }
+{
+    let limit = p.limit;
+    let mut q = p;
+    let mut i: usize = 0;
+    while i < limit {
+        let pick = pick_at(picks, i);
+        q = turn(code, registers, threads, pick, q);
+        i += 1;
+    }
+    q
 }
