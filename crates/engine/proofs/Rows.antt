@@ -30,6 +30,12 @@ use Rattle.thread.proofs.Thread as T
 use Rattle.thread.proofs.Thread.Laws as T′
 use Rattle.survey.proofs.Survey as S
 use Rattle.survey.proofs.Survey.Laws as S′
+use Rattle.progress.specs.declared.Progress.{Progress}
+use Rattle.progress.specs.declared.Picked.{Picked}
+use Rattle.progress.proofs.Progress as P
+use Rattle.progress.proofs.Progress.Laws as P′
+use Rattle.progress.proofs.Picked as K
+use Rattle.progress.proofs.Picked.Laws as K′
 
 -- the record's row
 abbrev pub ThreadR : RattleType
@@ -38,6 +44,14 @@ ThreadR = T.the-row
 -- the survey's row
 abbrev pub SurveyR : RattleType
 SurveyR = S.the-row
+
+-- the row of what is carried
+abbrev pub ProgressR : RattleType
+ProgressR = P.the-row
+
+-- the row of what a pick leaves
+abbrev pub PickedR : RattleType
+PickedR = K.the-row
 
 -- a record's machine values
 abbrev pub thread-vals : Thread → List Val
@@ -58,6 +72,54 @@ thread-tells = LL.tells T.the-type T′.the-laws
 -- the survey's relation tells its machine values
 pub survey-tells : Tells SurveyR (Is SurveyR) survey-vals
 survey-tells = LL.tells S.the-type S′.the-laws
+
+-- the machine value of what is carried
+abbrev pub progress-val : Progress → Val
+progress-val = LL.val P.the-type P′.the-laws
+
+-- and as a list
+abbrev pub progress-vals : Progress → List Val
+progress-vals = LL.vals P.the-type P′.the-laws
+
+-- the machine value of what a pick leaves
+abbrev pub picked-val : Picked → Val
+picked-val = LL.val K.the-type K′.the-laws
+
+-- and as a list
+abbrev pub picked-vals : Picked → List Val
+picked-vals = LL.vals K.the-type K′.the-laws
+
+-- its relation tells the machine values of what is carried
+pub progress-tells : Tells ProgressR (Is ProgressR) progress-vals
+progress-tells = LL.tells P.the-type P′.the-laws
+
+-- and of what a pick leaves
+pub picked-tells : Tells PickedR (Is PickedR) picked-vals
+picked-tells = LL.tells K.the-type K′.the-laws
+
+-- of what a pick leaves: its record
+pub picked-thread : (r : Picked) (vs : List Val) → Is PickedR r vs → Is ThreadR (r .thread) (thread-vals (r .thread))
+picked-thread r vs p = LL.owed K.the-type K′.the-laws r vs p .0
+
+-- its seat
+pub picked-seat : (r : Picked) (vs : List Val) → Is PickedR r vs → r .seat < 2 ^ 64
+picked-seat r vs p = LL.owed K.the-type K′.the-laws r vs p .1 .0 .1
+
+-- its start
+pub picked-start : (r : Picked) (vs : List Val) → Is PickedR r vs → r .start < 2 ^ 64
+picked-start r vs p = LL.owed K.the-type K′.the-laws r vs p .1 .1 .0 .1
+
+-- its end
+pub picked-end : (r : Picked) (vs : List Val) → Is PickedR r vs → r .end < 2 ^ 64
+picked-end r vs p = LL.owed K.the-type K′.the-laws r vs p .1 .1 .1 .0 .1
+
+-- what it carries
+pub picked-progress : (r : Picked) (vs : List Val) → Is PickedR r vs → Is ProgressR (r .progress) (progress-vals (r .progress))
+picked-progress r vs p = LL.owed K.the-type K′.the-laws r vs p .1 .1 .1 .1 .0
+
+-- how many picks are to be done
+pub progress-limit : (r : Progress) (vs : List Val) → Is ProgressR r vs → r .limit < 2 ^ 64
+progress-limit r vs p = LL.owed P.the-type P′.the-laws r vs p .1 .0 .1
 
 -- ---- what whoever holds a record knows of it
 -- an array has its length
@@ -150,7 +212,19 @@ module _ {M : Type 1} (𝓤 : URA M) (H : Heap 𝓤) (At : Atoms 𝓤) where
   pub survey-makes : Makes 𝓤 H At SurveyR (Is SurveyR)
   survey-makes = LL.makes S.the-type S′.the-plain 𝓤 H At
 
+  -- what is carried owns what is had for nothing
+  pub progress-makes : Makes 𝓤 H At ProgressR (Is ProgressR)
+  progress-makes = LL.makes P.the-type P′.the-plain 𝓤 H At
+
   module _ (W : Given 𝓤 H At) where
+    -- the machine value of what is carried has its type
+    pub progress-typed : (x : Progress) (vs : List Val) → Is ProgressR x vs → Typed (ProgressR .mir) vs
+    progress-typed = LL.lawful P.the-type P′.the-laws 𝓤 H At W .typed
+
+    -- and of what a pick leaves
+    pub picked-typed : (x : Picked) (vs : List Val) → Is PickedR x vs → Typed (PickedR .mir) vs
+    picked-typed = LL.lawful K.the-type K′.the-laws 𝓤 H At W .typed
+
     -- a record's machine values have its type
     pub thread-typed : (x : Thread) (vs : List Val) → Is ThreadR x vs → Typed (ThreadR .mir) vs
     thread-typed = LL.lawful T.the-type T′.the-laws 𝓤 H At W .typed

@@ -10,6 +10,9 @@ use lib.ListN.{getD}
 use Rattle.thread.specs.declared.Thread.{Thread}
 use Rattle.thread.specs.Threads.{blank, spawned}
 use Rattle.machine.specs.Fits.{TypedThread, RangedThread}
+use Rattle.machine.specs.Steps.{State}
+use Rattle.progress.specs.InnerProgress.{Driven}
+use Rattle.progress.specs.declared.Progress.{Progress}
 use Rattle.survey.specs.declared.Survey.{Survey}
 use Rattle.survey.specs.InnerRecords.{surveyOf}
 
@@ -40,3 +43,11 @@ laid end limit ts = overwritten (λ i. recordOf i end) limit 0 ts
 -- the registers with the first `limit` of them 0
 unfoldable pub cleared : (limit : ℕ) → List ℤ → List ℤ
 cleared limit rs = overwritten (λ _. pos 0) limit 0 rs
+
+-- registers and records as a state
+abbrev pub stateOf : List ℤ → List Thread → State
+stateOf rs ts = record { registers = rs; threads = ts }
+
+-- and with what is carried from pick to pick
+abbrev pub drove : List ℤ → List Thread → Progress → Driven
+drove rs ts p = record { state = stateOf rs ts; progress = p }

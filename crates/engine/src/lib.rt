@@ -1,6 +1,10 @@
 // The calls over a state that is lent: every record is read or written one by one, in a slice of any length.
+ghost use Prim.Native.Nat.{_<_, _≤_};
 ghost use mathlib.Core.Path.{_≡_};
-ghost use Rattle.engine.specs.InnerEngine.{Gathered, cleared, laid, leastOf, recordOf};
+ghost use lib.ListN.{getD, length};
+ghost use Rattle.engine.specs.InnerEngine.{Gathered, cleared, drove, laid, leastOf, recordOf, stateOf};
+ghost use Rattle.progress.specs.InnerProgress.{driven, drivenBy, pickedBy, whichOf};
+ghost use Rattle.thread.specs.Threads.{blank, spawned};
 
 // The lesser of two numbers.
 fn least(a: usize, b: usize) -> usize
@@ -12,24 +16,31 @@ fn least(a: usize, b: usize) -> usize
     b
 }
 
+// A thread at the start of its own code.
+fn spawned(start: usize, end: usize) -> thread::Thread
+    ensures { λ r. ⌜ r ≡ spawned start end ⌝ }
+{
+    thread::Thread {
+        start,
+        end,
+        place: start,
+        height: 0,
+        cells: [0; 64],
+        begin: 0,
+        base: 0,
+        reads: 0,
+        readlog: [0; 64],
+        writes: 0,
+        writelog: [0; 64],
+    }
+}
+
 // Record i of a fresh state: record 0 is a thread at the start of the whole code, the others are of no thread.
 fn record_of(i: usize, end: usize) -> thread::Thread
     ensures { λ r. ⌜ r ≡ recordOf i end ⌝ }
 {
     if i == 0 {
-        return thread::Thread {
-            start: 5,
-            end,
-            place: 5,
-            height: 0,
-            cells: [0; 64],
-            begin: 0,
-            base: 0,
-            reads: 0,
-            readlog: [0; 64],
-            writes: 0,
-            writelog: [0; 64],
-        };
+        return spawned(5, end);
     }
     thread::Thread {
         start: 0,
@@ -82,4 +93,56 @@ fn clear(registers: &mut [i32], limit: usize)
         registers[i] = 0;
         i += 1;
     }
+}
+
+// One pick: its record is taken out, stepped by value and put back; a forked child's record takes its seat.
+fn turn(
+    code: &[u8],
+    registers: &mut [i32],
+    threads: &mut [thread::Thread],
+    pick: u8,
+    p: progress::Progress,
+) -> progress::Progress
+    requires { ⌜ whichOf pick < length (now threads) ⌝ }
+    ensures { λ r. ⌜ drove (now (registers .exit)) (now (threads .exit)) r ≡ drivenBy (stateOf (now (registers .entry)) (now (threads .entry))) (whichOf pick) (pickedBy (now (code .entry)) (now (registers .entry)) pick (getD (now (threads .entry)) (whichOf pick) blank) p) ⌝ }
+{
+    let who = progress::which(pick);
+    let t = threads[who];
+    let out = progress::perform(t, code, registers, pick, p);
+    threads[who] = out.thread;
+    let seat = out.seat;
+    if seat < threads.len() {
+        threads[seat] = spawned(out.start, out.end);
+    }
+    out.progress
+}
+
+// Pick number i.
+fn pick_at(picks: &[u8], i: usize) -> u8
+    requires { ⌜ i < length (now picks) ⌝ }
+    ensures { λ r. ⌜ r ≡ getD (now (picks .entry)) i 0 ⌝ }
+{
+    picks[i]
+}
+
+// So many of the picks as are to be done, one after the other.
+fn drive(
+    code: &[u8],
+    registers: &mut [i32],
+    threads: &mut [thread::Thread],
+    picks: &[u8],
+    p: progress::Progress,
+) -> progress::Progress
+    requires { ⌜ (p .limit ≤ length (now picks)) × (0 < p .limit → length (now threads) ≡ 16) ⌝ }
+    ensures { λ r. ⌜ drove (now (registers .exit)) (now (threads .exit)) r ≡ driven (now (code .entry)) (p .limit) (now (picks .entry)) (drove (now (registers .entry)) (now (threads .entry)) p) ⌝ }
+{
+    let limit = p.limit;
+    let mut q = p;
+    let mut i: usize = 0;
+    while i < limit {
+        let pick = pick_at(picks, i);
+        q = turn(code, registers, threads, pick, q);
+        i += 1;
+    }
+    q
 }

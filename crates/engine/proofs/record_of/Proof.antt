@@ -1,16 +1,24 @@
 -- `engine::record_of` meets its contract. Assumes nothing.
 use mathlib.Core.Path.{_≡_, refl}
+use borrow.Author.Needs.{needs}
 use borrow.Author.Tests.{ne-eqb}
-use Rattle.thread.specs.Threads.{blank, spawned}
+use Rattle.thread.specs.Threads.{blank}
 use Rattle.word.specs.Registers as registers
 use Rattle.engine.specs.InnerEngine.{recordOf}
 use Rattle.engine.proofs.record_of.Statement.{statement}
 use Rattle.engine.proofs.record_of.Tie as tie
+use Rattle.engine.proofs.record_of.Reads as reads
+use Rattle.engine.proofs.record_of.Lts as lts
+use Rattle.engine.proofs.spawned.Reads as spawned-reads
+
+-- `spawned` asks nothing
+spawned-requires : tie.Need-spawned-requires
+spawned-requires c κs = search needs
 
 -- record 0
 returns : tie.Need-returns
-unfolding recordOf spawned registers.none
-returns c = rw (c .if1 .taken)
+unfolding recordOf
+returns c = rw (c .before .if1 .taken) (c .spawned .ensures)
 
 -- another one
 returns-2 : tie.Need-returns-2
@@ -19,4 +27,4 @@ returns-2 c = rw (ne-eqb (c .before .args .i) 0 (c .if1 .left))
 
 -- the function meets its contract
 pub record-of-spec : {M : Type 1} → statement M
-record-of-spec = tie.close (tie.spec returns returns-2)
+record-of-spec = tie.close (tie.spec spawned-requires returns returns-2)
