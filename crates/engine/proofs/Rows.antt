@@ -36,6 +36,12 @@ use Rattle.progress.proofs.Progress as P
 use Rattle.progress.proofs.Progress.Laws as P′
 use Rattle.progress.proofs.Picked as K
 use Rattle.progress.proofs.Picked.Laws as K′
+use Rattle.machine.specs.declared.RunReply.{RunReply}
+use Rattle.machine.specs.declared.StepReply.{StepReply}
+use Rattle.machine.proofs.RunReply as Y
+use Rattle.machine.proofs.RunReply.Laws as Y′
+use Rattle.machine.proofs.StepReply as Z
+use Rattle.machine.proofs.StepReply.Laws as Z′
 
 -- the record's row
 abbrev pub ThreadR : RattleType
@@ -232,3 +238,51 @@ module _ {M : Type 1} (𝓤 : URA M) (H : Heap 𝓤) (At : Atoms 𝓤) where
     -- a survey's machine value has its type
     pub survey-typed : (x : Survey) (vs : List Val) → Is SurveyR x vs → Typed (SurveyR .mir) vs
     survey-typed = LL.lawful S.the-type S′.the-laws 𝓤 H At W .typed
+
+-- the row of a run's answer
+abbrev pub RunR : RattleType
+RunR = Y.the-row
+
+-- a run's answer as a machine value
+abbrev pub run-val : RunReply → Val
+run-val = LL.val Y.the-type Y′.the-laws
+
+-- and as a list
+abbrev pub run-vals : RunReply → List Val
+run-vals = LL.vals Y.the-type Y′.the-laws
+
+-- its relation tells it
+pub run-tells : Tells RunR (Is RunR) run-vals
+run-tells = LL.tells Y.the-type Y′.the-laws
+
+-- what it owns is had for nothing
+pub run-makes : {M : Type 1} (𝓤 : URA M) (H : Heap 𝓤) (At : Atoms 𝓤) → Makes 𝓤 H At RunR (Is RunR)
+run-makes 𝓤 H At = LL.makes Y.the-type Y′.the-plain 𝓤 H At
+
+-- it has its type
+pub run-typed : {M : Type 1} (𝓤 : URA M) (H : Heap 𝓤) (At : Atoms 𝓤) → Given 𝓤 H At → (x : RunReply) (vs : List Val) → Is RunR x vs → Typed (RunR .mir) vs
+run-typed 𝓤 H At W = LL.lawful Y.the-type Y′.the-laws 𝓤 H At W .typed
+
+-- the row of a step's answer
+abbrev pub StepR : RattleType
+StepR = Z.the-row
+
+-- a step's answer as a machine value
+abbrev pub step-val : StepReply → Val
+step-val = LL.val Z.the-type Z′.the-laws
+
+-- and as a list
+abbrev pub step-vals : StepReply → List Val
+step-vals = LL.vals Z.the-type Z′.the-laws
+
+-- its relation tells it
+pub step-tells : Tells StepR (Is StepR) step-vals
+step-tells = LL.tells Z.the-type Z′.the-laws
+
+-- what it owns is had for nothing
+pub step-makes : {M : Type 1} (𝓤 : URA M) (H : Heap 𝓤) (At : Atoms 𝓤) → Makes 𝓤 H At StepR (Is StepR)
+step-makes 𝓤 H At = LL.makes Z.the-type Z′.the-plain 𝓤 H At
+
+-- it has its type
+pub step-typed : {M : Type 1} (𝓤 : URA M) (H : Heap 𝓤) (At : Atoms 𝓤) → Given 𝓤 H At → (x : StepReply) (vs : List Val) → Is StepR x vs → Typed (StepR .mir) vs
+step-typed 𝓤 H At W = LL.lawful Z.the-type Z′.the-laws 𝓤 H At W .typed

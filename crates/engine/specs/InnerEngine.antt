@@ -11,10 +11,14 @@ use Rattle.thread.specs.declared.Thread.{Thread}
 use Rattle.thread.specs.Threads.{blank, spawned}
 use Rattle.machine.specs.Fits.{TypedThread, RangedThread}
 use Rattle.machine.specs.Steps.{State}
-use Rattle.progress.specs.InnerProgress.{Driven}
+use Rattle.machine.specs.Answers.{Returned}
+use Rattle.progress.specs.InnerProgress.{Driven, admittedTo}
 use Rattle.progress.specs.declared.Progress.{Progress}
 use Rattle.survey.specs.declared.Survey.{Survey}
 use Rattle.survey.specs.InnerRecords.{surveyOf}
+use Rattle.survey.specs.InnerWalk.{surveyFits}
+use Rattle.code.specs.Reader.{readCode}
+use Rattle.script.specs.Bytes.{Bytes}
 
 -- what is known of the records once they were gathered: their survey, and what each record has by its type
 pub record Gathered (ts : List Thread) (r : Survey) : Type 0 where
@@ -51,3 +55,12 @@ stateOf rs ts = record { registers = rs; threads = ts }
 -- and with what is carried from pick to pick
 abbrev pub drove : List ℤ → List Thread → Progress → Driven
 drove rs ts p = record { state = stateOf rs ts; progress = p }
+
+-- what a call leaves and answers
+abbrev pub returned : {Reply : Type 0} → List ℤ → List Thread → Reply → Returned Reply
+returned rs ts reply = record { state = stateOf rs ts; reply = reply }
+
+-- with what a call begins, and that its code is of bytes
+pub record Admitted (code : List ℕ) (survey : Survey) (registers picks : ℕ) (r : Progress) : Type 0 where
+  pub progress : r ≡ admittedTo (readCode code) (surveyFits survey code registers) (survey .count) picks
+  pub bytes : Bytes code

@@ -2,7 +2,8 @@
 ghost use Prim.Native.Nat.{_<_, _≤_};
 ghost use mathlib.Core.Path.{_≡_};
 ghost use lib.ListN.{getD, length};
-ghost use Rattle.engine.specs.InnerEngine.{Gathered, cleared, drove, laid, leastOf, recordOf, stateOf};
+ghost use Rattle.engine.specs.InnerEngine.{Admitted, Gathered, cleared, drove, laid, leastOf, recordOf, returned, stateOf};
+ghost use Rattle.machine.specs.Answers.{runCall};
 ghost use Rattle.progress.specs.InnerProgress.{driven, drivenBy, pickedBy, whichOf};
 ghost use Rattle.thread.specs.Threads.{blank, spawned};
 
@@ -145,4 +146,26 @@ fn drive(
         i += 1;
     }
     q
+}
+
+// The progress with which a call begins; that the code is of bytes is earned here.
+fn admit(code: &[u8], survey: survey::Survey, registers: usize, picks: usize) -> progress::Progress
+    ensures { λ r. ⌜ Admitted (now (code .entry)) survey registers picks r ⌝ }
+{
+    progress::admitted(code, survey, registers, picks)
+}
+
+// The picks of a list, one after the other: for slices of any length.
+pub fn run(
+    code: &[u8],
+    registers: &mut [i32],
+    threads: &mut [thread::Thread],
+    picks: &[u8],
+) -> machine::RunReply
+    ensures { λ r. ⌜ returned (now (registers .exit)) (now (threads .exit)) r ≡ runCall (now (code .entry)) (stateOf (now (registers .entry)) (now (threads .entry))) (now (picks .entry)) ⌝ }
+{
+    let s = gather(threads);
+    let p = admit(code, s, registers.len(), picks.len());
+    let q = drive(code, registers, threads, picks, p);
+    q.run_reply()
 }
