@@ -38,7 +38,7 @@ use Rattle.word.specs.Sum.{Rule}
 -- ending, inside the memory lent. Each other call is refused with the number and place document 01 gives, and no lent memory is altered."
 -- The rows say what a call returns, answer and all lent memory: a result, or the number and place with the memory as it was. What a call
 -- comes to is what one row says, and no row says anything else. That the functions end, inside the memory lent, is what the checker proves
--- of every function; `fresh`, `step` and `run` are definitions so far, without a function.
+-- of every function; `fresh` and `step` are definitions so far, without a function, and `runCall` is the contract of `engine::run`.
 pub record Demand1 : Type 0 where
   pub job-reader : (job : List ℕ) → Bytes job → (r : Reading) → JobAnswer job r ↔ (r ≡ answer (readJob job))
   pub compiling : (job before : List ℕ) → Bytes job → (d : Delivered) → CompileAnswer job before d ↔ (d ≡ compileTo job before)
