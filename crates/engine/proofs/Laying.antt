@@ -11,7 +11,7 @@ use lib.IntN.{ℤ, pos}
 use lib.ListN.{length, set, replicate}
 use Rattle.thread.specs.declared.Thread.{Thread}
 use Rattle.thread.specs.Threads.{blank, spawned}
-use Rattle.machine.specs.Steps.{State, fresh}
+use Rattle.machine.specs.Steps.{stateOf, fresh}
 use Rattle.engine.specs.InnerEngine.{leastOf, overwritten, recordOf, laid, cleared}
 
 -- the lesser of two numbers is at most the first
@@ -115,10 +115,6 @@ cleared-all rs h = overwritten-all (λ _. pos 0) (pos 0) 64 0 rs (λ k l. refl) 
 pub cleared-none : (rs : List ℤ) → cleared 0 rs ≡ rs
 unfolding cleared
 cleared-none rs = overwritten-none (λ _. pos 0) rs
-
--- a state of these registers and records
-abbrev stateOf : List ℤ → List Thread → State
-stateOf rs ts = record { registers = rs; threads = ts }
 
 -- both loops together make 64 registers and 16 records the fresh state
 pub makes-fresh : (code : List ℕ) (rs : List ℤ) (ts : List Thread) → length rs ≡ 64 → length ts ≡ 16 → stateOf (cleared 64 rs) (laid (length code) 16 ts) ≡ fresh code

@@ -11,7 +11,7 @@ use lib.ListN.{length}
 use Rattle.code.specs.Reader.{readCode}
 use Rattle.machine.specs.Fits.{Typed}
 use Rattle.machine.specs.FitTest.{fits}
-use Rattle.machine.specs.Steps.{State}
+use Rattle.machine.specs.Steps.{State, stateOf}
 use Rattle.machine.proofs.FitTests.{fits-exactly}
 use Rattle.thread.specs.declared.Thread.{Thread}
 use Rattle.survey.specs.InnerRecords.{surveyOf}
@@ -21,7 +21,6 @@ use Rattle.survey.proofs.Exact.{survey-fits}
 use Rattle.progress.specs.InnerProgress.{beginning, refusalOf, admittedTo}
 use Rattle.progress.specs.declared.Progress.{Progress}
 use Rattle.progress.proofs.Drives.{admits}
-use Rattle.engine.specs.InnerEngine.{stateOf}
 
 -- by the refusal
 by-refusal : (cd : List ℕ) (s : State) (n c : ℕ) → Typed s → (beginning (refusalOf (readCode cd) (fits cd s) n) c n .limit ≤ n) × (0 < beginning (refusalOf (readCode cd) (fits cd s) n) c n .limit → length (s .threads) ≡ 16)

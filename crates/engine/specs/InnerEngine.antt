@@ -10,8 +10,7 @@ use lib.ListN.{getD}
 use Rattle.thread.specs.declared.Thread.{Thread}
 use Rattle.thread.specs.Threads.{blank, spawned}
 use Rattle.machine.specs.Fits.{TypedThread, RangedThread}
-use Rattle.machine.specs.Steps.{State}
-use Rattle.machine.specs.Answers.{Returned}
+use Rattle.machine.specs.Steps.{stateOf}
 use Rattle.progress.specs.InnerProgress.{Driven, admittedTo}
 use Rattle.progress.specs.declared.Progress.{Progress}
 use Rattle.survey.specs.declared.Survey.{Survey}
@@ -48,17 +47,9 @@ laid end limit ts = overwritten (λ i. recordOf i end) limit 0 ts
 unfoldable pub cleared : (limit : ℕ) → List ℤ → List ℤ
 cleared limit rs = overwritten (λ _. pos 0) limit 0 rs
 
--- registers and records as a state
-abbrev pub stateOf : List ℤ → List Thread → State
-stateOf rs ts = record { registers = rs; threads = ts }
-
--- and with what is carried from pick to pick
+-- a state with what is carried from pick to pick
 abbrev pub drove : List ℤ → List Thread → Progress → Driven
 drove rs ts p = record { state = stateOf rs ts; progress = p }
-
--- what a call leaves and answers
-abbrev pub returned : {Reply : Type 0} → List ℤ → List Thread → Reply → Returned Reply
-returned rs ts reply = record { state = stateOf rs ts; reply = reply }
 
 -- with what a call begins, and that its code is of bytes
 pub record Admitted (code : List ℕ) (survey : Survey) (registers picks : ℕ) (r : Progress) : Type 0 where

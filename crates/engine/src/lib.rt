@@ -2,8 +2,9 @@
 ghost use Prim.Native.Nat.{_<_, _≤_};
 ghost use mathlib.Core.Path.{_≡_};
 ghost use lib.ListN.{getD, length};
-ghost use Rattle.engine.specs.InnerEngine.{Admitted, Gathered, cleared, drove, laid, leastOf, recordOf, returned, stateOf};
-ghost use Rattle.machine.specs.Answers.{runCall};
+ghost use Rattle.engine.specs.InnerEngine.{Admitted, Gathered, cleared, drove, laid, leastOf, recordOf};
+ghost use Rattle.machine.specs.Answers.{answered, runCall};
+ghost use Rattle.machine.specs.Steps.{stateOf};
 ghost use Rattle.progress.specs.InnerProgress.{driven, drivenBy, pickedBy, whichOf};
 ghost use Rattle.thread.specs.Threads.{blank, spawned};
 
@@ -156,13 +157,14 @@ fn admit(code: &[u8], survey: survey::Survey, registers: usize, picks: usize) ->
 }
 
 // The picks of a list, one after the other: for slices of any length.
-pub fn run(
+#[no_mangle]
+pub extern "C" fn kuspigo_run(
     code: &[u8],
     registers: &mut [i32],
     threads: &mut [thread::Thread],
     picks: &[u8],
 ) -> machine::RunReply
-    ensures { λ r. ⌜ returned (now (registers .exit)) (now (threads .exit)) r ≡ runCall (now (code .entry)) (stateOf (now (registers .entry)) (now (threads .entry))) (now (picks .entry)) ⌝ }
+    ensures { λ r. ⌜ answered (now (registers .exit)) (now (threads .exit)) r ≡ runCall (now (code .entry)) (stateOf (now (registers .entry)) (now (threads .entry))) (now (picks .entry)) ⌝ }
 {
     let s = gather(threads);
     let p = admit(code, s, registers.len(), picks.len());

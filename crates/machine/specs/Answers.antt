@@ -4,12 +4,14 @@ use mathlib.Core.Bool.{not, _&&_}
 use mathlib.Core.Path.{_≡_}
 use mathlib.Core.List.{List}
 use lib.Dec.{eqb, ltb}
+use lib.IntN.{ℤ}
 use lib.ListN.{length}
 use Rattle.machine.specs.declared.FreshReply.{FreshReply}
 use Rattle.machine.specs.declared.StepReply.{StepReply}
 use Rattle.machine.specs.declared.RunReply.{RunReply}
+use Rattle.thread.specs.declared.Thread.{Thread}
 use Rattle.stm.specs.Events.{Event, more, Counts, uncounted, countsOf, eventNumber, eventRegister, turnNumber, eventOf}
-use Rattle.machine.specs.Steps.{State, Stepped, pick, fresh, Ran, run}
+use Rattle.machine.specs.Steps.{State, stateOf, Stepped, pick, fresh, Ran, run}
 use Rattle.machine.specs.Fits.{Fits}
 use Rattle.machine.specs.FitTest.{fits}
 use Rattle.code.specs.Bytes.{IsCode, Foreign}
@@ -81,6 +83,9 @@ runSays r = saying (r .refusal) (r .place) (record { steps = r .steps; idle = r 
 pub record Returned (Reply : Type 0) : Type 0 where
   pub state : State
   pub reply : Reply
+
+abbrev pub answered : {Reply : Type 0} → List ℤ → List Thread → Reply → Returned Reply
+answered rs ts reply = record { state = stateOf rs ts; reply = reply }
 
 -- "A refusal .. alters no lent memory"
 abbrev pub returned : {A Reply : Type 0} → (A → State) → (Outcome A → Reply) → State → Outcome A → Returned Reply

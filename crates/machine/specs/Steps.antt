@@ -20,6 +20,10 @@ pub record State : Type 0 where
   pub registers : List ℤ
   pub threads : List Thread
 
+-- a register table and a run of records, as they are lent
+abbrev pub stateOf : List ℤ → List Thread → State
+stateOf rs ts = record { registers = rs; threads = ts }
+
 -- "Threads are numbered without gaps": the number of threads is the next thread's number
 unfoldable pub numberOf : List Thread → ℕ
 numberOf [] = 0

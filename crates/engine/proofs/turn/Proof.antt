@@ -52,7 +52,8 @@ use Rattle.thread.specs.declared.Thread.{Thread}
 use Rattle.progress.specs.InnerProgress.{whichOf, given as handed, pickedBy, drivenBy}
 use Rattle.progress.specs.declared.Progress.{Progress}
 use Rattle.progress.specs.declared.Picked.{Picked}
-use Rattle.engine.specs.InnerEngine.{stateOf, drove}
+use Rattle.machine.specs.Steps.{stateOf}
+use Rattle.engine.specs.InnerEngine.{drove}
 use Rattle.engine.proofs.Rows.{ThreadR, ProgressR, PickedR, thread-vals, progress-val, progress-vals, picked-val, thread-tells, progress-tells, picked-tells, picked-thread, picked-start, picked-end, picked-seat, picked-progress, thread-makes, progress-makes, thread-typed, progress-typed, picked-typed}
 use Rattle.engine.proofs.Told.{told}
 use Rattle.thread.proofs.Thread as Tt

@@ -1,4 +1,4 @@
--- `engine::run` meets its contract: a walk of its MIR, by hand, with no branch and no loop of its own. The records are lent on to `gather`, to be read, and come back; then registers and records are given to `drive` for good. `admit` and `run_reply` are covered.
+-- `engine::kuspigo_run` meets its contract: a walk of its MIR, by hand, with no branch and no loop of its own. The records are lent on to `gather`, to be read, and come back; then registers and records are given to `drive` for good. `admit` and `run_reply` are covered.
 -- Assumes nothing.
 use mathlib.Core.Path.{_≡_, refl, sym, _∙_, ap, subst}
 use mathlib.Core.Bool.{Bool, true, false, cond}
@@ -44,7 +44,8 @@ use denote.Exit.{yes}
 use borrow.Author.Tests.{eqb-true}
 use Rattle.code.specs.Reader.{readCode}
 use Rattle.script.specs.Bytes.{Bytes}
-use Rattle.machine.specs.Answers.{runCall}
+use Rattle.machine.specs.Answers.{answered, runCall}
+use Rattle.machine.specs.Steps.{stateOf}
 use Rattle.machine.specs.declared.RunReply.{RunReply}
 use Rattle.thread.specs.declared.Thread.{Thread}
 use Rattle.survey.specs.InnerRecords.{surveyOf}
@@ -53,7 +54,7 @@ use Rattle.survey.specs.declared.Survey.{Survey}
 use Rattle.progress.specs.InnerProgress.{admittedTo, admitting, driven, answering, ranBy, runReplyOf}
 use Rattle.progress.specs.declared.Progress.{Progress}
 use Rattle.progress.proofs.Calls.{run-by-value}
-use Rattle.engine.specs.InnerEngine.{Gathered, Admitted, stateOf, drove, returned}
+use Rattle.engine.specs.InnerEngine.{Gathered, Admitted, drove}
 use Rattle.engine.proofs.Within.{within}
 use Rattle.engine.proofs.Reading.{Parked, share-on, share-back}
 use Rattle.engine.proofs.Told.{told, heeded}
@@ -77,10 +78,10 @@ use Rattle.engine.proofs.drive as drive
 use Rattle.engine.proofs.drive.Symbol as drive-def
 use Rattle.engine.proofs.drive.Symbol.{name as #drive}
 use Rattle.engine.proofs.drive.Met as drive-thm
-use Rattle.engine.proofs.run.Key.{name as #run}
-use Rattle.engine.proofs.run as run
-use Rattle.engine.proofs.run.Statement as stated
-use Rattle.engine.proofs.run.Code as code
+use Rattle.engine.proofs.kuspigo_run.Key.{name as #run}
+use Rattle.engine.proofs.kuspigo_run as run
+use Rattle.engine.proofs.kuspigo_run.Statement as stated
+use Rattle.engine.proofs.kuspigo_run.Code as code
 
 -- registers and records are given to `drive` for good
 abbrev stayed : Stays (run.ended .signature .params) (run.ended .kept)
@@ -238,7 +239,7 @@ module _ {M : Type 1} (𝓤 : URA M) (H : Heap 𝓤) (A : Atoms 𝓤) (W : Given
   isfirst v {w = w} g = subst (λ (r : Progress). Is ProgressR r (w ∷ [])) (g .0 .progress) (g .1)
 
   -- the contract's equation
-  meets : (v : Survey) → Gathered ys v → Bytes cd → (p : Progress) (rs′ : List ℤ) (zs : List Thread) → Driven v p rs′ zs → returned rs′ zs (runReplyOf p) ≡ runCall cd (stateOf rs ys) ps
+  meets : (v : Survey) → Gathered ys v → Bytes cd → (p : Progress) (rs′ : List ℤ) (zs : List Thread) → Driven v p rs′ zs → answered rs′ zs (runReplyOf p) ≡ runCall cd (stateOf rs ys) ps
   unfolding ranBy admitting
   meets v g small p rs′ zs f = ap answering f ∙ ap (λ (u : Survey). answering (driven cd (first u .limit) ps (drove rs ys (first u)))) (g .survey) ∙ run-by-value cd (stateOf rs ys) ps small (g .typed)
 
@@ -326,9 +327,9 @@ run-meets 𝓤 H A W mem rn 𝓣 known-gather known-admit known-drive known-answ
     (WpFn 𝓤 H (𝓣 .C) (𝓣 .Λ) code.function) (WpFn-mono 𝓤 H (W .laws) 𝓣 code.function) (run-walks 𝓤 H A W mem rn (𝓣 .C) (𝓣 .Λ) (fmOf 𝓤 H (W .laws) 𝓣) known-gather known-admit known-drive known-answer)
 
 -- the function meets its contract
-pub run-spec : {M : Type 1} → stated.statement M
+pub kuspigo-run-spec : {M : Type 1} → stated.statement M
 unfolding code.routine tablesOf
-run-spec 𝓤 H 𝓜 𝓖 𝓡 =
+kuspigo-run-spec 𝓤 H 𝓜 𝓖 𝓡 =
     entered 𝓤 H (tripleOf 𝓤 H (𝓖 .A) run.signature (run.spec 𝓤 H (𝓖 .A) (𝓜 .mem) (𝓡 .run)))
     (tables 𝓤 H 𝓜 𝓡 code.env .C) (tables 𝓤 H 𝓜 𝓡 code.env .Λ) #run code.function (code.unfolded 𝓤 H 𝓜 𝓡)
     (run-meets 𝓤 H (𝓖 .A) (givenOf 𝓤 H 𝓜 𝓖) (𝓜 .mem) (𝓡 .run) (tablesOf 𝓤 H 𝓜 (tables 𝓤 H 𝓜 𝓡 code.env))
