@@ -1,17 +1,24 @@
 -- Writing over the first of a list: a turn of such a loop, its end, and what comes of it for 16 records and 64 registers. Assumes nothing.
 use Prim.Native.Nat.{ℕ, zero, suc, _+_, _<_, _≤_}
-use mathlib.Core.Bool.{Bool, true, false, cond}
+use mathlib.Core.Bool.{Bool, true, false, cond, not, _&&_}
 use mathlib.Core.Path.{_≡_, refl, sym, ap, _∙_}
 use mathlib.Core.List.{List, [], _∷_}
 use native.Mathlib.Omega.{arith}
 use native.Mathlib.Numerals.{add-one}
-use borrow.Author.Tests.{ltb-true, ltb-false, ne-eqb}
+use borrow.Author.Tests.{ltb-true, ltb-false, eqb-true, ne-eqb}
 use lib.Dec.{eqb, ltb}
 use lib.IntN.{ℤ, pos}
 use lib.ListN.{length, set, replicate}
 use Rattle.thread.specs.declared.Thread.{Thread}
 use Rattle.thread.specs.Threads.{blank, spawned}
-use Rattle.machine.specs.Steps.{stateOf, fresh}
+use Rattle.code.proofs.Foreign.{only-foreign}
+use Rattle.code.specs.Reader.{readCode}
+use Rattle.machine.specs.Answers.{Returned, answered, freshCall, freshOf, freshReply, returned, rightLengths}
+use Rattle.machine.specs.Steps.{State, stateOf, fresh}
+use Rattle.machine.specs.declared.FreshReply.{FreshReply}
+use Rattle.progress.specs.InnerProgress.{freshRefusalOf, freshReplyOf, unlessOf}
+use Rattle.script.specs.Jobs.{Job}
+use Rattle.script.specs.Outcome.{Outcome, refused, done, onward, refuse}
 use Rattle.engine.specs.InnerEngine.{leastOf, overwritten, recordOf, laid, cleared}
 
 -- the lesser of two numbers is at most the first
@@ -121,3 +128,39 @@ pub makes-fresh : (code : List ℕ) (rs : List ℤ) (ts : List Thread) → lengt
 unfolding fresh
 makes-fresh code rs ts h k =
     ap (λ (l : List ℤ). stateOf l (laid (length code) 16 ts)) (cleared-all rs h) ∙ ap (stateOf (replicate 64 (pos 0))) (laid-all (length code) ts k)
+
+module _ (code : List ℕ) (rs : List ℤ) (ts : List Thread) where
+  -- laying down by a refusal
+  abbrev by : ℕ → Returned FreshReply
+  by k = answered (cleared (unlessOf k 64) rs) (laid (length code) (unlessOf k 16) ts) (freshReplyOf k)
+
+  -- the call, by what the code is
+  abbrev called : Outcome Job → Returned FreshReply
+  called o = returned (λ (r : State). r) freshReply (stateOf rs ts) (onward o (λ (j : Job). rightLengths (stateOf rs ts) (done (fresh code))))
+
+  -- a refusal lays nothing down
+  kept : (k : ℕ) → unlessOf k 64 ≡ 0 → unlessOf k 16 ≡ 0 → by k ≡ answered rs ts (freshReplyOf k)
+  kept k a b =
+      ap (λ (n : ℕ). answered (cleared n rs) (laid (length code) (unlessOf k 16) ts) (freshReplyOf k)) a ∙ ap (λ (n : ℕ). answered (cleared 0 rs) (laid (length code) n ts) (freshReplyOf k)) b
+      ∙ ap (λ (l : List ℤ). answered l (laid (length code) 0 ts) (freshReplyOf k)) (cleared-none rs) ∙ ap (λ (l : List Thread). answered rs l (freshReplyOf k)) (laid-none (length code) ts)
+
+  -- of an accepted job's code, by the two tests
+  by-tests : (t u : Bool) → eqb (length ts) 16 ≡ t → eqb (length rs) 64 ≡ u
+      → by (cond t (cond u 0 12) 12) ≡ returned (λ (r : State). r) freshReply (stateOf rs ts) (refuse (not (t && u)) 12 0 (done (fresh code)))
+  unfolding unlessOf
+  by-tests true true e f = ap (λ (z : State). record { state = z; reply = freshReplyOf 0 }) (makes-fresh code rs ts (eqb-true (length rs) 64 f) (eqb-true (length ts) 16 e))
+  by-tests true false e f = kept 12 refl refl
+  by-tests false true e f = kept 12 refl refl
+  by-tests false false e f = kept 12 refl refl
+
+  by-code : (o : Outcome Job) → ((n p : ℕ) → o ≡ refused n p → (n ≡ 11) × (p ≡ 0)) → by (freshRefusalOf o (length rs) (length ts)) ≡ called o
+  unfolding freshRefusalOf unlessOf
+  by-code (refused n p) only =
+      let o = only n p refl in
+      kept 11 refl refl ∙ ap (λ (m : ℕ). answered rs ts (record { refusal = m; place = 0 })) (sym (o .0)) ∙ ap (λ (q : ℕ). answered rs ts (record { refusal = n; place = q })) (sym (o .1))
+  by-code (done j) only = by-tests (eqb (length ts) 16) (eqb (length rs) 64) refl refl
+
+  -- both loops, as far as the refusal lets them, are the call
+  pub fresh-by-value : by (freshRefusalOf (readCode code) (length rs) (length ts)) ≡ freshCall code (stateOf rs ts)
+  unfolding freshCall freshOf
+  fresh-by-value = by-code (readCode code) (only-foreign code)

@@ -36,8 +36,11 @@ use Rattle.progress.proofs.Progress as P
 use Rattle.progress.proofs.Progress.Laws as P′
 use Rattle.progress.proofs.Picked as K
 use Rattle.progress.proofs.Picked.Laws as K′
+use Rattle.machine.specs.declared.FreshReply.{FreshReply}
 use Rattle.machine.specs.declared.RunReply.{RunReply}
 use Rattle.machine.specs.declared.StepReply.{StepReply}
+use Rattle.machine.proofs.FreshReply as X
+use Rattle.machine.proofs.FreshReply.Laws as X′
 use Rattle.machine.proofs.RunReply as Y
 use Rattle.machine.proofs.RunReply.Laws as Y′
 use Rattle.machine.proofs.StepReply as Z
@@ -286,3 +289,27 @@ step-makes 𝓤 H At = LL.makes Z.the-type Z′.the-plain 𝓤 H At
 -- it has its type
 pub step-typed : {M : Type 1} (𝓤 : URA M) (H : Heap 𝓤) (At : Atoms 𝓤) → Given 𝓤 H At → (x : StepReply) (vs : List Val) → Is StepR x vs → Typed (StepR .mir) vs
 step-typed 𝓤 H At W = LL.lawful Z.the-type Z′.the-laws 𝓤 H At W .typed
+
+-- the row of a fresh state's answer
+abbrev pub FreshR : RattleType
+FreshR = X.the-row
+
+-- a fresh state's answer as a machine value
+abbrev pub fresh-val : FreshReply → Val
+fresh-val = LL.val X.the-type X′.the-laws
+
+-- and as a list
+abbrev pub fresh-vals : FreshReply → List Val
+fresh-vals = LL.vals X.the-type X′.the-laws
+
+-- its relation tells it
+pub fresh-tells : Tells FreshR (Is FreshR) fresh-vals
+fresh-tells = LL.tells X.the-type X′.the-laws
+
+-- what it owns is had for nothing
+pub fresh-makes : {M : Type 1} (𝓤 : URA M) (H : Heap 𝓤) (At : Atoms 𝓤) → Makes 𝓤 H At FreshR (Is FreshR)
+fresh-makes 𝓤 H At = LL.makes X.the-type X′.the-plain 𝓤 H At
+
+-- it has its type
+pub fresh-typed : {M : Type 1} (𝓤 : URA M) (H : Heap 𝓤) (At : Atoms 𝓤) → Given 𝓤 H At → (x : FreshReply) (vs : List Val) → Is FreshR x vs → Typed (FreshR .mir) vs
+fresh-typed 𝓤 H At W = LL.lawful X.the-type X′.the-laws 𝓤 H At W .typed

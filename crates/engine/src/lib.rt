@@ -3,13 +3,13 @@ ghost use Prim.Native.Nat.{_<_, _≤_};
 ghost use mathlib.Core.Path.{_≡_};
 ghost use lib.ListN.{getD, length};
 ghost use Rattle.engine.specs.InnerEngine.{Admitted, Gathered, cleared, drove, laid, leastOf, recordOf};
-ghost use Rattle.machine.specs.Answers.{answered, runCall};
+ghost use Rattle.machine.specs.Answers.{answered, freshCall, runCall, stepCall};
 ghost use Rattle.machine.specs.Steps.{stateOf};
 ghost use Rattle.progress.specs.InnerProgress.{driven, drivenBy, pickedBy, whichOf};
 ghost use Rattle.thread.specs.Threads.{blank, spawned};
 
 // The lesser of two numbers.
-fn least(a: usize, b: usize) -> usize
+pub fn least(a: usize, b: usize) -> usize
     ensures { λ r. ⌜ r ≡ leastOf a b ⌝ }
 {
     if a < b {
@@ -156,7 +156,41 @@ fn admit(code: &[u8], survey: survey::Survey, registers: usize, picks: usize) ->
     progress::admitted(code, survey, registers, picks)
 }
 
-// The picks of a list, one after the other: for slices of any length.
+// A fresh state for the code, laid down over whatever the registers and records held.
+#[no_mangle]
+pub extern "C" fn kuspigo_fresh(
+    code: &[u8],
+    registers: &mut [i32],
+    threads: &mut [thread::Thread],
+) -> machine::FreshReply
+    ensures { λ r. ⌜ answered (now (registers .exit)) (now (threads .exit)) r ≡ freshCall (now (code .entry)) (stateOf (now (registers .entry)) (now (threads .entry))) ⌝ }
+{
+    let refusal = progress::fresh_refusal(code, registers.len(), threads.len());
+    let records = progress::unless(refusal, 16);
+    lay(threads, code.len(), records);
+    let cells = progress::unless(refusal, 64);
+    clear(registers, cells);
+    progress::fresh_reply(refusal)
+}
+
+// One pick.
+#[no_mangle]
+pub extern "C" fn kuspigo_step(
+    code: &[u8],
+    registers: &mut [i32],
+    threads: &mut [thread::Thread],
+    pick: u8,
+) -> machine::StepReply
+    ensures { λ r. ⌜ answered (now (registers .exit)) (now (threads .exit)) r ≡ stepCall (now (code .entry)) (stateOf (now (registers .entry)) (now (threads .entry))) pick ⌝ }
+{
+    let s = gather(threads);
+    let p = admit(code, s, registers.len(), 1);
+    let picks = [pick];
+    let q = drive(code, registers, threads, &picks, p);
+    q.step_reply()
+}
+
+// A list of picks, one after the other.
 #[no_mangle]
 pub extern "C" fn kuspigo_run(
     code: &[u8],

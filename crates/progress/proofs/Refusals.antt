@@ -1,9 +1,9 @@
 -- Which refusal a call has, by what the scan of its code says. Assumes nothing.
 use Prim.Native.Nat.{ℕ}
-use mathlib.Core.Bool.{Bool, true, false}
+use mathlib.Core.Bool.{Bool, true, false, cond}
 use mathlib.Core.Path.{_≡_, refl, sym, ap, _∙_}
 use lib.Dec.{ltb, eqb}
-use Rattle.progress.specs.InnerProgress.{refusalOf, beginning}
+use Rattle.progress.specs.InnerProgress.{refusalOf, freshRefusalOf, beginning}
 use Rattle.progress.specs.declared.Progress.{Progress}
 use Rattle.scan.specs.Answer.{told}
 use Rattle.scan.specs.declared.Scanned.{Scanned}
@@ -16,6 +16,11 @@ pub foreign : (o : Outcome Job) (fit : Bool) (picks n p : ℕ) (s : Scanned) →
 unfolding refusalOf
 foreign (refused n′ p′) fit picks n p s a b = refl
 foreign (done j) fit picks n p s a b = absurd (let z : _≡_ {A = ℕ} 0 1 = cc in omega arith)
+
+pub fresh-foreign : (o : Outcome Job) (registers records n p : ℕ) (s : Scanned) → s ≡ told o → s ≡ scanned.Refused n p → 11 ≡ freshRefusalOf o registers records
+unfolding freshRefusalOf
+fresh-foreign (refused n′ p′) registers records n p s a b = refl
+fresh-foreign (done j) registers records n p s a b = absurd (let z : _≡_ {A = ℕ} 0 1 = cc in omega arith)
 
 module _ (o : Outcome Job) (v n l : ℕ) (s : Scanned) (a : s ≡ told o) (b : s ≡ scanned.Job v n l) where
   job-first : (x : Outcome Job) → s ≡ told x → (fit : Bool) (picks : ℕ) → fit ≡ false → 12 ≡ refusalOf x fit picks
@@ -41,6 +46,14 @@ module _ (o : Outcome Job) (v n l : ℕ) (s : Scanned) (a : s ≡ told o) (b : s
 
   pub none : (fit : Bool) (picks : ℕ) → fit ≡ true → ltb 32768 picks ≡ false → 0 ≡ refusalOf o fit picks
   none fit picks e f = job-none o a fit picks e f
+
+  job-fresh : (x : Outcome Job) → s ≡ told x → (registers records k : ℕ) → cond (eqb records 16) (cond (eqb registers 64) 0 12) 12 ≡ k → k ≡ freshRefusalOf x registers records
+  unfolding freshRefusalOf
+  job-fresh (refused n′ p′) a registers records k e = absurd (let z : _≡_ {A = ℕ} 0 1 = cc in omega arith)
+  job-fresh (done j) a registers records k e = sym e
+
+  pub fresh-job : (registers records k : ℕ) → cond (eqb records 16) (cond (eqb registers 64) 0 12) 12 ≡ k → k ≡ freshRefusalOf o registers records
+  fresh-job registers records k e = job-fresh o a registers records k e
 
 -- the progress with which a call begins
 pub begins : (refusal threads picks x : ℕ) → refusal ≡ x → x ≡ 0 → _≡_ {A = Progress} (record { threads = threads; limit = picks; refusal = refusal; steps = 0; idle = 0; commits = 0; back = 0; event = 0; register = 0; turn = 0 }) (beginning x threads picks)

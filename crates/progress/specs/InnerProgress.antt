@@ -12,6 +12,7 @@ use Rattle.progress.specs.declared.Progress.{Progress}
 use Rattle.machine.specs.Answers.{Returned}
 use Rattle.machine.specs.InnerTally as tally
 use Rattle.machine.specs.Steps.{State, threadAt}
+use Rattle.machine.specs.declared.FreshReply.{FreshReply}
 use Rattle.machine.specs.declared.RunReply.{RunReply}
 use Rattle.machine.specs.declared.StepReply.{StepReply}
 use Rattle.script.specs.Outcome.{Outcome, refused, done}
@@ -81,6 +82,15 @@ unfoldable pub refusalOf : Outcome Job → (fitting : Bool) (picks : ℕ) → �
 refusalOf (refused number place) fitting picks = 11
 refusalOf (done j) fitting picks = cond fitting (cond (ltb 32768 picks) 13 0) 12
 
+-- the refusal of laying down a fresh state over so many registers and records
+unfoldable pub freshRefusalOf : Outcome Job → (registers records : ℕ) → ℕ
+freshRefusalOf (refused number place) registers records = 11
+freshRefusalOf (done j) registers records = cond (eqb records 16) (cond (eqb registers 64) 0 12) 12
+
+-- so many, unless the call is refused
+unfoldable pub unlessOf : (refusal n : ℕ) → ℕ
+unlessOf refusal n = cond (eqb refusal 0) n 0
+
 -- the progress with which a call begins
 unfoldable pub beginning : (refusal threads picks : ℕ) → Progress
 beginning refusal threads picks =
@@ -101,6 +111,9 @@ abbrev pub admittedTo : Outcome Job → (fitting : Bool) (threads picks : ℕ) �
 admittedTo read fitting threads picks = beginning (refusalOf read fitting picks) threads picks
 
 -- the answers
+abbrev pub freshReplyOf : (refusal : ℕ) → FreshReply
+freshReplyOf refusal = record { refusal = refusal; place = 0 }
+
 abbrev pub stepReplyOf : Progress → StepReply
 stepReplyOf p = record { refusal = p .refusal; place = 0; event = p .event; register = p .register; turn = p .turn }
 

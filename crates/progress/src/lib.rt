@@ -3,7 +3,7 @@ ghost use mathlib.Core.Path.{_≡_};
 ghost use lib.Dec.{eqb};
 ghost use lib.ListN.{length};
 ghost use Rattle.code.specs.Reader.{readCode};
-ghost use Rattle.progress.specs.InnerProgress.{admittedTo, advancedTo, given, moreTo, pickedBy, refusalOf, runReplyOf, seatOf, stepReplyOf, whichOf};
+ghost use Rattle.progress.specs.InnerProgress.{admittedTo, advancedTo, freshRefusalOf, freshReplyOf, given, moreTo, pickedBy, refusalOf, runReplyOf, seatOf, stepReplyOf, unlessOf, whichOf};
 ghost use Rattle.survey.specs.InnerWalk.{surveyFits};
 
 // The number of threads, how many picks are to be done, document 01's number of the refusal, 0 if there is none, the counts so far, and what
@@ -158,6 +158,41 @@ fn refusal(code: &[u8], survey: survey::Survey, registers: usize, picks: usize) 
             0
         }
     }
+}
+
+// Which refusal laying down a fresh state has: 0 if none.
+pub fn fresh_refusal(code: &[u8], registers: usize, records: usize) -> usize
+    ensures { λ r. ⌜ r ≡ freshRefusalOf (readCode (now (code .entry))) registers records ⌝ }
+{
+    match scan::scan_code(code) {
+        scan::Scanned::Refused(_, _) => 11,
+        scan::Scanned::Job(_, _, _) => {
+            if records != 16 {
+                return 12;
+            }
+            if registers != 64 {
+                return 12;
+            }
+            0
+        }
+    }
+}
+
+// So many, unless the call is refused: then none.
+pub fn unless(refusal: usize, n: usize) -> usize
+    ensures { λ r. ⌜ r ≡ unlessOf refusal n ⌝ }
+{
+    if refusal == 0 {
+        return n;
+    }
+    0
+}
+
+// The answer of `fresh`.
+pub fn fresh_reply(refusal: usize) -> machine::FreshReply
+    ensures { λ r. ⌜ r ≡ freshReplyOf refusal ⌝ }
+{
+    machine::FreshReply { refusal, place: 0 }
 }
 
 // The progress with which a call begins: no pick is to be done if it is refused.
