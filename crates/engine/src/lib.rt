@@ -9,7 +9,7 @@ ghost use Rattle.progress.specs.InnerProgress.{driven, drivenBy, pickedBy, whic
 ghost use Rattle.thread.specs.Threads.{blank, spawned};
 
 // The lesser of two numbers.
-fn least(a: usize, b: usize) -> usize
+pub fn least(a: usize, b: usize) -> usize
     ensures { λ r. ⌜ r ≡ leastOf a b ⌝ }
 {
     if a < b {
