@@ -1,0 +1,2 @@
+-- What a call on an owned state comes to.
+pub mod Owned
