@@ -14,7 +14,7 @@ use Rattle.thread.specs.Threads.{blank, spawned}
 use Rattle.code.proofs.Foreign.{only-foreign}
 use Rattle.code.specs.Reader.{readCode}
 use Rattle.machine.specs.Answers.{Returned, answered, freshCall, freshOf, freshReply, returned, rightLengths}
-use Rattle.machine.specs.Steps.{State, stateOf, fresh}
+use Rattle.machine.specs.Steps.{State, stateFrom, fresh}
 use Rattle.machine.specs.declared.FreshReply.{FreshReply}
 use Rattle.progress.specs.InnerProgress.{freshRefusalOf, freshReplyOf, unlessOf}
 use Rattle.script.specs.Jobs.{Job}
@@ -124,10 +124,10 @@ unfolding cleared
 cleared-none rs = overwritten-none (λ _. pos 0) rs
 
 -- both loops together make 64 registers and 16 records the fresh state
-pub makes-fresh : (code : List ℕ) (rs : List ℤ) (ts : List Thread) → length rs ≡ 64 → length ts ≡ 16 → stateOf (cleared 64 rs) (laid (length code) 16 ts) ≡ fresh code
+pub makes-fresh : (code : List ℕ) (rs : List ℤ) (ts : List Thread) → length rs ≡ 64 → length ts ≡ 16 → stateFrom (cleared 64 rs) (laid (length code) 16 ts) ≡ fresh code
 unfolding fresh
 makes-fresh code rs ts h k =
-    ap (λ (l : List ℤ). stateOf l (laid (length code) 16 ts)) (cleared-all rs h) ∙ ap (stateOf (replicate 64 (pos 0))) (laid-all (length code) ts k)
+    ap (λ (l : List ℤ). stateFrom l (laid (length code) 16 ts)) (cleared-all rs h) ∙ ap (stateFrom (replicate 64 (pos 0))) (laid-all (length code) ts k)
 
 module _ (code : List ℕ) (rs : List ℤ) (ts : List Thread) where
   -- laying down by a refusal
@@ -136,7 +136,7 @@ module _ (code : List ℕ) (rs : List ℤ) (ts : List Thread) where
 
   -- the call, by what the code is
   abbrev called : Outcome Job → Returned FreshReply
-  called o = returned (λ (r : State). r) freshReply (stateOf rs ts) (onward o (λ (j : Job). rightLengths (stateOf rs ts) (done (fresh code))))
+  called o = returned (λ (r : State). r) freshReply (stateFrom rs ts) (onward o (λ (j : Job). rightLengths (stateFrom rs ts) (done (fresh code))))
 
   -- a refusal lays nothing down
   kept : (k : ℕ) → unlessOf k 64 ≡ 0 → unlessOf k 16 ≡ 0 → by k ≡ answered rs ts (freshReplyOf k)
@@ -146,7 +146,7 @@ module _ (code : List ℕ) (rs : List ℤ) (ts : List Thread) where
 
   -- of an accepted job's code, by the two tests
   by-tests : (t u : Bool) → eqb (length ts) 16 ≡ t → eqb (length rs) 64 ≡ u
-      → by (cond t (cond u 0 12) 12) ≡ returned (λ (r : State). r) freshReply (stateOf rs ts) (refuse (not (t && u)) 12 0 (done (fresh code)))
+      → by (cond t (cond u 0 12) 12) ≡ returned (λ (r : State). r) freshReply (stateFrom rs ts) (refuse (not (t && u)) 12 0 (done (fresh code)))
   unfolding unlessOf
   by-tests true true e f = ap (λ (z : State). record { state = z; reply = freshReplyOf 0 }) (makes-fresh code rs ts (eqb-true (length rs) 64 f) (eqb-true (length ts) 16 e))
   by-tests true false e f = kept 12 refl refl
@@ -161,6 +161,6 @@ module _ (code : List ℕ) (rs : List ℤ) (ts : List Thread) where
   by-code (done j) only = by-tests (eqb (length ts) 16) (eqb (length rs) 64) refl refl
 
   -- both loops, as far as the refusal lets them, are the call
-  pub fresh-by-value : by (freshRefusalOf (readCode code) (length rs) (length ts)) ≡ freshCall code (stateOf rs ts)
+  pub fresh-by-value : by (freshRefusalOf (readCode code) (length rs) (length ts)) ≡ freshCall code (stateFrom rs ts)
   unfolding freshCall freshOf
   fresh-by-value = by-code (readCode code) (only-foreign code)

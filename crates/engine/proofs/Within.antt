@@ -11,7 +11,7 @@ use lib.ListN.{length}
 use Rattle.code.specs.Reader.{readCode}
 use Rattle.machine.specs.Fits.{Typed}
 use Rattle.machine.specs.FitTest.{fits}
-use Rattle.machine.specs.Steps.{State, stateOf}
+use Rattle.machine.specs.Steps.{State, stateFrom}
 use Rattle.machine.proofs.FitTests.{fits-exactly}
 use Rattle.thread.specs.declared.Thread.{Thread}
 use Rattle.survey.specs.InnerRecords.{surveyOf}
@@ -32,9 +32,9 @@ by-refusal cd s n c y = go (eqb (refusalOf (readCode cd) (fits cd s) n) 0) refl
     go false e = (omega arith, λ h. omega (arith, h))
 
 -- by the survey of the records
-pub within : (cd : List ℕ) (rs : List ℤ) (ys : List Thread) (n : ℕ) (v : Survey) → v ≡ surveyOf ys → Typed (stateOf rs ys)
+pub within : (cd : List ℕ) (rs : List ℤ) (ys : List Thread) (n : ℕ) (v : Survey) → v ≡ surveyOf ys → Typed (stateFrom rs ys)
     → (admittedTo (readCode cd) (surveyFits v cd (length rs)) (v .count) n .limit ≤ n) × (0 < admittedTo (readCode cd) (surveyFits v cd (length rs)) (v .count) n .limit → length ys ≡ 16)
-within cd rs ys n v e y = subst (λ (p : Progress). (p .limit ≤ n) × (0 < p .limit → length ys ≡ 16)) (sym same) (by-refusal cd (stateOf rs ys) n (surveyOf ys .count) y)
+within cd rs ys n v e y = subst (λ (p : Progress). (p .limit ≤ n) × (0 < p .limit → length ys ≡ 16)) (sym same) (by-refusal cd (stateFrom rs ys) n (surveyOf ys .count) y)
   where
-    same : admittedTo (readCode cd) (surveyFits v cd (length rs)) (v .count) n ≡ beginning (refusalOf (readCode cd) (fits cd (stateOf rs ys)) n) (surveyOf ys .count) n
-    same = ap (λ (u : Survey). admittedTo (readCode cd) (surveyFits u cd (length rs)) (u .count) n) e ∙ ap (λ (b : Bool). beginning (refusalOf (readCode cd) b n) (surveyOf ys .count) n) (survey-fits cd (stateOf rs ys))
+    same : admittedTo (readCode cd) (surveyFits v cd (length rs)) (v .count) n ≡ beginning (refusalOf (readCode cd) (fits cd (stateFrom rs ys)) n) (surveyOf ys .count) n
+    same = ap (λ (u : Survey). admittedTo (readCode cd) (surveyFits u cd (length rs)) (u .count) n) e ∙ ap (λ (b : Bool). beginning (refusalOf (readCode cd) b n) (surveyOf ys .count) n) (survey-fits cd (stateFrom rs ys))

@@ -10,7 +10,7 @@ use lib.ListN.{getD}
 use Rattle.thread.specs.declared.Thread.{Thread}
 use Rattle.thread.specs.Threads.{blank, spawned}
 use Rattle.machine.specs.Fits.{TypedThread, RangedThread}
-use Rattle.machine.specs.Steps.{stateOf}
+use Rattle.machine.specs.Steps.{stateFrom}
 use Rattle.progress.specs.InnerProgress.{Driven, admittedTo}
 use Rattle.progress.specs.declared.Progress.{Progress}
 use Rattle.survey.specs.declared.Survey.{Survey}
@@ -49,7 +49,7 @@ cleared limit rs = overwritten (λ _. pos 0) limit 0 rs
 
 -- a state with what is carried from pick to pick
 abbrev pub drove : List ℤ → List Thread → Progress → Driven
-drove rs ts p = record { state = stateOf rs ts; progress = p }
+drove rs ts p = record { state = stateFrom rs ts; progress = p }
 
 -- with what a call begins, and that its code is of bytes
 pub record Admitted (code : List ℕ) (survey : Survey) (registers picks : ℕ) (r : Progress) : Type 0 where

@@ -4,7 +4,7 @@ ghost use mathlib.Core.Path.{_≡_};
 ghost use lib.ListN.{getD, length};
 ghost use Rattle.engine.specs.InnerEngine.{Admitted, Gathered, cleared, drove, laid, leastOf, recordOf};
 ghost use Rattle.machine.specs.Answers.{answered, freshCall, runCall, stepCall};
-ghost use Rattle.machine.specs.Steps.{stateOf};
+ghost use Rattle.machine.specs.Steps.{stateFrom};
 ghost use Rattle.progress.specs.InnerProgress.{driven, drivenBy, pickedBy, whichOf};
 ghost use Rattle.thread.specs.Threads.{blank, spawned};
 
@@ -106,7 +106,7 @@ fn turn(
     p: progress::Progress,
 ) -> progress::Progress
     requires { ⌜ whichOf pick < length (now threads) ⌝ }
-    ensures { λ r. ⌜ drove (now (registers .exit)) (now (threads .exit)) r ≡ drivenBy (stateOf (now (registers .entry)) (now (threads .entry))) (whichOf pick) (pickedBy (now (code .entry)) (now (registers .entry)) pick (getD (now (threads .entry)) (whichOf pick) blank) p) ⌝ }
+    ensures { λ r. ⌜ drove (now (registers .exit)) (now (threads .exit)) r ≡ drivenBy (stateFrom (now (registers .entry)) (now (threads .entry))) (whichOf pick) (pickedBy (now (code .entry)) (now (registers .entry)) pick (getD (now (threads .entry)) (whichOf pick) blank) p) ⌝ }
 {
     let who = progress::which(pick);
     let t = threads[who];
@@ -163,7 +163,7 @@ pub extern "C" fn kuspigo_fresh(
     registers: &mut [i32],
     threads: &mut [thread::Thread],
 ) -> machine::FreshReply
-    ensures { λ r. ⌜ answered (now (registers .exit)) (now (threads .exit)) r ≡ freshCall (now (code .entry)) (stateOf (now (registers .entry)) (now (threads .entry))) ⌝ }
+    ensures { λ r. ⌜ answered (now (registers .exit)) (now (threads .exit)) r ≡ freshCall (now (code .entry)) (stateFrom (now (registers .entry)) (now (threads .entry))) ⌝ }
 {
     let refusal = progress::fresh_refusal(code, registers.len(), threads.len());
     let records = progress::unless(refusal, 16);
@@ -181,7 +181,7 @@ pub extern "C" fn kuspigo_step(
     threads: &mut [thread::Thread],
     pick: u8,
 ) -> machine::StepReply
-    ensures { λ r. ⌜ answered (now (registers .exit)) (now (threads .exit)) r ≡ stepCall (now (code .entry)) (stateOf (now (registers .entry)) (now (threads .entry))) pick ⌝ }
+    ensures { λ r. ⌜ answered (now (registers .exit)) (now (threads .exit)) r ≡ stepCall (now (code .entry)) (stateFrom (now (registers .entry)) (now (threads .entry))) pick ⌝ }
 {
     let s = gather(threads);
     let p = admit(code, s, registers.len(), 1);
@@ -198,7 +198,7 @@ pub extern "C" fn kuspigo_run(
     threads: &mut [thread::Thread],
     picks: &[u8],
 ) -> machine::RunReply
-    ensures { λ r. ⌜ answered (now (registers .exit)) (now (threads .exit)) r ≡ runCall (now (code .entry)) (stateOf (now (registers .entry)) (now (threads .entry))) (now (picks .entry)) ⌝ }
+    ensures { λ r. ⌜ answered (now (registers .exit)) (now (threads .exit)) r ≡ runCall (now (code .entry)) (stateFrom (now (registers .entry)) (now (threads .entry))) (now (picks .entry)) ⌝ }
 {
     let s = gather(threads);
     let p = admit(code, s, registers.len(), picks.len());

@@ -11,7 +11,7 @@ use Rattle.machine.specs.declared.StepReply.{StepReply}
 use Rattle.machine.specs.declared.RunReply.{RunReply}
 use Rattle.thread.specs.declared.Thread.{Thread}
 use Rattle.stm.specs.Events.{Event, more, Counts, uncounted, countsOf, eventNumber, eventRegister, turnNumber, eventOf}
-use Rattle.machine.specs.Steps.{State, stateOf, Stepped, pick, fresh, Ran, run}
+use Rattle.machine.specs.Steps.{State, stateFrom, Stepped, pick, fresh, Ran, run}
 use Rattle.machine.specs.Fits.{Fits}
 use Rattle.machine.specs.FitTest.{fits}
 use Rattle.code.specs.Bytes.{IsCode, Foreign}
@@ -85,7 +85,7 @@ pub record Returned (Reply : Type 0) : Type 0 where
   pub reply : Reply
 
 abbrev pub answered : {Reply : Type 0} → List ℤ → List Thread → Reply → Returned Reply
-answered rs ts reply = record { state = stateOf rs ts; reply = reply }
+answered rs ts reply = record { state = stateFrom rs ts; reply = reply }
 
 -- "A refusal .. alters no lent memory"
 abbrev pub returned : {A Reply : Type 0} → (A → State) → (Outcome A → Reply) → State → Outcome A → Returned Reply

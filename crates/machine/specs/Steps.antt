@@ -21,8 +21,8 @@ pub record State : Type 0 where
   pub threads : List Thread
 
 -- a register table and a run of records, as they are lent
-abbrev pub stateOf : List ℤ → List Thread → State
-stateOf rs ts = record { registers = rs; threads = ts }
+abbrev pub stateFrom : List ℤ → List Thread → State
+stateFrom rs ts = record { registers = rs; threads = ts }
 
 -- "Threads are numbered without gaps": the number of threads is the next thread's number
 unfoldable pub numberOf : List Thread → ℕ

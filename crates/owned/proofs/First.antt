@@ -9,7 +9,7 @@ use lib.IntN.{ℤ}
 use lib.ListN.{length, take, drop, drop-of-length-le}
 use borrow.Author.Tests.{ltb-false}
 use Rattle.machine.specs.Answers.{Returned, answered}
-use Rattle.machine.specs.Steps.{State, stateOf}
+use Rattle.machine.specs.Steps.{State, stateFrom}
 use Rattle.thread.specs.declared.Thread.{Thread}
 use Rattle.engine.specs.InnerEngine.{leastOf}
 use Rattle.owned.specs.Owned.{onFirst}
@@ -48,9 +48,9 @@ module _ {A : Type 0} where
 
 -- a call that is lent the first of N registers and the first of K records, as far as there are so many, comes to what `onFirst` says
 pub on-first : {Reply : Type 0} (call : State → Returned Reply) (cells records N K : ℕ) (rs : List ℤ) (ts : List Thread) → length rs ≡ N → length ts ≡ K → (rs′ : List ℤ) (zs : List Thread) (reply : Reply)
-    → answered rs′ zs reply ≡ call (stateOf (take (leastOf cells N) rs) (take (leastOf records K) ts))
+    → answered rs′ zs reply ≡ call (stateFrom (take (leastOf cells N) rs) (take (leastOf records K) ts))
     → answered (rs′ ++ drop (leastOf cells N) rs) (zs ++ drop (leastOf records K) ts) reply ≡ onFirst cells records call rs ts
 on-first {Reply} call cells records N K rs ts er et rs′ zs reply f =
     ap (λ (r : Returned Reply). answered (r .state .registers ++ drop (leastOf cells N) rs) (r .state .threads ++ drop (leastOf records K) ts) (r .reply)) f ∙
-    (λ i. let r = call (stateOf (first-least cells N rs er i) (first-least records K ts et i)) in
+    (λ i. let r = call (stateFrom (first-least cells N rs er i) (first-least records K ts et i)) in
     answered (r .state .registers ++ rest-least cells N rs er i) (r .state .threads ++ rest-least records K ts et i) (r .reply))

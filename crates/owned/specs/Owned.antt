@@ -4,11 +4,11 @@ use mathlib.Core.List.{List, _++_}
 use lib.IntN.{ℤ}
 use lib.ListN.{take, drop}
 use Rattle.machine.specs.Answers.{Returned, answered}
-use Rattle.machine.specs.Steps.{State, stateOf}
+use Rattle.machine.specs.Steps.{State, stateFrom}
 use Rattle.thread.specs.declared.Thread.{Thread}
 
 -- a call that is lent the first `cells` registers and the first `records` records: the others are as they were
 abbrev pub onFirst : {Reply : Type 0} → (cells records : ℕ) → (State → Returned Reply) → List ℤ → List Thread → Returned Reply
 onFirst cells records call rs ts =
-    let r = call (stateOf (take cells rs) (take records ts)) in
+    let r = call (stateFrom (take cells rs) (take records ts)) in
     answered (r .state .registers ++ drop cells rs) (r .state .threads ++ drop records ts) (r .reply)

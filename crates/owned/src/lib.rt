@@ -1,8 +1,67 @@
 // The calls on a state that is owned: registers and records by value, of which the first so many are lent, all of them handed back. Whoever
 // calls these needs no proof over lent records.
 ghost use mathlib.Core.Path.{_≡_};
-ghost use Rattle.machine.specs.Answers.{answered, runCall};
+ghost use Rattle.machine.specs.Answers.{answered, freshCall, runCall, stepCall};
 ghost use Rattle.owned.specs.Owned.{onFirst};
+
+// What `fresh` leaves and answers.
+pub struct Laid {
+    pub registers: [i32; 65],
+    pub threads: [thread::Thread; 17],
+    pub reply: machine::FreshReply,
+}
+
+// A fresh state.
+pub fn fresh(
+    code: &[u8],
+    registers: [i32; 65],
+    cells: usize,
+    threads: [thread::Thread; 17],
+    records: usize,
+) -> Laid
+    ensures { λ r. ⌜ answered (r .registers) (r .threads) (r .reply) ≡ onFirst cells records (λ s. freshCall (now (code .entry)) s) registers threads ⌝ }
+{
+    let mut rs = registers;
+    let mut ts = threads;
+    let n = engine::least(cells, 65);
+    let m = engine::least(records, 17);
+    let reply = engine::kuspigo_fresh(code, &mut rs[..n], &mut ts[..m]);
+    Laid {
+        registers: rs,
+        threads: ts,
+        reply,
+    }
+}
+
+// What `step` leaves and answers.
+pub struct Stepped {
+    pub registers: [i32; 65],
+    pub threads: [thread::Thread; 17],
+    pub reply: machine::StepReply,
+}
+
+// One pick.
+pub fn step(
+    code: &[u8],
+    registers: [i32; 65],
+    cells: usize,
+    threads: [thread::Thread; 17],
+    records: usize,
+    pick: u8,
+) -> Stepped
+    ensures { λ r. ⌜ answered (r .registers) (r .threads) (r .reply) ≡ onFirst cells records (λ s. stepCall (now (code .entry)) s pick) registers threads ⌝ }
+{
+    let mut rs = registers;
+    let mut ts = threads;
+    let n = engine::least(cells, 65);
+    let m = engine::least(records, 17);
+    let reply = engine::kuspigo_step(code, &mut rs[..n], &mut ts[..m], pick);
+    Stepped {
+        registers: rs,
+        threads: ts,
+        reply,
+    }
+}
 
 // What `run` leaves and answers.
 pub struct Ran {

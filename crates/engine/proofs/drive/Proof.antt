@@ -51,7 +51,7 @@ use Rattle.thread.specs.Threads.{blank}
 use Rattle.thread.specs.declared.Thread.{Thread}
 use Rattle.progress.specs.InnerProgress.{whichOf, pickedBy, drivenBy, Driven, driven}
 use Rattle.progress.specs.declared.Progress.{Progress}
-use Rattle.machine.specs.Steps.{stateOf, threadAt}
+use Rattle.machine.specs.Steps.{stateFrom, threadAt}
 use Rattle.engine.specs.InnerEngine.{drove}
 use Rattle.engine.proofs.Relend.{Kept, lend-on, back}
 use Rattle.engine.proofs.Told.{told}

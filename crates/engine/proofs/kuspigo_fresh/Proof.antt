@@ -40,7 +40,7 @@ use denote.Triple.Walked.{says, Stays, gave-slice, stay-dropped, walkOf, goes-ga
 use denote.Exit.{yes}
 use Rattle.code.specs.Reader.{readCode}
 use Rattle.machine.specs.Answers.{answered, freshCall}
-use Rattle.machine.specs.Steps.{stateOf}
+use Rattle.machine.specs.Steps.{stateFrom}
 use Rattle.machine.specs.declared.FreshReply.{FreshReply}
 use Rattle.thread.specs.declared.Thread.{Thread}
 use Rattle.progress.specs.InnerProgress.{freshRefusalOf, freshReplyOf, unlessOf}
@@ -220,7 +220,7 @@ module _ {M : Type 1} (𝓤 : URA M) (H : Heap 𝓤) (A : Atoms 𝓤) (W : Given
   Tokens = ‵ (flft κ₀ q₀) ⊛ ‵ (flft κ₁ q₁) ⊛ ‵ (flft κ₂ q₂) ⊛ ‵ ftrue
 
   -- the contract's equation
-  meets : (rs′ : List ℤ) (zs : List Thread) → rs′ ≡ cleared (unlessOf k 64) rs → zs ≡ laid (length cd) (unlessOf k 16) ys → answered rs′ zs (freshReplyOf k) ≡ freshCall cd (stateOf rs ys)
+  meets : (rs′ : List ℤ) (zs : List Thread) → rs′ ≡ cleared (unlessOf k 64) rs → zs ≡ laid (length cd) (unlessOf k 16) ys → answered rs′ zs (freshReplyOf k) ≡ freshCall cd (stateFrom rs ys)
   meets rs′ zs f g = ap (λ (l : List ℤ). answered l zs (freshReplyOf k)) f ∙ ap (λ (l : List Thread). answered (cleared (unlessOf k 64) rs) l (freshReplyOf k)) g ∙ fresh-by-value cd rs ys
 
   -- what is had at the end

@@ -45,7 +45,7 @@ use borrow.Author.Tests.{eqb-true}
 use Rattle.code.specs.Reader.{readCode}
 use Rattle.script.specs.Bytes.{Bytes}
 use Rattle.machine.specs.Answers.{answered, runCall}
-use Rattle.machine.specs.Steps.{stateOf}
+use Rattle.machine.specs.Steps.{stateFrom}
 use Rattle.machine.specs.declared.RunReply.{RunReply}
 use Rattle.thread.specs.declared.Thread.{Thread}
 use Rattle.survey.specs.InnerRecords.{surveyOf}
@@ -239,9 +239,9 @@ module _ {M : Type 1} (𝓤 : URA M) (H : Heap 𝓤) (A : Atoms 𝓤) (W : Given
   isfirst v {w = w} g = subst (λ (r : Progress). Is ProgressR r (w ∷ [])) (g .0 .progress) (g .1)
 
   -- the contract's equation
-  meets : (v : Survey) → Gathered ys v → Bytes cd → (p : Progress) (rs′ : List ℤ) (zs : List Thread) → Driven v p rs′ zs → answered rs′ zs (runReplyOf p) ≡ runCall cd (stateOf rs ys) ps
+  meets : (v : Survey) → Gathered ys v → Bytes cd → (p : Progress) (rs′ : List ℤ) (zs : List Thread) → Driven v p rs′ zs → answered rs′ zs (runReplyOf p) ≡ runCall cd (stateFrom rs ys) ps
   unfolding ranBy admitting
-  meets v g small p rs′ zs f = ap answering f ∙ ap (λ (u : Survey). answering (driven cd (first u .limit) ps (drove rs ys (first u)))) (g .survey) ∙ run-by-value cd (stateOf rs ys) ps small (g .typed)
+  meets v g small p rs′ zs f = ap answering f ∙ ap (λ (u : Survey). answering (driven cd (first u .limit) ps (drove rs ys (first u)))) (g .survey) ∙ run-by-value cd (stateFrom rs ys) ps small (g .typed)
 
   -- what is had at the end is what is to be left
   exits : (v : Survey) → Gathered ys v → Bytes cd → (p : Progress) (rs′ : List ℤ) (zs : List Thread) → Driven v p rs′ zs → length rs′ ≡ length rs → length zs ≡ length ys → Is RunR (runReplyOf p) (run-vals (runReplyOf p))

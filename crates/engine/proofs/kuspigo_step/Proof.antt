@@ -48,7 +48,7 @@ use borrow.Author.Tests.{eqb-true}
 use Rattle.code.specs.Reader.{readCode}
 use Rattle.script.specs.Bytes.{Bytes}
 use Rattle.machine.specs.Answers.{Returned, answered, stepCall}
-use Rattle.machine.specs.Steps.{stateOf}
+use Rattle.machine.specs.Steps.{stateFrom}
 use Rattle.machine.specs.declared.StepReply.{StepReply}
 use Rattle.thread.specs.declared.Thread.{Thread}
 use Rattle.survey.specs.InnerRecords.{surveyOf}
@@ -246,9 +246,9 @@ module _ {M : Type 1} (𝓤 : URA M) (H : Heap 𝓤) (A : Atoms 𝓤) (W : Given
   telling d = record { state = d .state; reply = stepReplyOf (d .progress) }
 
   -- the contract's equation
-  meets : (v : Survey) → Gathered ys v → Bytes cd → (p : Progress) (rs′ : List ℤ) (zs : List Thread) → Drove v p rs′ zs → answered rs′ zs (stepReplyOf p) ≡ stepCall cd (stateOf rs ys) k
+  meets : (v : Survey) → Gathered ys v → Bytes cd → (p : Progress) (rs′ : List ℤ) (zs : List Thread) → Drove v p rs′ zs → answered rs′ zs (stepReplyOf p) ≡ stepCall cd (stateFrom rs ys) k
   unfolding steppedBy admitting
-  meets v g small p rs′ zs f = ap telling f ∙ ap (λ (u : Survey). telling (driven cd (first u .limit) (k ∷ []) (drove rs ys (first u)))) (g .survey) ∙ step-by-value cd (stateOf rs ys) k small (g .typed)
+  meets v g small p rs′ zs f = ap telling f ∙ ap (λ (u : Survey). telling (driven cd (first u .limit) (k ∷ []) (drove rs ys (first u)))) (g .survey) ∙ step-by-value cd (stateFrom rs ys) k small (g .typed)
 
   -- what is had at the end
   abbrev Had : List ℤ → List Thread → List (Item 𝓤)

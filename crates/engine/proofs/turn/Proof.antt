@@ -52,7 +52,7 @@ use Rattle.thread.specs.declared.Thread.{Thread}
 use Rattle.progress.specs.InnerProgress.{whichOf, given as handed, pickedBy, drivenBy}
 use Rattle.progress.specs.declared.Progress.{Progress}
 use Rattle.progress.specs.declared.Picked.{Picked}
-use Rattle.machine.specs.Steps.{stateOf}
+use Rattle.machine.specs.Steps.{stateFrom}
 use Rattle.engine.specs.InnerEngine.{drove}
 use Rattle.engine.proofs.Rows.{ThreadR, ProgressR, PickedR, thread-vals, progress-val, progress-vals, picked-val, thread-tells, progress-tells, picked-tells, picked-thread, picked-start, picked-end, picked-seat, picked-progress, thread-makes, progress-makes, thread-typed, progress-typed, picked-typed}
 use Rattle.engine.proofs.Told.{told}
@@ -218,8 +218,8 @@ module _ {M : Type 1} (𝓤 : URA M) (H : Heap 𝓤) (A : Atoms 𝓤) (W : Given
   seated r = set (put r) (r .seat) (spawned (r .start) (r .end))
 
   -- the contract's equation
-  meets : (r : Picked) (rs′ : List ℤ) (zs : List Thread) → Ensured r rs′ → zs ≡ seated r → drove rs′ zs (r .progress) ≡ drivenBy (stateOf rs ys) who (pickedBy cd rs n e p)
-  meets r rs′ zs f ez = ap (λ (l : List Thread). drove rs′ l (r .progress)) ez ∙ ap (drivenBy (stateOf rs ys) who) f
+  meets : (r : Picked) (rs′ : List ℤ) (zs : List Thread) → Ensured r rs′ → zs ≡ seated r → drove rs′ zs (r .progress) ≡ drivenBy (stateFrom rs ys) who (pickedBy cd rs n e p)
+  meets r rs′ zs f ez = ap (λ (l : List Thread). drove rs′ l (r .progress)) ez ∙ ap (drivenBy (stateFrom rs ys) who) f
 
   -- what is had at the end
   abbrev Had : List ℤ → List Thread → List (Item 𝓤)

@@ -44,7 +44,7 @@ use denote.Triple.Table.{entered, cited}
 use denote.Triple.Walked.{says, Stays, stay-dropped, walkOf, goes-dropped, Walks, ends-at, walked, walk-meets}
 use denote.Exit.{yes}
 use Rattle.machine.specs.Answers.{answered, runCall}
-use Rattle.machine.specs.Steps.{State, stateOf}
+use Rattle.machine.specs.Steps.{State, stateFrom}
 use Rattle.machine.specs.declared.RunReply.{RunReply}
 use Rattle.thread.specs.declared.Thread.{Thread}
 use Rattle.engine.specs.InnerEngine.{leastOf}
@@ -183,7 +183,7 @@ module _ {M : Type 1} (𝓤 : URA M) (H : Heap 𝓤) (A : Atoms 𝓤) (W : Given
 
   -- what it ensures
   abbrev Ensured : RunReply → List ℤ → List Thread → Type 0
-  Ensured r rs′ zs = answered rs′ zs r ≡ runCall cd (stateOf (take n rs) (take m ys)) ps
+  Ensured r rs′ zs = answered rs′ zs r ≡ runCall cd (stateFrom (take n rs) (take m ys)) ps
 
   -- the registers at the end
   abbrev all₁ : List ℤ → List ℤ
