@@ -21,6 +21,11 @@ use Rattle.script.specs.Jobs.{Job}
 use Rattle.script.specs.Outcome.{Outcome, refused, done, onward, refuse}
 use Rattle.engine.specs.InnerEngine.{leastOf, overwritten, recordOf, laid, cleared}
 
+-- a thread whose code is from 0 to 0 is none
+pub unspawned : spawned 0 0 ≡ blank
+unfolding spawned blank
+unspawned = refl
+
 -- the lesser of two numbers is at most the first
 pub least-first : (a b : ℕ) → leastOf a b ≤ a
 unfolding leastOf

@@ -18,8 +18,8 @@ pub fn least(a: usize, b: usize) -> usize
     b
 }
 
-// A thread at the start of its own code.
-fn spawned(start: usize, end: usize) -> thread::Thread
+// A thread at the start of its own code; with 0 and 0 a record of no thread.
+pub fn spawned(start: usize, end: usize) -> thread::Thread
     ensures { λ r. ⌜ r ≡ spawned start end ⌝ }
 {
     thread::Thread {
@@ -44,19 +44,7 @@ fn record_of(i: usize, end: usize) -> thread::Thread
     if i == 0 {
         return spawned(5, end);
     }
-    thread::Thread {
-        start: 0,
-        end: 0,
-        place: 0,
-        height: 0,
-        cells: [0; 64],
-        begin: 0,
-        base: 0,
-        reads: 0,
-        readlog: [0; 64],
-        writes: 0,
-        writelog: [0; 64],
-    }
+    spawned(0, 0)
 }
 
 // The survey of all records.

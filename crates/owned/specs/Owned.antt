@@ -3,8 +3,9 @@ use Prim.Native.Nat.{ℕ}
 use mathlib.Core.List.{List, _++_}
 use lib.IntN.{ℤ}
 use lib.ListN.{take, drop}
-use Rattle.machine.specs.Answers.{Returned, answered}
+use Rattle.machine.specs.Answers.{Returned, answered, freshCall, runCall}
 use Rattle.machine.specs.Steps.{State, stateFrom}
+use Rattle.machine.specs.declared.RunReply.{RunReply}
 use Rattle.thread.specs.declared.Thread.{Thread}
 
 -- a call that is lent the first `cells` registers and the first `records` records: the others are as they were
@@ -12,3 +13,7 @@ abbrev pub onFirst : {Reply : Type 0} → (cells records : ℕ) → (State → R
 onFirst cells records call rs ts =
     let r = call (stateFrom (take cells rs) (take records ts)) in
     answered (r .state .registers ++ drop cells rs) (r .state .threads ++ drop records ts) (r .reply)
+
+-- a fresh state laid down, then a list of picks
+abbrev pub freshlyRun : (code picks : List ℕ) → State → Returned RunReply
+freshlyRun code picks s = runCall code (freshCall code s .state) picks

@@ -1,8 +1,11 @@
 // The calls on a state that is owned: registers and records by value, of which the first so many are lent, all of them handed back. Whoever
 // calls these needs no proof over lent records.
+ghost use lib.IntN.{pos};
+ghost use lib.ListN.{replicate};
 ghost use mathlib.Core.Path.{_≡_};
 ghost use Rattle.machine.specs.Answers.{answered, freshCall, runCall, stepCall};
-ghost use Rattle.owned.specs.Owned.{onFirst};
+ghost use Rattle.owned.specs.Owned.{freshlyRun, onFirst};
+ghost use Rattle.thread.specs.Threads.{blank};
 
 // What `fresh` leaves and answers.
 pub struct Laid {
@@ -91,4 +94,15 @@ pub fn run(
         threads: ts,
         reply,
     }
+}
+
+// A fresh state, and a list of picks on it: 64 registers and 16 records, the one behind them 0.
+pub fn shown(code: &[u8], picks: &[u8]) -> Ran
+    ensures { λ r. ⌜ answered (r .registers) (r .threads) (r .reply) ≡ onFirst 64 16 (freshlyRun (now (code .entry)) (now (picks .entry))) (replicate 65 (pos 0)) (replicate 17 blank) ⌝ }
+{
+    let t = engine::spawned(0, 0);
+    let laid = fresh(code, [0; 65], 64, [t; 17], 16);
+    let rs = laid.registers;
+    let ts = laid.threads;
+    run(code, rs, 64, ts, 16, picks)
 }

@@ -1,9 +1,8 @@
 -- `engine::record_of` meets its contract. Assumes nothing.
-use mathlib.Core.Path.{_≡_, refl}
+use mathlib.Core.Path.{_∙_}
 use borrow.Author.Needs.{needs}
 use borrow.Author.Tests.{ne-eqb}
-use Rattle.thread.specs.Threads.{blank}
-use Rattle.word.specs.Registers as registers
+use Rattle.engine.proofs.Laying.{unspawned}
 use Rattle.engine.specs.InnerEngine.{recordOf}
 use Rattle.engine.proofs.record_of.Statement.{statement}
 use Rattle.engine.proofs.record_of.Tie as tie
@@ -15,6 +14,10 @@ use Rattle.engine.proofs.spawned.Reads as spawned-reads
 spawned-requires : tie.Need-spawned-requires
 spawned-requires c κs = search needs
 
+-- `spawned` asks nothing
+spawned-requires-2 : tie.Need-spawned-requires-2
+spawned-requires-2 c κs = search needs
+
 -- record 0
 returns : tie.Need-returns
 unfolding recordOf
@@ -22,9 +25,9 @@ returns c = rw (c .before .if1 .taken) (c .spawned .ensures)
 
 -- another one
 returns-2 : tie.Need-returns-2
-unfolding recordOf blank registers.none
-returns-2 c = rw (ne-eqb (c .before .args .i) 0 (c .if1 .left))
+unfolding recordOf
+returns-2 c = rw (ne-eqb (c .before .before .args .i) 0 (c .before .if1 .left)) (c .spawned2 .ensures ∙ unspawned)
 
 -- the function meets its contract
 pub record-of-spec : {M : Type 1} → statement M
-record-of-spec = tie.close (tie.spec spawned-requires returns returns-2)
+record-of-spec = tie.close (tie.spec spawned-requires returns spawned-requires-2 returns-2)
