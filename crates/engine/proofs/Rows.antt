@@ -146,7 +146,7 @@ typed-thread t vs p =
     }
 
 -- a number of 32 bits is in range
-small : (z : ℤ) → mag z < 2 ^ 31 → InRange z
+pub small : (z : ℤ) → mag z < 2 ^ 31 → InRange z
 small z h = fits→range (record { sfits = h })
 
 -- each number of an array is in range

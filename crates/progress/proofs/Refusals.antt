@@ -3,7 +3,7 @@ use Prim.Native.Nat.{ℕ}
 use mathlib.Core.Bool.{Bool, true, false, cond}
 use mathlib.Core.Path.{_≡_, refl, sym, ap, _∙_}
 use lib.Dec.{ltb, eqb}
-use Rattle.progress.specs.InnerProgress.{refusalOf, freshRefusalOf, beginning}
+use Rattle.progress.specs.InnerProgress.{refusalOf, freshRefusalOf, unlessOf, beginning}
 use Rattle.progress.specs.declared.Progress.{Progress}
 use Rattle.scan.specs.Answer.{told}
 use Rattle.scan.specs.declared.Scanned.{Scanned}
@@ -56,10 +56,6 @@ module _ (o : Outcome Job) (v n l : ℕ) (s : Scanned) (a : s ≡ told o) (b : s
   fresh-job registers records k e = job-fresh o a registers records k e
 
 -- the progress with which a call begins
-pub begins : (refusal threads picks x : ℕ) → refusal ≡ x → x ≡ 0 → _≡_ {A = Progress} (record { threads = threads; limit = picks; refusal = refusal; steps = 0; idle = 0; commits = 0; back = 0; event = 0; register = 0; turn = 0 }) (beginning x threads picks)
-unfolding beginning
-begins refusal threads picks x e z = rw (e, z)
-
-pub begins-not : (refusal threads picks x : ℕ) → refusal ≡ x → eqb x 0 ≡ false → _≡_ {A = Progress} (record { threads = threads; limit = 0; refusal = refusal; steps = 0; idle = 0; commits = 0; back = 0; event = 0; register = 0; turn = 0 }) (beginning x threads picks)
-unfolding beginning
-begins-not refusal threads picks x e z = rw (e, z)
+pub begins : (refusal threads picks x limit : ℕ) → refusal ≡ x → limit ≡ unlessOf refusal picks → _≡_ {A = Progress} (record { threads = threads; limit = limit; refusal = refusal; steps = 0; idle = 0; commits = 0; back = 0; event = 0; register = 0; turn = 0 }) (beginning x threads picks)
+unfolding beginning unlessOf
+begins refusal threads picks x limit e f = rw (f, e)

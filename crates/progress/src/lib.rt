@@ -201,13 +201,9 @@ pub fn admitted(code: &[u8], survey: survey::Survey, registers: usize, picks: us
 {
     let threads = survey.count;
     let refusal = refusal(code, survey, registers, picks);
-    let mut limit: usize = 0;
-    if refusal == 0 {
-        limit = picks;
-    }
     Progress {
         threads,
-        limit,
+        limit: unless(refusal, picks),
         refusal,
         steps: 0,
         idle: 0,

@@ -1,0 +1,75 @@
+-- Whatever slices the types of the calls allow meet `Lent`: each entry of a slice is a value of the slice's type, and no more is asked. Assumes nothing.
+use Prim.Native.Nat.{ℕ, zero, suc, _<_, _^_}
+use mathlib.Core.Path.{refl}
+use mathlib.Core.List.{List, [], _∷_}
+use native.Mathlib.Omega.{arith}
+use lib.Dec.{lit<}
+use lib.IntN.{ℤ, pos}
+use lib.ListN.{length, getD}
+use mir.Val.{Val}
+use denote.RattleType.{RattleType}
+use denote.Laws.{Is}
+use denote.Builtin.{u8, i32}
+use Rattle.engine.proofs.Rows.{ThreadR, Known, known-thread, known-blank, small}
+use Rattle.guarantee.specs.Histories.{Lent, step, run}
+use Rattle.machine.specs.Steps.{stateFrom}
+use Rattle.script.specs.Bytes.{Bytes}
+use Rattle.thread.specs.Threads.{blank}
+use Rattle.thread.specs.declared.Thread.{Thread}
+use Rattle.word.specs.Sum.{InRange}
+
+-- a value of a type: some machine values spell it
+abbrev pub Valued : (R : RattleType) → R .Denot → Type 0
+Valued R x = (vs : List Val) × Is R x vs
+
+-- each entry is one
+unfoldable pub AllValued : (R : RattleType) → List (R .Denot) → Type 0
+AllValued R [] = Unit {0}
+AllValued R (x ∷ xs) = Valued R x × AllValued R xs
+
+byte : (b : ℕ) → Valued u8 b → b < 256
+byte b v = let h : b < 2 ^ 8 = v .1 .1 in h
+
+bytes-small : (bs : List ℕ) → AllValued u8 bs → (i : ℕ) → i < length bs → getD bs i 0 < 256
+unfolding AllValued
+bytes-small [] v i h = absurd (omega (arith, h))
+bytes-small (b ∷ bs) v zero h = byte b (v .0)
+bytes-small (b ∷ bs) v (suc i) h = bytes-small bs (v .1) i (omega (arith, h))
+
+-- a slice of bytes
+pub bytes-by-type : (bs : List ℕ) → AllValued u8 bs → Bytes bs
+bytes-by-type bs v = record { small = bytes-small bs v }
+
+-- registers
+registers-by-type : (rs : List ℤ) → AllValued i32 rs → (v : ℕ) → InRange (getD rs v (pos 0))
+unfolding AllValued
+registers-by-type [] a v = small (pos 0) (lit< tt)
+registers-by-type (r ∷ rs) a zero = small r (a .0 .1 .1)
+registers-by-type (r ∷ rs) a (suc v) = registers-by-type rs (a .1) v
+
+-- records
+threads-by-type : (ts : List Thread) → AllValued ThreadR ts → (i : ℕ) → Known (getD ts i blank)
+unfolding AllValued
+threads-by-type [] a i = known-blank
+threads-by-type (t ∷ ts) a zero = known-thread t (a .0 .0) (a .0 .1)
+threads-by-type (t ∷ ts) a (suc i) = threads-by-type ts (a .1) i
+
+module _ (code : List ℕ) (rs : List ℤ) (ts : List Thread) (c : AllValued u8 code) (r : AllValued i32 rs) (t : AllValued ThreadR ts) where
+  pub step-by-type : (pick : ℕ) → Valued u8 pick → Lent (step code (stateFrom rs ts) pick)
+  unfolding AllValued
+  step-by-type pick v =
+      record {
+        code = bytes-by-type code c;
+        state = λ i. threads-by-type ts t i .typed;
+        ranges = record { registers = registers-by-type rs r; threads = λ i. threads-by-type ts t i .ranged };
+        picks = bytes-by-type (pick ∷ []) (v, tt);
+      }
+
+  pub run-by-type : (picks : List ℕ) → AllValued u8 picks → Lent (run code (stateFrom rs ts) picks)
+  run-by-type picks v =
+      record {
+        code = bytes-by-type code c;
+        state = λ i. threads-by-type ts t i .typed;
+        ranges = record { registers = registers-by-type rs r; threads = λ i. threads-by-type ts t i .ranged };
+        picks = bytes-by-type picks v;
+      }
