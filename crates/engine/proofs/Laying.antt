@@ -28,7 +28,6 @@ unspawned = refl
 
 -- the lesser of two numbers is at most the first
 pub least-first : (a b : ℕ) → leastOf a b ≤ a
-unfolding leastOf
 least-first a b = by-test (ltb a b) refl
   where
     by-test : (t : Bool) → ltb a b ≡ t → cond t a b ≤ a
@@ -37,7 +36,6 @@ least-first a b = by-test (ltb a b) refl
 
 -- and at most the second
 pub least-second : (a b : ℕ) → leastOf a b ≤ b
-unfolding leastOf
 least-second a b = by-test (ltb a b) refl
   where
     by-test : (t : Bool) → ltb a b ≡ t → cond t a b ≤ b
@@ -77,7 +75,6 @@ module _ {A : Type 0} (new : ℕ → A) where
 
   -- so it does not matter that the loop stops at the end of the list
   pub overwritten-least : (n : ℕ) (xs : List A) → overwritten new (leastOf n (length xs)) 0 xs ≡ overwritten new n 0 xs
-  unfolding leastOf
   overwritten-least n xs = by-test (ltb n (length xs)) refl
     where
       by-test : (t : Bool) → ltb n (length xs) ≡ t → overwritten new (cond t n (length xs)) 0 xs ≡ overwritten new n 0 xs

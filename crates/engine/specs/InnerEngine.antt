@@ -26,7 +26,7 @@ pub record Gathered (ts : List Thread) (r : Survey) : Type 0 where
   pub ranged : (i : ℕ) → RangedThread (getD ts i blank)
 
 -- the lesser of two numbers
-unfoldable pub leastOf : ℕ → ℕ → ℕ
+abbrev pub leastOf : ℕ → ℕ → ℕ
 leastOf a b = cond (ltb a b) a b
 
 -- so many of a list are written over, the first of them being number i; there may be fewer

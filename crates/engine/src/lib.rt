@@ -1,8 +1,10 @@
 // The calls over a state that is lent: every record is read or written one by one, in a slice of any length.
 ghost use Prim.Native.Nat.{_<_, _≤_};
+ghost use mathlib.Core.Bool.{cond};
 ghost use mathlib.Core.Path.{_≡_};
+ghost use lib.Dec.{ltb};
 ghost use lib.ListN.{getD, length};
-ghost use Rattle.engine.specs.InnerEngine.{Admitted, Gathered, cleared, drove, laid, leastOf, recordOf};
+ghost use Rattle.engine.specs.InnerEngine.{Admitted, Gathered, cleared, drove, laid, recordOf};
 ghost use Rattle.machine.specs.Answers.{answered, freshCall, runCall, stepCall};
 ghost use Rattle.machine.specs.Steps.{stateFrom};
 ghost use Rattle.progress.specs.InnerProgress.{driven, drivenBy, pickedBy, whichOf};
@@ -10,7 +12,7 @@ ghost use Rattle.thread.specs.Threads.{blank, spawned};
 
 // The lesser of two numbers.
 pub fn least(a: usize, b: usize) -> usize
-    ensures { λ r. ⌜ r ≡ leastOf a b ⌝ }
+    ensures { λ r. ⌜ r ≡ cond (ltb a b) a b ⌝ }
 {
     if a < b {
         return a;

@@ -38,15 +38,22 @@ use Rattle.word.specs.Sum.{Rule}
 -- ending, inside the memory lent. Each other call is refused with the number and place document 01 gives, and no lent memory is altered."
 -- The rows say what a call returns, answer and all lent memory: a result, or the number and place with the memory as it was. What a call
 -- comes to is what one row says, and no row says anything else. That the functions end, inside the memory lent, is what the checker proves
--- of every function; `fresh` and `step` are definitions so far, without a function, and `runCall` is the contract of `engine::run`.
+-- of every function. At each field stands the function whose contract is the equation; what is asked of bytes and states, every slice has by
+-- its type (`step-by-type`, `run-by-type`, guarantee/proofs/Lending).
 pub record Demand1 : Type 0 where
+  -- `job::read_job`
   pub job-reader : (job : List ℕ) → Bytes job → (r : Reading) → JobAnswer job r ↔ (r ≡ answer (readJob job))
+  -- `compiler::compile`
   pub compiling : (job before : List ℕ) → Bytes job → (d : Delivered) → CompileAnswer job before d ↔ (d ≡ compileTo job before)
+  -- `compiler::read_back`
   pub reading-back : (code before : List ℕ) → Bytes code → (d : Delivered) → ReadBackAnswer code before d ↔ (d ≡ readBackTo code before)
+  -- `engine::kuspigo_fresh`
   pub fresh : (code : List ℕ) (s : State) → Bytes code → (r : Returned FreshReply) → FreshAnswer code s r ↔ (r ≡ freshCall code s)
+  -- `engine::kuspigo_step`
   pub step :
       (code : List ℕ) (s : State) (pick : ℕ) → Bytes code → Typed s →
       (r : Returned StepReply) → StepAnswer code s pick r ↔ (r ≡ stepCall code s pick)
+  -- `engine::kuspigo_run`
   pub run :
       (code : List ℕ) (s : State) (picks : List ℕ) → Bytes code → Typed s →
       (r : Returned RunReply) → RunAnswer code s picks r ↔ (r ≡ runCall code s picks)
@@ -89,6 +96,7 @@ pub record Demand2 : Type 0 where
       compileTo (take n (readBackTo code out .output)) out′ ≡ record { answer = Done (length code); output = onto code out′ }
 
 -- 3. "every list of calls that run its code by picks, from a fresh state, idle picks and refused calls included":
+-- a call is one of `engine::kuspigo_step` or `engine::kuspigo_run`, a fresh state what `engine::kuspigo_fresh` lays down.
 pub record AsScript (j : Job) : Type 0 where
   -- which lists of calls there are
   pub lists : CallLists j

@@ -30,7 +30,6 @@ module _ {A : Type 0} where
 
   -- of a list of N the first n are its first n as far as there are so many
   first-least : (n N : ℕ) (xs : List A) → length xs ≡ N → take (leastOf n N) xs ≡ take n xs
-  unfolding leastOf
   first-least n N xs len = by-test (ltb n N) refl
     where
       by-test : (t : Bool) → ltb n N ≡ t → take (cond t n N) xs ≡ take n xs
@@ -39,7 +38,6 @@ module _ {A : Type 0} where
 
   -- and so are the others
   rest-least : (n N : ℕ) (xs : List A) → length xs ≡ N → drop (leastOf n N) xs ≡ drop n xs
-  unfolding leastOf
   rest-least n N xs len = by-test (ltb n N) refl
     where
       by-test : (t : Bool) → ltb n N ≡ t → drop (cond t n N) xs ≡ drop n xs

@@ -7,12 +7,10 @@ use Rattle.engine.proofs.least.Tie as tie
 
 -- the first is the lesser
 returns : tie.Need-returns
-unfolding leastOf
 returns c = rw (lt-ltb (c .before .args .a) (c .before .args .b) (c .if1 .taken))
 
 -- it is not
 returns-2 : tie.Need-returns-2
-unfolding leastOf
 returns-2 c = rw (le-ltb (c .before .args .a) (c .before .args .b) (c .if1 .left))
 
 -- the function meets its contract
