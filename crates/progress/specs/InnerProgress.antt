@@ -51,6 +51,10 @@ advancedTo event register turn p =
 unfoldable pub whichOf : (pick : ℕ) → ℕ
 whichOf pick = cond (ltb pick 16) pick 0
 
+-- how much of the code it has before it
+unfoldable pub reachOf : (pick length : ℕ) → ℕ
+reachOf pick length = cond (ltb pick 16) length 0
+
 -- what a pick leaves, with the table
 pub record Given : Type 0 where
   pub picked : Picked

@@ -1,28 +1,20 @@
 -- What a step comes to, by its tests. Assumes nothing.
-use Prim.Native.Nat.{ℕ, _+_, _-_, _≤_, _<_}
+use Prim.Native.Nat.{ℕ, _+_, _-_, _^_, _≤_, _<_}
 use mathlib.Core.Bool.{Bool, true, false, cond, _||_}
-use mathlib.Core.Path.{_≡_, refl, sym, ap, subst, _∙_}
+use mathlib.Core.Path.{_≡_, refl, sym, ap, _∙_}
 use mathlib.Core.List.{List}
 use native.Mathlib.Omega.{arith}
 use borrow.Author.Tests.{eq-eqb, ne-eqb, eqb-true, leb-true, ltb-false}
 use lib.Dec.{eqb, leb, ltb}
 use lib.IntN.{ℤ}
 use lib.ListN.{length, drop}
-use Rattle.thread.specs.declared.Action.{Action}
 use Rattle.thread.specs.declared.Thread.{Thread}
-use Rattle.thread.specs.InnerStep.{Handed, handed, unacted, enoughFor, takesOp, performed, attempted, stepped}
-use Rattle.code.specs.Ops.{opAt, Op as Op′}
-use Rattle.code.specs.Ops as code
-use Rattle.code.proofs.Ops.{ValuedO, op-reads, Sees, good, bad, seen}
-use Rattle.script.specs.Bytes.{Bytes}
-use Rattle.script.proofs.Numbers.{bytes-drop}
-use mir.Syntax.{w32}
-use mir.Val.{SFits}
-use Rattle.ops.specs.Shown.{showOp, shownOp}
+use Rattle.thread.specs.InnerStep.{Due, handed, unacted, enoughFor, takesOp, performed, ableOp, dueOp, attempted, stepped}
+use Rattle.code.specs.Ops.{opAt}
+use Rattle.ops.specs.Shown.{shownOp}
 use Rattle.ops.specs.declared.Op.{Op}
 use Rattle.ops.specs.declared.Op.the-variants as op
-use Rattle.word.specs.Sum.{InRange, wrapping}
-use Rattle.word.proofs.Sums.{range→fits}
+use Rattle.word.specs.Sum.{wrapping}
 
 -- ---- what an instruction takes
 never : {A : Type 0} → _≡_ {A = Bool} false true → A
@@ -100,45 +92,116 @@ module _ (h b r left : ℕ) where
       let m = x .0 in
       (omega arith, omega arith)
 
--- a PUSH's number is one of 32 bits
-pub push-fits : (bytes : List ℕ) → Bytes bytes → (place : ℕ) (n : ℤ) → op.Push n ≡ shownOp (opAt (drop place bytes)) → SFits w32 n
-push-fits bytes b place n e = range→fits (by (drop place bytes) (seen (drop place bytes) (bytes-drop place b)) e)
-  where
-    same-push : {m : ℤ} → op.Push n ≡ op.Push m → m ≡ n
-    same-push e = cc
+-- ---- what is due
+module _ (bytes : List ℕ) (registers : ℕ) (t : Thread) where
+  pub due-no-thread : t .start ≡ 0 → op.Foreign ≡ dueOp bytes registers t
+  unfolding dueOp
+  due-no-thread s = rw (dueOp, eq-eqb (t .start) 0 s)
 
-    shown : (o : Op′) (rest : List ℕ) → ValuedO o → op.Push n ≡ showOp o → InRange n
-    shown (code.push m) rest v e = subst InRange (same-push e) v
-    shown code.add rest v e = absurd (let z : _≡_ {A = ℕ} 0 1 = cc in omega arith)
-    shown (code.read r) rest v e = absurd (let z : _≡_ {A = ℕ} 0 1 = cc in omega arith)
-    shown (code.write r) rest v e = absurd (let z : _≡_ {A = ℕ} 0 1 = cc in omega arith)
-    shown code.begin rest v e = absurd (let z : _≡_ {A = ℕ} 0 1 = cc in omega arith)
-    shown code.commit rest v e = absurd (let z : _≡_ {A = ℕ} 0 1 = cc in omega arith)
-    shown (code.fork size) rest v e = absurd (let z : _≡_ {A = ℕ} 0 1 = cc in omega arith)
-
-    by : (bs : List ℕ) → Sees bs → op.Push n ≡ shownOp (opAt bs) → InRange n
-    by bs (good o rest v q) e = shown o rest v (e ∙ ap shownOp (ap opAt q ∙ op-reads o rest v))
-    by bs (bad q) e = absurd (let f = e ∙ ap shownOp q in let z : _≡_ {A = ℕ} 0 1 = cc in omega arith)
-
--- ---- a step
-module _ (bytes : List ℕ) (table : List ℤ) (t : Thread) where
-  pub no-thread : t .start ≡ 0 → (a : Action) → a ≡ unacted t → handed a table ≡ stepped wrapping bytes table t
-  unfolding stepped
-  no-thread s a e = ap (λ (x : Action). handed x table) e ∙ sym (let q : stepped wrapping bytes table t ≡ handed (unacted t) table = rw (stepped, eq-eqb (t .start) 0 s) in q)
-
-  pub at-end : (t .start ≡ 0 → ⊥) → t .place ≡ t .end → (a : Action) → a ≡ unacted t → handed a table ≡ stepped wrapping bytes table t
-  unfolding stepped
-  at-end s p a e = ap (λ (x : Action). handed x table) e ∙ sym (let q : stepped wrapping bytes table t ≡ handed (unacted t) table = rw (stepped, ne-eqb (t .start) 0 s, eq-eqb (t .place) (t .end) p) in q)
+  pub due-at-end : (t .start ≡ 0 → ⊥) → t .place ≡ t .end → op.Foreign ≡ dueOp bytes registers t
+  unfolding dueOp
+  due-at-end s p = rw (dueOp, ne-eqb (t .start) 0 s, eq-eqb (t .place) (t .end) p)
 
   module _ (s : t .start ≡ 0 → ⊥) (p : t .place ≡ t .end → ⊥) (o : Op) (is : o ≡ shownOp (opAt (drop (t .place) bytes))) where
-    goes : stepped wrapping bytes table t ≡ attempted wrapping bytes table t o
-    unfolding stepped
-    goes = rw (stepped, ne-eqb (t .start) 0 s, ne-eqb (t .place) (t .end) p) (ap (attempted wrapping bytes table t) (sym is))
+    due-able : dueOp bytes registers t ≡ ableOp bytes registers t o
+    unfolding dueOp
+    due-able = rw (dueOp, ne-eqb (t .start) 0 s, ne-eqb (t .place) (t .end) p) (ap (ableOp bytes registers t) (sym is))
 
-    pub unable : takesOp o (t .height) (t .base) (length table) (length bytes - t .place) ≡ false → (a : Action) → a ≡ unacted t → handed a table ≡ stepped wrapping bytes table t
-    unfolding attempted
-    unable f a e = ap (λ (x : Action). handed x table) e ∙ sym (goes ∙ (let q : attempted wrapping bytes table t o ≡ handed (unacted t) table = rw (attempted, f) in q))
+    pub due-unable : takesOp o (t .height) (t .base) registers (length bytes - t .place) ≡ false → op.Foreign ≡ dueOp bytes registers t
+    unfolding ableOp
+    due-unable f = sym (due-able ∙ (let q : ableOp bytes registers t o ≡ op.Foreign = rw (ableOp, f) in q))
 
-    pub performs : takesOp o (t .height) (t .base) (length table) (length bytes - t .place) ≡ true → (o′ : Op) → o ≡ o′ → performed wrapping table t o′ ≡ stepped wrapping bytes table t
-    unfolding attempted
-    performs f o′ q = ap (performed wrapping table t) (sym q) ∙ sym (goes ∙ (let z : attempted wrapping bytes table t o ≡ performed wrapping table t o = rw (attempted, f) in z))
+    pub due-here : takesOp o (t .height) (t .base) registers (length bytes - t .place) ≡ true → o ≡ dueOp bytes registers t
+    unfolding ableOp
+    due-here f = sym (due-able ∙ (let q : ableOp bytes registers t o ≡ o = rw (ableOp, f) in q))
+
+-- what is due and not Foreign is taken
+pub due-takes : (bytes : List ℕ) (registers : ℕ) (t : Thread) (o : Op) → o ≡ dueOp bytes registers t → (o ≡ op.Foreign → ⊥) → takesOp o (t .height) (t .base) registers (length bytes - t .place) ≡ true
+unfolding dueOp ableOp
+due-takes bytes registers t o e n = go (eqb (t .start) 0 || eqb (t .place) (t .end)) e
+  where
+    able : Op
+    able = shownOp (opAt (drop (t .place) bytes))
+
+    took : (b : Bool) → takesOp able (t .height) (t .base) registers (length bytes - t .place) ≡ b → o ≡ (elim b [ true ↦ able | false ↦ op.Foreign ]) → takesOp o (t .height) (t .base) registers (length bytes - t .place) ≡ true
+    took true q e = ap (λ (x : Op). takesOp x (t .height) (t .base) registers (length bytes - t .place)) e ∙ q
+    took false q e = absurd (n e)
+
+    go : (b : Bool) → o ≡ (elim b [ true ↦ op.Foreign | false ↦ ableOp bytes registers t able ]) → takesOp o (t .height) (t .base) registers (length bytes - t .place) ≡ true
+    go true e = absurd (n e)
+    go false e = took (takesOp able (t .height) (t .base) registers (length bytes - t .place)) refl e
+
+-- a step is what is due
+pub due-step : (bytes : List ℕ) (table : List ℤ) (t : Thread) → performed wrapping table t (dueOp bytes (length table) t) ≡ stepped wrapping bytes table t
+unfolding dueOp ableOp performed attempted stepped
+due-step bytes table t = go (eqb (t .start) 0 || eqb (t .place) (t .end))
+  where
+    able : Op
+    able = shownOp (opAt (drop (t .place) bytes))
+
+    none : performed wrapping table t op.Foreign ≡ handed (unacted t) table
+    none = refl
+
+    tried : performed wrapping table t (ableOp bytes (length table) t able) ≡ attempted wrapping bytes table t able
+    tried = by (takesOp able (t .height) (t .base) (length table) (length bytes - t .place))
+      where
+        by : (b : Bool) → performed wrapping table t (elim b [ true ↦ able | false ↦ op.Foreign ]) ≡ (elim b [ true ↦ performed wrapping table t able | false ↦ handed (unacted t) table ])
+        by true = refl
+        by false = none
+
+    go : (b : Bool) → performed wrapping table t (elim b [ true ↦ op.Foreign | false ↦ ableOp bytes (length table) t able ]) ≡ (elim b [ true ↦ handed (unacted t) table | false ↦ attempted wrapping bytes table t able ])
+    go true = none
+    go false = tried
+
+-- ---- what an instruction that is due takes
+module _ (o : Op) (r : ℕ) (t : Thread) (d : Due o r t) where
+  able : (o′ : Op) → o ≡ o′ → (o′ ≡ op.Foreign → ⊥) → takesOp o′ (t .height) (t .base) r (length (d .code) - t .place) ≡ true
+  able o′ e n = due-takes (d .code) r t o′ (sym e ∙ d .is) n
+
+  pub push-due : (n : ℤ) → o ≡ op.Push n → (t .height < 64) × (t .place + 5 < 2 ^ 64)
+  push-due n e =
+      let f = push-takes _ _ _ _ n (able _ e (λ q. absurd (let z : _≡_ {A = ℕ} 0 1 = cc in omega arith))) in
+      let g = f .1 in
+      let k = d .short in
+      (f .0, omega arith)
+
+  pub add-due : o ≡ op.Add → (2 ≤ t .height) × (t .height ≤ 64) × (t .place + 1 < 2 ^ 64)
+  add-due e =
+      let f = add-takes _ _ _ _ (able _ e (λ q. absurd (let z : _≡_ {A = ℕ} 0 1 = cc in omega arith))) in
+      let g = f .2 in
+      let k = d .short in
+      (f .0, f .1, omega arith)
+
+  pub read-due : (v : ℕ) → o ≡ op.Read v → (v < 64) × (t .height < 64) × (t .place + 2 < 2 ^ 64) × (r ≡ 64)
+  read-due v e =
+      let f = read-takes _ _ _ _ v (able _ e (λ q. absurd (let z : _≡_ {A = ℕ} 0 1 = cc in omega arith))) in
+      let g = f .3 in
+      let k = d .short in
+      (f .0, f .1, omega arith, f .2)
+
+  pub write-due : (v : ℕ) → o ≡ op.Write v → (v < 64) × (1 ≤ t .height) × (t .height ≤ 64) × (t .place + 2 < 2 ^ 64)
+  write-due v e =
+      let f = write-takes _ _ _ _ v (able _ e (λ q. absurd (let z : _≡_ {A = ℕ} 0 1 = cc in omega arith))) in
+      let g = f .3 in
+      let k = d .short in
+      (f .0, f .1, f .2, omega arith)
+
+  pub begin-due : o ≡ op.Begin → t .place + 1 < 2 ^ 64
+  begin-due e =
+      let f = begin-takes _ _ _ _ (able _ e (λ q. absurd (let z : _≡_ {A = ℕ} 0 1 = cc in omega arith))) in
+      let k = d .short in
+      omega arith
+
+  pub commit-due : o ≡ op.Commit → (t .height ≤ 64) × (t .base ≤ 64) × (t .place + 1 < 2 ^ 64) × (r ≡ 64)
+  commit-due e =
+      let f = commit-takes _ _ _ _ (able _ e (λ q. absurd (let z : _≡_ {A = ℕ} 0 1 = cc in omega arith))) in
+      let g = f .3 in
+      let k = d .short in
+      (f .0, f .1, omega arith, f .2)
+
+  pub fork-due : (size : ℕ) → o ≡ op.Fork size → (t .height < 64) × (t .place + 3 + size < 2 ^ 64)
+  fork-due size e =
+      let f = fork-takes _ _ _ _ size (able _ e (λ q. absurd (let z : _≡_ {A = ℕ} 0 1 = cc in omega arith))) in
+      let g = f .1 in
+      let k = d .short in
+      (f .0, omega arith)

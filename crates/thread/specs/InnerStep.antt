@@ -1,8 +1,9 @@
 -- Mirrors the methods of `Thread` for their proofs. Nobody has to believe it: in a state that fits, a step is `act` with every number that it
 -- hands back (`step-acts` and `idle-step`, machine/proofs/Actings). What it does of a record that no such state has is left free by the papers.
-use Prim.Native.Nat.{ℕ, zero, suc, _+_, _-_}
+use Prim.Native.Nat.{ℕ, zero, suc, _+_, _-_, _^_, _≤_, _<_}
 use mathlib.Core.Bool.{Bool, true, false, cond, _&&_, _||_}
 use mathlib.Core.List.{List, _++_}
+use mathlib.Core.Path.{_≡_}
 use lib.Dec.{eqb, leb, ltb}
 use lib.IntN.{ℤ, pos}
 use lib.Signed.{ltZ}
@@ -19,6 +20,13 @@ use Rattle.word.specs.Registers.{member}
 use Rattle.word.specs.Sum.{Rule}
 
 -- ---- by the sets and values of a record
+-- the first register that a set marks, from this one on; 64 if there is none
+pub record Marked (set from r : ℕ) : Type 0 where
+  pub low : r ≤ 64
+  pub far : from ≤ 64 → from ≤ r
+  pub past : (v : ℕ) → from ≤ v → v < r → member set v ≡ false
+  pub here : r < 64 → member set r ≡ true
+
 unfoldable pub staleIn : (reads : ℕ) (readlog table : List ℤ) → ℕ → Bool
 staleIn reads readlog table v =
     member reads v
@@ -106,6 +114,25 @@ performed sum table t (op.Fork size) =
     })
     table
 performed sum table t op.Foreign = handed (unacted t) table
+
+-- the instruction if the record has what it takes, else Foreign
+unfoldable pub ableOp : (code : List ℕ) (registers : ℕ) → Thread → Op → Op
+ableOp bytes registers t o =
+    elim (takesOp o (t .height) (t .base) registers (length bytes - t .place)) [ true ↦ o | false ↦ op.Foreign ]
+
+-- the instruction that is due: Foreign if there is none, or the record has not what it takes
+unfoldable pub dueOp : (code : List ℕ) (registers : ℕ) → Thread → Op
+dueOp bytes registers t =
+    elim (eqb (t .start) 0 || eqb (t .place) (t .end)) [
+      | true ↦ op.Foreign
+      | false ↦ ableOp bytes registers t (shownOp (opAt (drop (t .place) bytes)))
+    ]
+
+-- an instruction that is due in some code
+pub record Due (o : Op) (registers : ℕ) (t : Thread) : Type 0 where
+  pub code : List ℕ
+  pub short : length code < 2 ^ 64
+  pub is : o ≡ dueOp code registers t
 
 unfoldable pub attempted : Rule → (code : List ℕ) (table : List ℤ) → Thread → Op → Handed
 attempted sum bytes table t o =
