@@ -12,12 +12,12 @@ use Rattle.code.specs.Ops.{opAt}
 use Rattle.ops.specs.Shown.{shownOp}
 use Rattle.ops.specs.declared.Op.{Op}
 use Rattle.ops.specs.declared.Op.the-variants as op
-use Rattle.progress.specs.InnerProgress.{seatOf, advancedTo, given, pickedOf, pickedBy, reachOf}
+use Rattle.progress.specs.InnerProgress.{seatOf, advancedTo, given, pickedOf, pickedBy, plainPick, reachOf}
 use Rattle.progress.specs.declared.Picked.{Picked}
 use Rattle.progress.specs.declared.Progress.{Progress}
 use Rattle.thread.specs.declared.Action.{Action}
 use Rattle.thread.specs.declared.Thread.{Thread}
-use Rattle.thread.specs.InnerStep.{Handed, handed, unacted, takesOp, attempted, stepped}
+use Rattle.thread.specs.InnerStep.{Handed, handed, unacted, takesOp, attempted, stepped, plainIn}
 use Rattle.word.specs.Sum.{wrapping}
 
 -- with no code a step is idle
@@ -58,3 +58,8 @@ pub a-pick : (bytes : List ℕ) (table : List ℤ) (pick reach : ℕ) (t : Threa
 a-pick bytes table pick reach t p k a after h seat s q e =
     let x : given (record { thread = a .thread; seat = seat; start = a .start; end = a .end; progress = q }) after ≡ pickedOf (handed a after) p = rw (s, e) in
     x ∙ (ap (λ (i : Handed). pickedOf i p) h ∙ reached bytes table pick reach t p k)
+
+-- whether a pick is plain, by the code that it has before it
+pub plain-reach : (bytes : List ℕ) (pick reach : ℕ) (t : Thread) → reach ≡ reachOf pick (length bytes) → plainIn (take reach bytes) t ≡ plainPick bytes pick t
+unfolding plainPick
+plain-reach bytes pick reach t e = ap (λ (k : ℕ). plainIn (take k bytes) t) e

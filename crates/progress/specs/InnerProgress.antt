@@ -5,7 +5,7 @@ use mathlib.Core.Bool.{Bool, cond, not}
 use mathlib.Core.List.{List, [], _∷_}
 use lib.Dec.{eqb, ltb}
 use lib.IntN.{ℤ}
-use lib.ListN.{length, set}
+use lib.ListN.{length, set, take}
 use Rattle.code.specs.Reader.{readCode}
 use Rattle.progress.specs.declared.Picked.{Picked}
 use Rattle.progress.specs.declared.Progress.{Progress}
@@ -19,7 +19,7 @@ use Rattle.script.specs.Jobs.{Job}
 use Rattle.survey.specs.InnerRecords.{surveyOf}
 use Rattle.survey.specs.InnerWalk.{surveyFits}
 use Rattle.thread.specs.declared.Thread.{Thread}
-use Rattle.thread.specs.InnerStep.{Handed, handed, unacted, stepped}
+use Rattle.thread.specs.InnerStep.{Handed, handed, unacted, stepped, plainIn}
 use Rattle.thread.specs.Threads.{spawned}
 use Rattle.word.specs.Sum.{wrapping}
 
@@ -54,6 +54,10 @@ whichOf pick = cond (ltb pick 16) pick 0
 -- how much of the code it has before it
 unfoldable pub reachOf : (pick length : ℕ) → ℕ
 reachOf pick length = cond (ltb pick 16) length 0
+
+-- whether it changes the stack of its record alone
+unfoldable pub plainPick : (code : List ℕ) (pick : ℕ) → Thread → Bool
+plainPick bytes pick t = plainIn (take (reachOf pick (length bytes)) bytes) t
 
 -- what a pick leaves, with the table
 pub record Given : Type 0 where

@@ -1,9 +1,10 @@
 // What is carried from pick to pick, and one pick of a record, by value; which refusal a call has, and what it answers.
+ghost use mathlib.Core.Bool.{true};
 ghost use mathlib.Core.Path.{_≡_};
 ghost use lib.Dec.{eqb};
 ghost use lib.ListN.{length};
 ghost use Rattle.code.specs.Reader.{readCode};
-ghost use Rattle.progress.specs.InnerProgress.{admittedTo, advancedTo, given, moreTo, pickedBy, reachOf, refusalOf, runReplyOf, seatOf, stepReplyOf, whichOf};
+ghost use Rattle.progress.specs.InnerProgress.{admittedTo, advancedTo, given, moreTo, pickedBy, plainPick, reachOf, refusalOf, runReplyOf, seatOf, stepReplyOf, whichOf};
 ghost use Rattle.survey.specs.InnerWalk.{surveyFits};
 
 // The number of threads, how many picks are to be done, document 01's number of the refusal, 0 if there is none, the counts so far, and what
@@ -133,6 +134,33 @@ pub fn perform(
     let reach = reach(pick, code.len());
     let threads = p.threads;
     let a = t.step(&code[..reach], registers);
+    let event = a.event;
+    let after = a.thread;
+    Picked {
+        thread: after,
+        seat: seat(event, threads),
+        start: a.start,
+        end: a.end,
+        progress: p.after(event, a.register, a.turn),
+    }
+}
+
+// Whether a pick changes the stack of its record alone.
+pub fn is_plain(t: thread::Thread, code: &[u8], pick: u8) -> bool
+    ensures { λ r. ⌜ r ≡ plainPick (now (code .entry)) pick t ⌝ }
+{
+    let reach = reach(pick, code.len());
+    t.is_plain(&code[..reach])
+}
+
+// A pick that changes the stack of its record alone: what `perform` does, without the copies of the logs. The table stays.
+pub fn plain(t: thread::Thread, code: &[u8], registers: &mut [i32], pick: u8, p: Progress) -> Picked
+    requires { ⌜ plainPick (now code) pick t ≡ true ⌝ }
+    ensures { λ r. ⌜ given r (now (registers .exit)) ≡ pickedBy (now (code .entry)) (now (registers .entry)) pick t p ⌝ }
+{
+    let reach = reach(pick, code.len());
+    let threads = p.threads;
+    let a = t.plain(&code[..reach]);
     let event = a.event;
     let after = a.thread;
     Picked {

@@ -8,8 +8,10 @@ use borrow.Author.Tests.{eq-eqb, ne-eqb, eqb-true, leb-true, ltb-false}
 use lib.Dec.{eqb, leb, ltb}
 use lib.IntN.{ℤ}
 use lib.ListN.{length, drop}
+use Rattle.thread.specs.declared.Action.{Action}
 use Rattle.thread.specs.declared.Thread.{Thread}
-use Rattle.thread.specs.InnerStep.{Due, handed, unacted, enoughFor, takesOp, performed, ableOp, dueOp, attempted, stepped}
+use Rattle.thread.specs.Threads.{push, add}
+use Rattle.thread.specs.InnerStep.{Due, handed, unacted, enoughFor, takesOp, performed, ableOp, dueOp, attempted, stepped, acting, outsideTurn, stackedOp, addOp, numberOp, plainIn}
 use Rattle.code.specs.Ops.{opAt}
 use Rattle.ops.specs.Shown.{shownOp}
 use Rattle.ops.specs.declared.Op.{Op}
@@ -205,3 +207,105 @@ module _ (o : Op) (r : ℕ) (t : Thread) (d : Due o r t) where
       let g = f .1 in
       let k = d .short in
       (f .0, omega arith)
+
+-- ---- PUSH and ADD
+module _ (bytes : List ℕ) (t : Thread) where
+  pub plain-no-thread : t .start ≡ 0 → false ≡ plainIn bytes t
+  unfolding plainIn
+  plain-no-thread s = rw (plainIn, eq-eqb (t .start) 0 s)
+
+  pub plain-at-end : (t .start ≡ 0 → ⊥) → t .place ≡ t .end → false ≡ plainIn bytes t
+  unfolding plainIn
+  plain-at-end s p = rw (plainIn, ne-eqb (t .start) 0 s, eq-eqb (t .place) (t .end) p)
+
+  pub plain-here : (t .start ≡ 0 → ⊥) → (t .place ≡ t .end → ⊥) → stackedOp (shownOp (opAt (drop (t .place) bytes))) (t .height) (length bytes - t .place) ≡ plainIn bytes t
+  unfolding plainIn
+  plain-here s p = rw (plainIn, ne-eqb (t .start) 0 s, ne-eqb (t .place) (t .end) p)
+
+  -- what is plain is a PUSH or an ADD that the record has what it takes for
+  pub record Plain (o : Op) : Type 0 where
+    pub stacked : stackedOp o (t .height) (length bytes - t .place) ≡ true
+    pub steps : (table : List ℤ) → performed wrapping table t o ≡ stepped wrapping bytes table t
+
+  pub plain-op : (o : Op) → o ≡ shownOp (opAt (drop (t .place) bytes)) → plainIn bytes t ≡ true → Plain o
+  unfolding plainIn stepped attempted stackedOp takesOp
+  plain-op o is e = go (eqb (t .start) 0 || eqb (t .place) (t .end)) refl e
+    where
+      able : Op
+      able = shownOp (opAt (drop (t .place) bytes))
+
+      taken : (u : Op) (r : ℕ) → stackedOp u (t .height) (length bytes - t .place) ≡ true → takesOp u (t .height) (t .base) r (length bytes - t .place) ≡ true
+      taken (op.Push n) r q = q
+      taken op.Add r q = q
+      taken (op.Read v) r q = never q
+      taken (op.Write v) r q = never q
+      taken op.Begin r q = never q
+      taken op.Commit r q = never q
+      taken (op.Fork size) r q = never q
+      taken op.Foreign r q = never q
+
+      same : (table : List ℤ) (b : Bool) → takesOp able (t .height) (t .base) (length table) (length bytes - t .place) ≡ b → b ≡ true → performed wrapping table t able ≡ (elim b [ true ↦ performed wrapping table t able | false ↦ handed (unacted t) table ])
+      same table true q f = refl
+      same table false q f = never f
+
+      go : (b : Bool) → (eqb (t .start) 0 || eqb (t .place) (t .end)) ≡ b → (elim b [ true ↦ false | false ↦ stackedOp able (t .height) (length bytes - t .place) ]) ≡ true → Plain o
+      go true q f = never f
+      go false q f =
+          record {
+            stacked = ap (λ (u : Op). stackedOp u (t .height) (length bytes - t .place)) is ∙ f;
+            steps = λ table.
+                ap (performed wrapping table t) is
+                ∙ (same table (takesOp able (t .height) (t .base) (length table) (length bytes - t .place)) refl (taken able (length table) f)
+                ∙ sym (let z : stepped wrapping bytes table t ≡ attempted wrapping bytes table t able = rw (stepped, q) in z));
+          }
+
+is-add : (o : Op) → addOp o ≡ true → o ≡ op.Add
+unfolding addOp
+is-add (op.Push n) e = never e
+is-add op.Add e = refl
+is-add (op.Read v) e = never e
+is-add (op.Write v) e = never e
+is-add op.Begin e = never e
+is-add op.Commit e = never e
+is-add (op.Fork size) e = never e
+is-add op.Foreign e = never e
+
+is-push : (o : Op) (h left : ℕ) → stackedOp o h left ≡ true → addOp o ≡ false → o ≡ op.Push (numberOp o)
+unfolding addOp stackedOp numberOp
+is-push (op.Push n) h left e f = refl
+is-push op.Add h left e f = never (sym f)
+is-push (op.Read v) h left e f = never e
+is-push (op.Write v) h left e f = never e
+is-push op.Begin h left e f = never e
+is-push op.Commit h left e f = never e
+is-push (op.Fork size) h left e f = never e
+is-push op.Foreign h left e f = never e
+
+module _ (bytes : List ℕ) (t : Thread) (o : Op) (p : Plain bytes t o) where
+  module _ (f : addOp o ≡ true) where
+    pub plain-adds : length bytes < 2 ^ 64 → (2 ≤ t .height) × (t .height ≤ 64) × (t .place + 1 < 2 ^ 64)
+    unfolding stackedOp
+    plain-adds k =
+        let e = enough-true 2 (t .height) 64 1 (length bytes - t .place) (sym (ap (λ (u : Op). stackedOp u (t .height) (length bytes - t .place)) (is-add o f)) ∙ p .stacked) in
+        let g = e .2 in
+        (e .0, e .1, omega arith)
+
+    pub plain-added : (a : Action) → a ≡ acting 2 (outsideTurn (t .begin)) (add wrapping t) → (table : List ℤ) → handed a table ≡ stepped wrapping bytes table t
+    unfolding performed
+    plain-added a e table = ap (λ (x : Action). handed x table) e ∙ (sym (ap (performed wrapping table t) (is-add o f)) ∙ p .steps table)
+
+  module _ (f : addOp o ≡ false) where
+    pushed : o ≡ op.Push (numberOp o)
+    pushed = is-push o (t .height) (length bytes - t .place) (p .stacked) f
+
+    pub plain-pushes : length bytes < 2 ^ 64 → (t .height < 64) × (t .place + 5 < 2 ^ 64)
+    unfolding stackedOp
+    plain-pushes k =
+        let e = enough-true 0 (t .height) 63 5 (length bytes - t .place) (sym (ap (λ (u : Op). stackedOp u (t .height) (length bytes - t .place)) pushed) ∙ p .stacked) in
+        let g = e .2 in
+        let h = e .1 in
+        (omega arith, omega arith)
+
+    pub plain-pushed : (a : Action) → a ≡ acting 1 0 (push (numberOp o) (t .place + 5) t) → (table : List ℤ) → handed a table ≡ stepped wrapping bytes table t
+    unfolding performed
+    plain-pushed a e table = ap (λ (x : Action). handed x table) e ∙ (sym (ap (performed wrapping table t) pushed) ∙ p .steps table)

@@ -147,3 +147,43 @@ stepped sum bytes table t =
       | true ↦ handed (unacted t) table
       | false ↦ attempted sum bytes table t (shownOp (opAt (drop (t .place) bytes)))
     ]
+
+-- ---- PUSH and ADD, which change the stack alone
+-- whether the instruction is one of them, and a record with this height has what it takes
+unfoldable pub stackedOp : Op → (height left : ℕ) → Bool
+stackedOp (op.Push n) h left = enoughFor 0 h 63 5 left
+stackedOp op.Add h left = enoughFor 2 h 64 1 left
+stackedOp (op.Read v) h left = false
+stackedOp (op.Write v) h left = false
+stackedOp op.Begin h left = false
+stackedOp op.Commit h left = false
+stackedOp (op.Fork size) h left = false
+stackedOp op.Foreign h left = false
+
+unfoldable pub addOp : Op → Bool
+addOp (op.Push n) = false
+addOp op.Add = true
+addOp (op.Read v) = false
+addOp (op.Write v) = false
+addOp op.Begin = false
+addOp op.Commit = false
+addOp (op.Fork size) = false
+addOp op.Foreign = false
+
+unfoldable pub numberOp : Op → ℤ
+numberOp (op.Push n) = n
+numberOp op.Add = pos 0
+numberOp (op.Read v) = pos 0
+numberOp (op.Write v) = pos 0
+numberOp op.Begin = pos 0
+numberOp op.Commit = pos 0
+numberOp (op.Fork size) = pos 0
+numberOp op.Foreign = pos 0
+
+-- whether a step is one of them
+unfoldable pub plainIn : (code : List ℕ) → Thread → Bool
+plainIn bytes t =
+    elim (eqb (t .start) 0 || eqb (t .place) (t .end)) [
+      | true ↦ false
+      | false ↦ stackedOp (shownOp (opAt (drop (t .place) bytes))) (t .height) (length bytes - t .place)
+    ]

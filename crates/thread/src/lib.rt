@@ -1,8 +1,11 @@
 // The thread record that is lent, and one step of a thread, by value.
 ghost use Prim.Native.Nat.{_+_, _-_, _<_, _≤_, _^_};
 ghost use lib.ListN.{length};
+ghost use mathlib.Core.Bool.{true};
+ghost use mathlib.Core.List.{List};
 ghost use mathlib.Core.Path.{_≡_};
-ghost use Rattle.thread.specs.InnerStep.{Due, Marked, acting, cleared, committed, dueOp, enoughFor, firstStaleIn, handed, logged, outsideTurn, performed, sourceNumber, staleIn, stepped, storedIn, takesOp, unacted};
+ghost use lib.IntN.{ℤ};
+ghost use Rattle.thread.specs.InnerStep.{Due, Marked, acting, addOp, cleared, committed, dueOp, enoughFor, firstStaleIn, handed, logged, numberOp, outsideTurn, performed, plainIn, sourceNumber, stackedOp, staleIn, stepped, storedIn, takesOp, unacted};
 ghost use Rattle.thread.specs.Threads as threads;
 ghost use Rattle.word.specs.Sum.{wrapping};
 
@@ -201,6 +204,54 @@ fn takes(op: ops::Op, height: usize, base: usize, registers: usize, left: usize)
             enough(0, height, 63, size, left - 3)
         }
         ops::Op::Foreign => false,
+    }
+}
+
+// Whether the instruction is PUSH or ADD, and a record with this height has what it takes.
+fn is_stacked(op: ops::Op, height: usize, left: usize) -> bool
+    ensures { λ r. ⌜ r ≡ stackedOp op height left ⌝ }
+{
+    match op {
+        ops::Op::Push(_n) => enough(0, height, 63, 5, left),
+        ops::Op::Add => enough(2, height, 64, 1, left),
+        ops::Op::Read(_v) => false,
+        ops::Op::Write(_v) => false,
+        ops::Op::Begin => false,
+        ops::Op::Commit => false,
+        ops::Op::Fork(_size) => false,
+        ops::Op::Foreign => false,
+    }
+}
+
+// Whether the instruction is ADD.
+fn is_add(op: ops::Op) -> bool
+    ensures { λ r. ⌜ r ≡ addOp op ⌝ }
+{
+    match op {
+        ops::Op::Push(_n) => false,
+        ops::Op::Add => true,
+        ops::Op::Read(_v) => false,
+        ops::Op::Write(_v) => false,
+        ops::Op::Begin => false,
+        ops::Op::Commit => false,
+        ops::Op::Fork(_size) => false,
+        ops::Op::Foreign => false,
+    }
+}
+
+// A PUSH's number, else 0.
+fn number(op: ops::Op) -> i32
+    ensures { λ r. ⌜ r ≡ numberOp op ⌝ }
+{
+    match op {
+        ops::Op::Push(n) => n,
+        ops::Op::Add => 0,
+        ops::Op::Read(_v) => 0,
+        ops::Op::Write(_v) => 0,
+        ops::Op::Begin => 0,
+        ops::Op::Commit => 0,
+        ops::Op::Fork(_size) => 0,
+        ops::Op::Foreign => 0,
     }
 }
 
@@ -469,5 +520,40 @@ impl Thread {
     {
         let op = self.due(code, registers.len());
         self.act(op, registers)
+    }
+
+    // Whether a step is a PUSH or an ADD, which changes the stack alone.
+    pub fn is_plain(self, code: &[u8]) -> bool
+        ensures { λ r. ⌜ r ≡ plainIn (now (code .entry)) self ⌝ }
+    {
+        let place = self.place;
+        if self.start == 0 {
+            return false;
+        }
+        if place == self.end {
+            return false;
+        }
+        is_stacked(
+            ops::op_at(code, place),
+            self.height,
+            behind(code.len(), place),
+        )
+    }
+
+    // One instruction that is PUSH or ADD.
+    pub fn plain(self, code: &[u8]) -> Action
+        requires { ⌜ plainIn (now code) self ≡ true ⌝ }
+        ensures { λ r. ⌜ ((table : List ℤ) → handed r table ≡ stepped wrapping (now (code .entry)) table self) ⌝ }
+    {
+        let place = self.place;
+        let op = ops::op_at(code, place);
+        if is_add(op) {
+            let turn = outside(self.begin);
+            let t = self.add();
+            return did(t, 2, turn);
+        }
+        let n = number(op);
+        let t = self.push(n, place + 5);
+        did(t, 1, 0)
     }
 }
