@@ -12,12 +12,13 @@ use Rattle.code.specs.Ops.{opAt}
 use Rattle.ops.specs.Shown.{shownOp}
 use Rattle.ops.specs.declared.Op.{Op}
 use Rattle.ops.specs.declared.Op.the-variants as op
-use Rattle.progress.specs.InnerProgress.{seatOf, advancedTo, given, pickedOf, pickedBy, plainPick, reachOf}
+use Rattle.progress.specs.InnerProgress.{seatOf, advancedTo, given, pickedOf, pickedBy, plainPick, plainedBy, reachOf}
 use Rattle.progress.specs.declared.Picked.{Picked}
 use Rattle.progress.specs.declared.Progress.{Progress}
 use Rattle.thread.specs.declared.Action.{Action}
 use Rattle.thread.specs.declared.Thread.{Thread}
-use Rattle.thread.specs.InnerStep.{Handed, handed, unacted, takesOp, attempted, stepped, plainIn}
+use Rattle.thread.specs.InnerStep.{Handed, handed, unacted, takesOp, performed, attempted, stepped, plainIn, plainOp}
+use Rattle.thread.proofs.Attempts.{plain-taken}
 use Rattle.word.specs.Sum.{wrapping}
 
 -- with no code a step is idle
@@ -63,3 +64,16 @@ a-pick bytes table pick reach t p k a after h seat s q e =
 pub plain-reach : (bytes : List ℕ) (pick reach : ℕ) (t : Thread) → reach ≡ reachOf pick (length bytes) → plainIn (take reach bytes) t ≡ plainPick bytes pick t
 unfolding plainPick
 plain-reach bytes pick reach t e = ap (λ (k : ℕ). plainIn (take k bytes) t) e
+
+-- a pick by what changes the stack alone
+pub a-plain : (bytes : List ℕ) (table : List ℤ) (pick reach : ℕ) (t : Thread) (p : Progress) → reach ≡ reachOf pick (length bytes) → (a : Action) → handed a table ≡ performed wrapping table t (plainOp (take reach bytes) t) → (seat : ℕ) → seat ≡ seatOf (a .event) (p .threads) → (q : Progress) → q ≡ advancedTo (a .event) (a .register) (a .turn) p → given (record { thread = a .thread; seat = seat; start = a .start; end = a .end; progress = q }) table ≡ plainedBy bytes table pick t p
+unfolding plainedBy
+a-plain bytes table pick reach t p k a h seat s q e =
+    let x : given (record { thread = a .thread; seat = seat; start = a .start; end = a .end; progress = q }) table ≡ pickedOf (handed a table) p = rw (s, e) in
+    x ∙ (ap (λ (i : Handed). pickedOf i p) h ∙ ap (λ (i : ℕ). pickedOf (performed wrapping table t (plainOp (take i bytes) t)) p) k)
+
+-- which is the pick where it is plain
+pub plained : (bytes : List ℕ) (table : List ℤ) (pick : ℕ) (t : Thread) (p : Progress) → plainPick bytes pick t ≡ true → plainedBy bytes table pick t p ≡ pickedBy bytes table pick t p
+unfolding plainedBy plainPick
+plained bytes table pick t p e =
+    ap (λ (h : Handed). pickedOf h p) (plain-taken (take (reachOf pick (length bytes)) bytes) t table e) ∙ reached bytes table pick (reachOf pick (length bytes)) t p refl

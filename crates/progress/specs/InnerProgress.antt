@@ -19,7 +19,7 @@ use Rattle.script.specs.Jobs.{Job}
 use Rattle.survey.specs.InnerRecords.{surveyOf}
 use Rattle.survey.specs.InnerWalk.{surveyFits}
 use Rattle.thread.specs.declared.Thread.{Thread}
-use Rattle.thread.specs.InnerStep.{Handed, handed, unacted, stepped, plainIn}
+use Rattle.thread.specs.InnerStep.{Handed, handed, unacted, performed, stepped, plainIn, plainOp}
 use Rattle.thread.specs.Threads.{spawned}
 use Rattle.word.specs.Sum.{wrapping}
 
@@ -83,6 +83,11 @@ pickedOf h p =
 unfoldable pub pickedBy : (code : List ℕ) (table : List ℤ) (pick : ℕ) → Thread → Progress → Given
 pickedBy bytes table pick t p =
     cond (ltb pick 16) (pickedOf (stepped wrapping bytes table t) p) (pickedOf (handed (unacted t) table) p)
+
+-- the same by what changes the stack alone; any other pick is idle
+unfoldable pub plainedBy : (code : List ℕ) (table : List ℤ) (pick : ℕ) → Thread → Progress → Given
+plainedBy bytes table pick t p =
+    pickedOf (performed wrapping table t (plainOp (take (reachOf pick (length bytes)) bytes) t)) p
 
 -- the refusal of a call with code, a state that fits or not, and so many picks
 unfoldable pub refusalOf : Outcome Job → (fitting : Bool) (picks : ℕ) → ℕ

@@ -1,10 +1,9 @@
 // What is carried from pick to pick, and one pick of a record, by value; which refusal a call has, and what it answers.
-ghost use mathlib.Core.Bool.{true};
 ghost use mathlib.Core.Path.{_≡_};
 ghost use lib.Dec.{eqb};
 ghost use lib.ListN.{length};
 ghost use Rattle.code.specs.Reader.{readCode};
-ghost use Rattle.progress.specs.InnerProgress.{admittedTo, advancedTo, given, moreTo, pickedBy, plainPick, reachOf, refusalOf, runReplyOf, seatOf, stepReplyOf, whichOf};
+ghost use Rattle.progress.specs.InnerProgress.{admittedTo, advancedTo, given, moreTo, pickedBy, plainPick, plainedBy, reachOf, refusalOf, runReplyOf, seatOf, stepReplyOf, whichOf};
 ghost use Rattle.survey.specs.InnerWalk.{surveyFits};
 
 // The number of threads, how many picks are to be done, document 01's number of the refusal, 0 if there is none, the counts so far, and what
@@ -153,10 +152,10 @@ pub fn is_plain(t: thread::Thread, code: &[u8], pick: u8) -> bool
     t.is_plain(&code[..reach])
 }
 
-// A pick that changes the stack of its record alone: what `perform` does, without the copies of the logs. The table stays.
+// A pick that changes the stack of its record alone, without the copies of the logs that `perform` makes; any other pick is idle. The table
+// stays.
 pub fn plain(t: thread::Thread, code: &[u8], registers: &mut [i32], pick: u8, p: Progress) -> Picked
-    requires { ⌜ plainPick (now code) pick t ≡ true ⌝ }
-    ensures { λ r. ⌜ given r (now (registers .exit)) ≡ pickedBy (now (code .entry)) (now (registers .entry)) pick t p ⌝ }
+    ensures { λ r. ⌜ given r (now (registers .exit)) ≡ plainedBy (now (code .entry)) (now (registers .entry)) pick t p ⌝ }
 {
     let reach = reach(pick, code.len());
     let threads = p.threads;

@@ -6,12 +6,15 @@ use mathlib.Core.List.{List}
 use native.Mathlib.Omega.{arith}
 use borrow.Author.Tests.{eq-eqb, ne-eqb, eqb-true, leb-true, ltb-false}
 use lib.Dec.{eqb, leb, ltb}
-use lib.IntN.{ℤ}
-use lib.ListN.{length, drop}
+use lib.IntN.{ℤ, pos}
+use lib.ListN.{length, drop, getD, set}
+use lib.Seq.{set-set, set-comm, set-getD}
+use native.Mathlib.Numerals.{add-one}
 use Rattle.thread.specs.declared.Action.{Action}
 use Rattle.thread.specs.declared.Thread.{Thread}
-use Rattle.thread.specs.Threads.{push, add}
-use Rattle.thread.specs.InnerStep.{Due, handed, unacted, enoughFor, takesOp, performed, ableOp, dueOp, attempted, stepped, acting, outsideTurn, stackedOp, addOp, numberOp, plainIn}
+use Rattle.thread.specs.declared.Plan.{Plan}
+use Rattle.thread.specs.Threads.{withPlace, withStack, push, add}
+use Rattle.thread.specs.InnerStep.{Due, Stackable, handed, unacted, acting, enoughFor, takesOp, performed, ableOp, dueOp, attempted, stepped, stackedOp, stackEvent, numberOp, plainIn, stackOnly, plainOp, planOf, valueOf, stackedBy, stackTurn}
 use Rattle.code.specs.Ops.{opAt}
 use Rattle.ops.specs.Shown.{shownOp}
 use Rattle.ops.specs.declared.Op.{Op}
@@ -209,6 +212,28 @@ module _ (o : Op) (r : ℕ) (t : Thread) (d : Due o r t) where
       (f .0, omega arith)
 
 -- ---- PUSH and ADD
+nothing-stacked : (height place : ℕ) → Stackable (stackEvent op.Foreign) height place
+unfolding stackEvent
+nothing-stacked height place = record { push = λ e. absurd (omega arith); add = λ e. absurd (omega arith) }
+
+stack-able : (height place size : ℕ) → size < 2 ^ 64 → (o : Op) → stackedOp o height (size - place) ≡ true → Stackable (stackEvent o) height place
+unfolding stackEvent stackedOp
+stack-able height place size k (op.Push n) q =
+    let f = enough-true 0 height 63 5 (size - place) q in
+    let g = f .1 in
+    let h = f .2 in
+    record { push = λ e. (omega arith, omega arith); add = λ e. absurd (omega arith) }
+stack-able height place size k op.Add q =
+    let f = enough-true 2 height 64 1 (size - place) q in
+    let h = f .2 in
+    record { push = λ e. absurd (omega arith); add = λ e. (f .0, f .1, omega arith) }
+stack-able height place size k (op.Read v) q = never q
+stack-able height place size k (op.Write v) q = never q
+stack-able height place size k op.Begin q = never q
+stack-able height place size k op.Commit q = never q
+stack-able height place size k (op.Fork size′) q = never q
+stack-able height place size k op.Foreign q = never q
+
 module _ (bytes : List ℕ) (t : Thread) where
   pub plain-no-thread : t .start ≡ 0 → false ≡ plainIn bytes t
   unfolding plainIn
@@ -222,90 +247,139 @@ module _ (bytes : List ℕ) (t : Thread) where
   unfolding plainIn
   plain-here s p = rw (plainIn, ne-eqb (t .start) 0 s, ne-eqb (t .place) (t .end) p)
 
-  -- what is plain is a PUSH or an ADD that the record has what it takes for
-  pub record Plain (o : Op) : Type 0 where
-    pub stacked : stackedOp o (t .height) (length bytes - t .place) ≡ true
-    pub steps : (table : List ℤ) → performed wrapping table t o ≡ stepped wrapping bytes table t
+  plain-some : eqb (t .start) 0 ≡ false → eqb (t .place) (t .end) ≡ false → plainOp bytes t ≡ stackOnly bytes t (shownOp (opAt (drop (t .place) bytes)))
+  unfolding plainOp
+  plain-some s p = rw (plainOp, s, p)
 
-  pub plain-op : (o : Op) → o ≡ shownOp (opAt (drop (t .place) bytes)) → plainIn bytes t ≡ true → Plain o
-  unfolding plainIn stepped attempted stackedOp takesOp
-  plain-op o is e = go (eqb (t .start) 0 || eqb (t .place) (t .end)) refl e
+  pub op-no-thread : t .start ≡ 0 → op.Foreign ≡ plainOp bytes t
+  unfolding plainOp
+  op-no-thread s = rw (plainOp, eq-eqb (t .start) 0 s)
+
+  pub op-at-end : (t .start ≡ 0 → ⊥) → t .place ≡ t .end → op.Foreign ≡ plainOp bytes t
+  unfolding plainOp
+  op-at-end s p = rw (plainOp, ne-eqb (t .start) 0 s, eq-eqb (t .place) (t .end) p)
+
+  module _ (s : t .start ≡ 0 → ⊥) (p : t .place ≡ t .end → ⊥) (o : Op) (is : o ≡ shownOp (opAt (drop (t .place) bytes))) where
+    op-some : plainOp bytes t ≡ stackOnly bytes t o
+    op-some = plain-some (ne-eqb (t .start) 0 s) (ne-eqb (t .place) (t .end) p) ∙ ap (stackOnly bytes t) (sym is)
+
+    pub op-other : stackedOp o (t .height) (length bytes - t .place) ≡ false → op.Foreign ≡ plainOp bytes t
+    unfolding stackOnly
+    op-other f = sym (op-some ∙ (let q : stackOnly bytes t o ≡ op.Foreign = rw (stackOnly, f) in q))
+
+    pub op-here : stackedOp o (t .height) (length bytes - t .place) ≡ true → o ≡ plainOp bytes t
+    unfolding stackOnly
+    op-here f = sym (op-some ∙ (let q : stackOnly bytes t o ≡ o = rw (stackOnly, f) in q))
+
+  -- what is plain is taken
+  pub plain-taken : (table : List ℤ) → plainIn bytes t ≡ true → performed wrapping table t (plainOp bytes t) ≡ stepped wrapping bytes table t
+  unfolding plainIn plainOp stackOnly stepped attempted stackedOp takesOp
+  plain-taken table e = go (eqb (t .start) 0 || eqb (t .place) (t .end)) e
     where
       able : Op
       able = shownOp (opAt (drop (t .place) bytes))
 
-      taken : (u : Op) (r : ℕ) → stackedOp u (t .height) (length bytes - t .place) ≡ true → takesOp u (t .height) (t .base) r (length bytes - t .place) ≡ true
-      taken (op.Push n) r q = q
-      taken op.Add r q = q
-      taken (op.Read v) r q = never q
-      taken (op.Write v) r q = never q
-      taken op.Begin r q = never q
-      taken op.Commit r q = never q
-      taken (op.Fork size) r q = never q
-      taken op.Foreign r q = never q
+      left : ℕ
+      left = length bytes - t .place
 
-      same : (table : List ℤ) (b : Bool) → takesOp able (t .height) (t .base) (length table) (length bytes - t .place) ≡ b → b ≡ true → performed wrapping table t able ≡ (elim b [ true ↦ performed wrapping table t able | false ↦ handed (unacted t) table ])
-      same table true q f = refl
-      same table false q f = never f
+      taken : (u : Op) → stackedOp u (t .height) left ≡ true → takesOp u (t .height) (t .base) (length table) left ≡ true
+      taken (op.Push n) q = q
+      taken op.Add q = q
+      taken (op.Read v) q = never q
+      taken (op.Write v) q = never q
+      taken op.Begin q = never q
+      taken op.Commit q = never q
+      taken (op.Fork size) q = never q
+      taken op.Foreign q = never q
 
-      go : (b : Bool) → (eqb (t .start) 0 || eqb (t .place) (t .end)) ≡ b → (elim b [ true ↦ false | false ↦ stackedOp able (t .height) (length bytes - t .place) ]) ≡ true → Plain o
-      go true q f = never f
-      go false q f =
-          record {
-            stacked = ap (λ (u : Op). stackedOp u (t .height) (length bytes - t .place)) is ∙ f;
-            steps = λ table.
-                ap (performed wrapping table t) is
-                ∙ (same table (takesOp able (t .height) (t .base) (length table) (length bytes - t .place)) refl (taken able (length table) f)
-                ∙ sym (let z : stepped wrapping bytes table t ≡ attempted wrapping bytes table t able = rw (stepped, q) in z));
-          }
+      same : (b c : Bool) → b ≡ true → c ≡ true → performed wrapping table t (elim b [ true ↦ able | false ↦ op.Foreign ]) ≡ (elim c [ true ↦ performed wrapping table t able | false ↦ handed (unacted t) table ])
+      same true true q f = refl
+      same true false q f = never f
+      same false c q f = never q
 
-is-add : (o : Op) → addOp o ≡ true → o ≡ op.Add
-unfolding addOp
-is-add (op.Push n) e = never e
-is-add op.Add e = refl
-is-add (op.Read v) e = never e
-is-add (op.Write v) e = never e
-is-add op.Begin e = never e
-is-add op.Commit e = never e
-is-add (op.Fork size) e = never e
-is-add op.Foreign e = never e
+      go : (b : Bool) → (elim b [ true ↦ false | false ↦ stackedOp able (t .height) left ]) ≡ true → performed wrapping table t (elim b [ true ↦ op.Foreign | false ↦ stackOnly bytes t able ]) ≡ (elim b [ true ↦ handed (unacted t) table | false ↦ attempted wrapping bytes table t able ])
+      go true f = never f
+      go false f = same (stackedOp able (t .height) left) (takesOp able (t .height) (t .base) (length table) left) f (taken able f)
 
-is-push : (o : Op) (h left : ℕ) → stackedOp o h left ≡ true → addOp o ≡ false → o ≡ op.Push (numberOp o)
-unfolding addOp stackedOp numberOp
-is-push (op.Push n) h left e f = refl
-is-push op.Add h left e f = never (sym f)
-is-push (op.Read v) h left e f = never e
-is-push (op.Write v) h left e f = never e
-is-push op.Begin h left e f = never e
-is-push op.Commit h left e f = never e
-is-push (op.Fork size) h left e f = never e
-is-push op.Foreign h left e f = never e
+  -- what is due is Foreign, or a PUSH or an ADD that the record has what it takes for
+  pub plain-able : length bytes < 2 ^ 64 → Stackable (stackEvent (plainOp bytes t)) (t .height) (t .place)
+  unfolding plainOp stackOnly
+  plain-able k = go (eqb (t .start) 0 || eqb (t .place) (t .end))
+    where
+      able : Op
+      able = shownOp (opAt (drop (t .place) bytes))
 
-module _ (bytes : List ℕ) (t : Thread) (o : Op) (p : Plain bytes t o) where
-  module _ (f : addOp o ≡ true) where
-    pub plain-adds : length bytes < 2 ^ 64 → (2 ≤ t .height) × (t .height ≤ 64) × (t .place + 1 < 2 ^ 64)
-    unfolding stackedOp
-    plain-adds k =
-        let e = enough-true 2 (t .height) 64 1 (length bytes - t .place) (sym (ap (λ (u : Op). stackedOp u (t .height) (length bytes - t .place)) (is-add o f)) ∙ p .stacked) in
-        let g = e .2 in
-        (e .0, e .1, omega arith)
+      left : ℕ
+      left = length bytes - t .place
 
-    pub plain-added : (a : Action) → a ≡ acting 2 (outsideTurn (t .begin)) (add wrapping t) → (table : List ℤ) → handed a table ≡ stepped wrapping bytes table t
-    unfolding performed
-    plain-added a e table = ap (λ (x : Action). handed x table) e ∙ (sym (ap (performed wrapping table t) (is-add o f)) ∙ p .steps table)
+      take′ : (b : Bool) → stackedOp able (t .height) left ≡ b → Stackable (stackEvent (elim b [ true ↦ able | false ↦ op.Foreign ])) (t .height) (t .place)
+      take′ true q = stack-able (t .height) (t .place) (length bytes) k able q
+      take′ false q = nothing-stacked (t .height) (t .place)
 
-  module _ (f : addOp o ≡ false) where
-    pushed : o ≡ op.Push (numberOp o)
-    pushed = is-push o (t .height) (length bytes - t .place) (p .stacked) f
+      go : (b : Bool) → Stackable (stackEvent (elim b [ true ↦ op.Foreign | false ↦ stackOnly bytes t able ])) (t .height) (t .place)
+      go true = nothing-stacked (t .height) (t .place)
+      go false = take′ (stackedOp able (t .height) left) refl
 
-    pub plain-pushes : length bytes < 2 ^ 64 → (t .height < 64) × (t .place + 5 < 2 ^ 64)
-    unfolding stackedOp
-    plain-pushes k =
-        let e = enough-true 0 (t .height) 63 5 (length bytes - t .place) (sym (ap (λ (u : Op). stackedOp u (t .height) (length bytes - t .place)) pushed) ∙ p .stacked) in
-        let g = e .2 in
-        let h = e .1 in
+-- the record after it: by one way of stores, and as its definition says
+pub stacked-cells : (t : Thread) (event : ℕ) (n : ℤ) → Stackable event (t .height) (t .place) → let q = planOf event (t .height) (t .place) in withPlace (q .place) (withStack (q .height) (set (set (t .cells) (q .high) (pos 0)) (q .low) (valueOf event n (getD (t .cells) (q .low) (pos 0)) (getD (t .cells) (q .high) (pos 0)))) t) ≡ stackedBy event n t
+unfolding planOf valueOf stackedBy push add
+stacked-cells t event n f = go (eqb event 1) refl (eqb event 2) refl
+  where
+    after : Plan → ℤ → Thread
+    after q x = withPlace (q .place) (withStack (q .height) (set (set (t .cells) (q .high) (pos 0)) (q .low) x) t)
+
+    at : Plan → ℕ → ℤ
+    at q i = getD (t .cells) i (pos 0)
+
+    go : (b : Bool) → eqb event 1 ≡ b → (c : Bool) → eqb event 2 ≡ c → let q : Plan = (elim b [ true ↦ record { low = t .height; high = t .height; height = t .height + 1; place = t .place + 5 } | false ↦ elim c [ true ↦ record { low = t .height - 2; high = t .height - 1; height = t .height - 1; place = t .place + 1 } | false ↦ record { low = 0; high = 0; height = t .height; place = t .place } ] ]) in after q (cond b n (cond c (wrapping (at q (q .low)) (at q (q .high))) (at q (q .low)))) ≡ (elim b [ true ↦ push n (t .place + 5) t | false ↦ elim c [ true ↦ add wrapping t | false ↦ t ] ])
+    go true e c h = rw (set-set (t .cells) (t .height) (pos 0) n, add-one)
+    go false e true h =
+        let g = f .add (eqb-true event 2 h) .0 in
+        ap (λ (l : List ℤ). withPlace (t .place + 1) (withStack (t .height - 1) l t)) (set-comm (t .cells) (t .height - 1) (t .height - 2) (pos 0) _ (λ q. omega arith))
+    go false e false h = ap (λ (l : List ℤ). withPlace (t .place) (withStack (t .height) l t)) (set-set (t .cells) 0 (pos 0) (getD (t .cells) 0 (pos 0)) ∙ set-getD (t .cells) 0 (pos 0))
+
+-- and what is handed back with it
+abbrev pub plainAction : Thread → Op → Action
+plainAction t o = acting (stackEvent o) (stackTurn (stackEvent o) (t .begin)) (stackedBy (stackEvent o) (numberOp o) t)
+
+stack-acts : (table : List ℤ) (t : Thread) (left : ℕ) (o : Op) → stackedOp o (t .height) left ≡ true → handed (plainAction t o) table ≡ performed wrapping table t o
+unfolding stackedOp stackEvent stackTurn stackedBy numberOp performed
+stack-acts table t left (op.Push n) q = refl
+stack-acts table t left op.Add q = refl
+stack-acts table t left (op.Read v) q = never q
+stack-acts table t left (op.Write v) q = never q
+stack-acts table t left op.Begin q = never q
+stack-acts table t left op.Commit q = never q
+stack-acts table t left (op.Fork size) q = never q
+stack-acts table t left op.Foreign q = never q
+
+pub plain-acts : (bytes : List ℕ) (table : List ℤ) (t : Thread) → handed (plainAction t (plainOp bytes t)) table ≡ performed wrapping table t (plainOp bytes t)
+unfolding plainOp stackOnly stackEvent stackTurn stackedBy numberOp performed
+plain-acts bytes table t = go (eqb (t .start) 0 || eqb (t .place) (t .end))
+  where
+    able : Op
+    able = shownOp (opAt (drop (t .place) bytes))
+
+    left : ℕ
+    left = length bytes - t .place
+
+    some : (b : Bool) → stackedOp able (t .height) left ≡ b → handed (plainAction t (elim b [ true ↦ able | false ↦ op.Foreign ])) table ≡ performed wrapping table t (elim b [ true ↦ able | false ↦ op.Foreign ])
+    some true q = stack-acts table t left able q
+    some false q = refl
+
+    go : (b : Bool) → handed (plainAction t (elim b [ true ↦ op.Foreign | false ↦ stackOnly bytes t able ])) table ≡ performed wrapping table t (elim b [ true ↦ op.Foreign | false ↦ stackOnly bytes t able ])
+    go true = refl
+    go false = some (stackedOp able (t .height) left) refl
+
+-- the cells that change are among the 64
+pub plan-low : (event height place : ℕ) → Stackable event height place → (planOf event height place .low < 64) × (planOf event height place .high < 64)
+unfolding planOf
+plan-low event height place f = go (eqb event 1) refl (eqb event 2) refl
+  where
+    go : (b : Bool) → eqb event 1 ≡ b → (c : Bool) → eqb event 2 ≡ c → let q : Plan = (elim b [ true ↦ record { low = height; high = height; height = height + 1; place = place + 5 } | false ↦ elim c [ true ↦ record { low = height - 2; high = height - 1; height = height - 1; place = place + 1 } | false ↦ record { low = 0; high = 0; height = height; place = place } ] ]) in (q .low < 64) × (q .high < 64)
+    go true e c h = let g = f .push (eqb-true event 1 e) .0 in (g, g)
+    go false e true h =
+        let g = f .add (eqb-true event 2 h) .0 in
+        let k = f .add (eqb-true event 2 h) .1 in
         (omega arith, omega arith)
-
-    pub plain-pushed : (a : Action) → a ≡ acting 1 0 (push (numberOp o) (t .place + 5) t) → (table : List ℤ) → handed a table ≡ stepped wrapping bytes table t
-    unfolding performed
-    plain-pushed a e table = ap (λ (x : Action). handed x table) e ∙ (sym (ap (performed wrapping table t) pushed) ∙ p .steps table)
+    go false e false h = (omega arith, omega arith)

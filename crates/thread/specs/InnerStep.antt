@@ -9,6 +9,7 @@ use lib.IntN.{ℤ, pos}
 use lib.Signed.{ltZ}
 use lib.ListN.{length, drop, getD, set, take, replicate}
 use Rattle.thread.specs.declared.Action.{Action}
+use Rattle.thread.specs.declared.Plan.{Plan}
 use Rattle.thread.specs.declared.Thread.{Thread}
 use Rattle.thread.specs.Threads.{push, add, begin, noted, read, write, closed, firstStale, overlaid}
 use Rattle.code.specs.Ops.{opAt}
@@ -17,7 +18,7 @@ use Rattle.ops.specs.declared.Op.{Op}
 use Rattle.ops.specs.declared.Op.the-variants as op
 use Rattle.stm.specs.Events.{fromTable}
 use Rattle.word.specs.Registers.{member}
-use Rattle.word.specs.Sum.{Rule}
+use Rattle.word.specs.Sum.{Rule, wrapping}
 
 -- ---- by the sets and values of a record
 -- the first register that a set marks, from this one on; 64 if there is none
@@ -160,15 +161,16 @@ stackedOp op.Commit h left = false
 stackedOp (op.Fork size) h left = false
 stackedOp op.Foreign h left = false
 
-unfoldable pub addOp : Op → Bool
-addOp (op.Push n) = false
-addOp op.Add = true
-addOp (op.Read v) = false
-addOp (op.Write v) = false
-addOp op.Begin = false
-addOp op.Commit = false
-addOp (op.Fork size) = false
-addOp op.Foreign = false
+-- its event, 0 if it is none of them
+unfoldable pub stackEvent : Op → ℕ
+stackEvent (op.Push n) = 1
+stackEvent op.Add = 2
+stackEvent (op.Read v) = 0
+stackEvent (op.Write v) = 0
+stackEvent op.Begin = 0
+stackEvent op.Commit = 0
+stackEvent (op.Fork size) = 0
+stackEvent op.Foreign = 0
 
 unfoldable pub numberOp : Op → ℤ
 numberOp (op.Push n) = n
@@ -187,3 +189,42 @@ plainIn bytes t =
       | true ↦ false
       | false ↦ stackedOp (shownOp (opAt (drop (t .place) bytes))) (t .height) (length bytes - t .place)
     ]
+
+-- the instruction of a step if it is one of them, else Foreign
+unfoldable pub stackOnly : (code : List ℕ) → Thread → Op → Op
+stackOnly bytes t o = elim (stackedOp o (t .height) (length bytes - t .place)) [ true ↦ o | false ↦ op.Foreign ]
+
+unfoldable pub plainOp : (code : List ℕ) → Thread → Op
+plainOp bytes t =
+    elim (eqb (t .start) 0 || eqb (t .place) (t .end)) [
+      | true ↦ op.Foreign
+      | false ↦ stackOnly bytes t (shownOp (opAt (drop (t .place) bytes)))
+    ]
+
+-- by the event: what a record must have; which cells change, the height and the place after it; the low cell's value; the record; the turn
+pub record Stackable (event height place : ℕ) : Type 0 where
+  pub push : event ≡ 1 → (height < 64) × (place + 5 < 2 ^ 64)
+  pub add : event ≡ 2 → (2 ≤ height) × (height ≤ 64) × (place + 1 < 2 ^ 64)
+
+unfoldable pub planOf : (event height place : ℕ) → Plan
+planOf event height place =
+    elim (eqb event 1) [
+      | true ↦ record { low = height; high = height; height = height + 1; place = place + 5 }
+      | false ↦ elim (eqb event 2) [
+        | true ↦ record { low = height - 2; high = height - 1; height = height - 1; place = place + 1 }
+        | false ↦ record { low = 0; high = 0; height = height; place = place }
+      ]
+    ]
+
+unfoldable pub valueOf : (event : ℕ) (n a b : ℤ) → ℤ
+valueOf event n a b = cond (eqb event 1) n (cond (eqb event 2) (wrapping a b) a)
+
+unfoldable pub stackedBy : (event : ℕ) (n : ℤ) → Thread → Thread
+stackedBy event n t =
+    elim (eqb event 1) [
+      | true ↦ push n (t .place + 5) t
+      | false ↦ elim (eqb event 2) [ true ↦ add wrapping t | false ↦ t ]
+    ]
+
+unfoldable pub stackTurn : (event begin : ℕ) → ℕ
+stackTurn event begin = cond (eqb event 2) (outsideTurn begin) 0

@@ -1,11 +1,10 @@
 // The thread record that is lent, and one step of a thread, by value.
 ghost use Prim.Native.Nat.{_+_, _-_, _<_, _≤_, _^_};
 ghost use lib.ListN.{length};
-ghost use mathlib.Core.Bool.{true};
 ghost use mathlib.Core.List.{List};
 ghost use mathlib.Core.Path.{_≡_};
 ghost use lib.IntN.{ℤ};
-ghost use Rattle.thread.specs.InnerStep.{Due, Marked, acting, addOp, cleared, committed, dueOp, enoughFor, firstStaleIn, handed, logged, numberOp, outsideTurn, performed, plainIn, sourceNumber, stackedOp, staleIn, stepped, storedIn, takesOp, unacted};
+ghost use Rattle.thread.specs.InnerStep.{Due, Marked, Stackable, acting, cleared, committed, dueOp, enoughFor, firstStaleIn, handed, logged, numberOp, outsideTurn, performed, plainIn, plainOp, planOf, sourceNumber, stackEvent, stackTurn, stackedBy, stackedOp, staleIn, stepped, storedIn, takesOp, unacted, valueOf};
 ghost use Rattle.thread.specs.Threads as threads;
 ghost use Rattle.word.specs.Sum.{wrapping};
 
@@ -223,19 +222,19 @@ fn is_stacked(op: ops::Op, height: usize, left: usize) -> bool
     }
 }
 
-// Whether the instruction is ADD.
-fn is_add(op: ops::Op) -> bool
-    ensures { λ r. ⌜ r ≡ addOp op ⌝ }
+// The event of a PUSH or an ADD, else 0.
+fn stack_event(op: ops::Op) -> usize
+    ensures { λ r. ⌜ r ≡ stackEvent op ⌝ }
 {
     match op {
-        ops::Op::Push(_n) => false,
-        ops::Op::Add => true,
-        ops::Op::Read(_v) => false,
-        ops::Op::Write(_v) => false,
-        ops::Op::Begin => false,
-        ops::Op::Commit => false,
-        ops::Op::Fork(_size) => false,
-        ops::Op::Foreign => false,
+        ops::Op::Push(_n) => 1,
+        ops::Op::Add => 2,
+        ops::Op::Read(_v) => 0,
+        ops::Op::Write(_v) => 0,
+        ops::Op::Begin => 0,
+        ops::Op::Commit => 0,
+        ops::Op::Fork(_size) => 0,
+        ops::Op::Foreign => 0,
     }
 }
 
@@ -253,6 +252,65 @@ fn number(op: ops::Op) -> i32
         ops::Op::Fork(_size) => 0,
         ops::Op::Foreign => 0,
     }
+}
+
+// The turns that a PUSH, an ADD or none of them takes.
+fn stack_turn(event: usize, begin: usize) -> usize
+    ensures { λ r. ⌜ r ≡ stackTurn event begin ⌝ }
+{
+    if event == 2 {
+        return outside(begin);
+    }
+    0
+}
+
+// Which cells a PUSH, an ADD or none of them changes, and the height and the place after it.
+struct Plan {
+    low: usize,
+    high: usize,
+    height: usize,
+    place: usize,
+}
+
+fn planned(event: usize, height: usize, place: usize) -> Plan
+    requires { ⌜ Stackable event height place ⌝ }
+    ensures { λ r. ⌜ r ≡ planOf event height place ⌝ }
+{
+    if event == 1 {
+        return Plan {
+            low: height,
+            high: height,
+            height: height + 1,
+            place: place + 5,
+        };
+    }
+    if event == 2 {
+        return Plan {
+            low: height - 2,
+            high: height - 1,
+            height: height - 1,
+            place: place + 1,
+        };
+    }
+    Plan {
+        low: 0,
+        high: 0,
+        height,
+        place,
+    }
+}
+
+// What the low one of these cells becomes.
+fn value(event: usize, n: i32, a: i32, b: i32) -> i32
+    ensures { λ r. ⌜ r ≡ valueOf event n a b ⌝ }
+{
+    if event == 1 {
+        return n;
+    }
+    if event == 2 {
+        return word::add(a, b);
+    }
+    a
 }
 
 // The record after an instruction that forks nothing and is not sent back.
@@ -540,20 +598,52 @@ impl Thread {
         )
     }
 
-    // One instruction that is PUSH or ADD.
-    pub fn plain(self, code: &[u8]) -> Action
-        requires { ⌜ plainIn (now code) self ≡ true ⌝ }
-        ensures { λ r. ⌜ ((table : List ℤ) → handed r table ≡ stepped wrapping (now (code .entry)) table self) ⌝ }
+    // The instruction at the record's place if it is PUSH or ADD and the record has what it takes, else Foreign.
+    fn plain_op(self, code: &[u8]) -> ops::Op
+        ensures { λ r. ⌜ r ≡ plainOp (now (code .entry)) self ⌝ }
     {
         let place = self.place;
-        let op = ops::op_at(code, place);
-        if is_add(op) {
-            let turn = outside(self.begin);
-            let t = self.add();
-            return did(t, 2, turn);
+        if self.start == 0 {
+            return ops::Op::Foreign;
         }
+        if place == self.end {
+            return ops::Op::Foreign;
+        }
+        let op = ops::op_at(code, place);
+        if !is_stacked(op, self.height, behind(code.len(), place)) {
+            return ops::Op::Foreign;
+        }
+        op
+    }
+
+    // After a PUSH, an ADD or none of them, in one way: the stack alone is changed.
+    fn stacked(mut self, event: usize, n: i32) -> Thread
+        requires { ⌜ Stackable event (self .height) (self .place) ⌝ }
+        ensures { λ r. ⌜ r ≡ stackedBy event n self ⌝ }
+    {
+        let q = planned(event, self.height, self.place);
+        let low = q.low;
+        let high = q.high;
+        let mut cells = self.cells;
+        let a = cells[low];
+        let b = cells[high];
+        cells[high] = 0;
+        cells[low] = value(event, n, a, b);
+        self.cells = cells;
+        self.height = q.height;
+        self.place = q.place;
+        self
+    }
+
+    // One instruction if it is PUSH or ADD; else the record is handed back idle.
+    pub fn plain(self, code: &[u8]) -> Action
+        ensures { λ r. ⌜ ((table : List ℤ) → handed r table ≡ performed wrapping table self (plainOp (now (code .entry)) self)) ⌝ }
+    {
+        let op = self.plain_op(code);
+        let event = stack_event(op);
         let n = number(op);
-        let t = self.push(n, place + 5);
-        did(t, 1, 0)
+        let turn = stack_turn(event, self.begin);
+        let t = self.stacked(event, n);
+        did(t, event, turn)
     }
 }

@@ -49,7 +49,7 @@ use denote.Exit.{yes}
 use borrow.Author.Tests.{ltb-false}
 use Rattle.thread.specs.Threads.{blank, spawned}
 use Rattle.thread.specs.declared.Thread.{Thread}
-use Rattle.progress.specs.InnerProgress.{whichOf, given as handed, pickedBy, plainPick, drivenBy}
+use Rattle.progress.specs.InnerProgress.{whichOf, given as handed, pickedBy, plainPick, plainedBy, drivenBy}
 use Rattle.progress.specs.declared.Progress.{Progress}
 use Rattle.progress.specs.declared.Picked.{Picked}
 use Rattle.engine.specs.InnerEngine.{stateOf, drove}
@@ -59,6 +59,7 @@ use Rattle.thread.proofs.Thread as Tt
 use Rattle.thread.proofs.Thread.Laws as T′
 use Rattle.progress.proofs.Progress.Laws as P′
 use Rattle.progress.proofs.Picked.Laws as A′
+use Rattle.progress.proofs.Performs.{plained}
 use Rattle.progress.proofs.which as which
 use Rattle.progress.proofs.which.Symbol as which-def
 use Rattle.progress.proofs.which.Symbol.{name as #which}
@@ -189,15 +190,19 @@ module _ {M : Type 1} (𝓤 : URA M) (H : Heap 𝓤) (A : Atoms 𝓤) (W : Given
   to-laid st en = ((tt, tt, tt, (st, (en, tt)), (vint w64 st ∷ [], (vint w64 en ∷ [], tt))), tt)
 
   -- what `plain` ensures
+  abbrev Plained : Picked → List ℤ → Type 0
+  Plained r rs′ = handed r rs′ ≡ plainedBy cd rs n e p
+
+  -- which is the pick, where it is plain
   abbrev Ensured : Picked → List ℤ → Type 0
   Ensured r rs′ = handed r rs′ ≡ pickedBy cd rs n e p
 
   -- what it asks
-  asks-step : plainPick cd n e ≡ true → n < 2 ^ 8 → Is ThreadR e (thread-vals e) → Is ProgressR p (progress-vals p) → ent 𝓤 (⋆ 𝓤 H A (‵ (flft κ₀ q₀) ∷ ‵ (flft κ₁ q₁) ∷ ‵ Own₀ ∷ ‵ Own₁ ∷ [])) (Step 𝓤 H A mem rn .pre to-step)
-  asks-step plain gi ge gp =
-      qed W (‵ (flft κ₀ q₀) ∷ ‵ (flft κ₁ q₁) ∷ ‵ Own₀ ∷ ‵ Own₁ ∷ []) ∵ says ! plain $ nothing ! $ move ! (2 ∷ 0 ∷ []) $ join ! $ move ! (1 ∷ 0 ∷ []) $ join ! $ frame ! $
-      nothing ! $ owned ! ProgressR (Is ProgressR) (progress-makes 𝓤 H A) p _ gp $ fjoin ! $ owned ! u8 (Is u8) (uint-makes 𝓤 H A W w8) n _ (refl, gi) $ fjoin ! $ move ! (2 ∷ 0 ∷ []) $ fjoin ! $ move ! (1 ∷ 0 ∷ []) $ fjoin ! $
-      owned ! ThreadR (Is ThreadR) (thread-makes 𝓤 H A) e _ ge $ fjoin ! $ done !
+  asks-step : n < 2 ^ 8 → Is ThreadR e (thread-vals e) → Is ProgressR p (progress-vals p) → ent 𝓤 (⋆ 𝓤 H A (‵ (flft κ₀ q₀) ∷ ‵ (flft κ₁ q₁) ∷ ‵ Own₀ ∷ ‵ Own₁ ∷ [])) (Step 𝓤 H A mem rn .pre to-step)
+  asks-step gi ge gp =
+      qed W (‵ (flft κ₀ q₀) ∷ ‵ (flft κ₁ q₁) ∷ ‵ Own₀ ∷ ‵ Own₁ ∷ []) ∵ nothing ! $ move ! (2 ∷ 0 ∷ []) $ join ! $ move ! (1 ∷ 0 ∷ []) $ join ! $
+      nothing ! $ owned ! ProgressR (Is ProgressR) (progress-makes 𝓤 H A) p _ gp $ fjoin ! $ owned ! u8 (Is u8) (uint-makes 𝓤 H A W w8) n _ (refl, gi) $ fjoin ! $ move ! (3 ∷ 0 ∷ []) $ fjoin ! $ move ! (2 ∷ 0 ∷ []) $ fjoin ! $
+      owned ! ThreadR (Is ThreadR) (thread-makes 𝓤 H A) e _ ge $ fjoin ! $ move ! (1 ∷ 0 ∷ []) $ join ! $ frame ! $ done !
 
   -- what `spawned` asks
   asks-laid : (st en : ℕ) → st < 2 ^ 64 → en < 2 ^ 64 → ent 𝓤 (emp 𝓤) (Laid 𝓤 H A mem rn .pre (to-laid st en))
@@ -331,12 +336,12 @@ module _ {M : Type 1} (𝓤 : URA M) (H : Heap 𝓤) (A : Atoms 𝓤) (W : Given
         assigns ! (of-opd ! (load ! (from ! (stop !)) (look ! 25 refl))) (from ! (stop !)) (init ! 35 refl (thread-typed 𝓤 H A W e _ ge .0)) $
         assigns ! (addr ! (from ! (fld ! refl (hop ! (look-in ! 45 (sub ! 0 refl (whole !))) (stop !))))) (from ! (stop !)) (init ! 23 refl (tt, tt)) $
         assigns ! (agg ! (and-then ! (load ! (from ! (stop !)) (look ! 23 refl)) (and-then ! (load ! (from ! (fld ! refl (stop !))) (look-in ! 45 (sub ! 1 refl (whole !)))) (no-more !)))) (from ! (stop !)) (init ! 21 refl (tt, (tt, (record { fits = room₁ .0 }, tt)))) $
-        move ! (8 ∷ 7 ∷ 10 ∷ 9 ∷ []) $ group ! 4 $ use1 W (raw (Step 𝓤 H A mem rn .pre to-step)) (asks-step plain gi ge gp) $
+        move ! (8 ∷ 7 ∷ 10 ∷ 9 ∷ []) $ group ! 4 $ use1 W (raw (Step 𝓤 H A mem rn .pre to-step)) (asks-step gi ge gp) $
         -- [what `step` asks; threads[who]; what it owns; the others; the open borrow; obs; auth; true; _19; …]: _i at 46 - 2 i
         calls-at ! fm (Step 𝓤 H A mem rn) known-step to-step (and-then ! (load ! (from ! (stop !)) (look ! 32 refl)) (and-then ! (load ! (from ! (stop !)) (look ! 44 refl)) (and-then ! (load ! (from ! (stop !)) (look ! 18 refl)) (and-then ! (load ! (from ! (stop !)) (look ! 38 refl)) (and-then ! (load ! (from ! (stop !)) (look ! 36 refl)) (no-more !)))))) (λ w.
         use1 W (later (some (λ (r : Picked). ((‵ (flft κ₀ q₀) ⊛ ‵ (flft κ₁ q₁) ⊛ ‵ ftrue) ⊛ ‵ (PickedR .own r (w ∷ []))) ⊛ raw (ensured 𝓤 H A step.ended (step.clauses 𝓤 H A mem rn) (κ₀, (κ₁, tt)) (e, (x₀, (x₁, (n, (p, tt))))) tt r)))) (id⊢ 𝓤 _) $ await ! tt $ pick ! (λ r.
-        split ! $ move ! (1 ∷ []) $ use1 W (some (λ (zs : Unit {0} × (Unit {0} × (List ℤ × (Unit {0} × (Unit {0} × Unit {0}))))). ‵ (lasts step.ended (κ₀, (κ₁, tt)) (e, (x₀, (x₁, (n, (p, tt))))) zs) ⊛ raw (fact 𝓤 (Ensured r (zs .1 .1 .0))))) (id⊢ 𝓤 _) $ pick ! (λ zs.
-        split ! $ move ! (1 ∷ []) $ heard ! (Ensured r (zs .1 .1 .0)) (λ f. fsplit ! $ drop ! $ fsplit ! $ drop ! $ fsplit ! $ fsplit ! $ move ! (1 ∷ []) $ feqL ! (λ l.
+        split ! $ move ! (1 ∷ []) $ use1 W (some (λ (zs : Unit {0} × (Unit {0} × (List ℤ × (Unit {0} × (Unit {0} × Unit {0}))))). ‵ (lasts step.ended (κ₀, (κ₁, tt)) (e, (x₀, (x₁, (n, (p, tt))))) zs) ⊛ raw (fact 𝓤 (Plained r (zs .1 .1 .0))))) (id⊢ 𝓤 _) $ pick ! (λ zs.
+        split ! $ move ! (1 ∷ []) $ heard ! (Plained r (zs .1 .1 .0)) (λ f. fsplit ! $ drop ! $ fsplit ! $ drop ! $ fsplit ! $ fsplit ! $ move ! (1 ∷ []) $ feqL ! (λ l.
         move ! (2 ∷ []) $ split ! $ move ! (1 ∷ []) $ peeks ! PickedR (Is PickedR) (shows 𝓤 H A PickedR) r (w ∷ []) (λ is.
         -- [what the result owns; the tokens; the last registers; true; threads[who]; what it owns; the others; the open borrow; obs; auth; true; _19; …]: _i at 49 - 2 i
         land ! (from ! (stop !)) (init ! 33 refl (picked-typed 𝓤 H A W r _ is .0)) $ rewrite ! 33 (λ (u : Val). ‵ (fat fullShare A′.mir l₈ 0 u)) (ap only (picked-tells r _ is)) refl $ drop ! $
@@ -351,7 +356,7 @@ module _ {M : Type 1} (𝓤 : URA M) (H : Heap 𝓤) (A : Atoms 𝓤) (W : Given
         assigns ! (bin ! (load ! (from ! (stop !)) (look ! 28 refl)) (load ! (from ! (stop !)) (look ! 26 refl)) tt) (from ! (stop !)) (init ! 14 refl (tt, tt)) $
         forget ! 16 refl $ forget ! 18 refl $ forget ! 20 refl $ forget ! 22 refl $ forget ! 24 refl $ forget ! 26 refl $ forget ! 32 refl $ forget ! 34 refl $ forget ! 36 refl $ forget ! 38 refl $ forget ! 42 refl $ forget ! 44 refl $
         move ! (3 ∷ 7 ∷ []) $ drop ! $ drop ! $
-        onward l₀ l₁ l₂ l₃ l₄ l₅ l₆ l₇ l₈ l₉ l₁₀ l₁₁ l₁₂ l₁₃ l₁₄ l₁₅ l₁₆ l₁₇ l₁₈ l₁₉ room r (zs .1 .1 .0) f l is)))))))))))))))))))))))))))))
+        onward l₀ l₁ l₂ l₃ l₄ l₅ l₆ l₇ l₈ l₉ l₁₀ l₁₁ l₁₂ l₁₃ l₁₄ l₁₅ l₁₆ l₁₇ l₁₈ l₁₉ room r (zs .1 .1 .0) (f ∙ plained cd rs n e p plain) l is)))))))))))))))))))))))))))))
 
 module _ {M : Type 1} (𝓤 : URA M) (H : Heap 𝓤) (A : Atoms 𝓤) (W : Given 𝓤 H A) (mem : Memory → SProp 𝓤) (rn : Routine → Fun 𝓤) where
   -- the walk, at every parameter

@@ -1,5 +1,4 @@
-use mathlib.Core.Path.{_∙_}
-use Rattle.progress.proofs.Performs.{reach-length, plain-reach, a-pick}
+use Rattle.progress.proofs.Performs.{reach-length, a-plain}
 use borrow.Author.Needs.{needs}
 use Rattle.progress.proofs.plain.Statement.{statement}
 use Rattle.progress.proofs.plain.Tie as tie
@@ -20,7 +19,7 @@ slice-aggregate-plain c = reach-length (c .before .before .before .args .code .n
 
 -- src/lib.rt:163:9
 plain-requires : tie.Need-plain-requires
-plain-requires c κs = plain-reach _ _ _ _ (c .before .reach .ensures) ∙ c .before .before .before .pre
+plain-requires c κs = search needs
 
 -- src/lib.rt:168:15
 seat-requires : tie.Need-seat-requires
@@ -34,7 +33,7 @@ after-requires c κs = search needs
 returns : tie.Need-returns
 returns c =
     let e = c .before .before .before in
-    a-pick _ _ _ _ _ _ (e .before .before .reach .ensures) _ _ (e .plain .ensures _) _ (c .before .seat .ensures) _ (c .after2 .ensures)
+    a-plain _ _ _ _ _ _ (e .before .before .reach .ensures) _ (e .plain .ensures _) _ (c .before .seat .ensures) _ (c .after2 .ensures)
 
 pub plain-spec : {M : Type 1} → statement M
 plain-spec =
