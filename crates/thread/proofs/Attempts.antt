@@ -1,6 +1,6 @@
 -- What a step comes to, by its tests. Assumes nothing.
 use Prim.Native.Nat.{ℕ, _+_, _-_, _^_, _≤_, _<_}
-use mathlib.Core.Bool.{Bool, true, false, cond, _||_}
+use mathlib.Core.Bool.{Bool, true, false, cond, not, _||_}
 use mathlib.Core.Path.{_≡_, refl, sym, ap, _∙_}
 use mathlib.Core.List.{List}
 use native.Mathlib.Omega.{arith}
@@ -217,7 +217,7 @@ unfolding stackEvent
 nothing-stacked height place = record { push = λ e. absurd (omega arith); add = λ e. absurd (omega arith) }
 
 stack-able : (height place size : ℕ) → size < 2 ^ 64 → (o : Op) → stackedOp o height (size - place) ≡ true → Stackable (stackEvent o) height place
-unfolding stackEvent stackedOp
+unfolding stackEvent stackedOp takesOp
 stack-able height place size k (op.Push n) q =
     let f = enough-true 0 height 63 5 (size - place) q in
     let g = f .1 in
@@ -235,18 +235,6 @@ stack-able height place size k (op.Fork size′) q = never q
 stack-able height place size k op.Foreign q = never q
 
 module _ (bytes : List ℕ) (t : Thread) where
-  pub plain-no-thread : t .start ≡ 0 → false ≡ plainIn bytes t
-  unfolding plainIn
-  plain-no-thread s = rw (plainIn, eq-eqb (t .start) 0 s)
-
-  pub plain-at-end : (t .start ≡ 0 → ⊥) → t .place ≡ t .end → false ≡ plainIn bytes t
-  unfolding plainIn
-  plain-at-end s p = rw (plainIn, ne-eqb (t .start) 0 s, eq-eqb (t .place) (t .end) p)
-
-  pub plain-here : (t .start ≡ 0 → ⊥) → (t .place ≡ t .end → ⊥) → stackedOp (shownOp (opAt (drop (t .place) bytes))) (t .height) (length bytes - t .place) ≡ plainIn bytes t
-  unfolding plainIn
-  plain-here s p = rw (plainIn, ne-eqb (t .start) 0 s, ne-eqb (t .place) (t .end) p)
-
   plain-some : eqb (t .start) 0 ≡ false → eqb (t .place) (t .end) ≡ false → plainOp bytes t ≡ stackOnly bytes t (shownOp (opAt (drop (t .place) bytes)))
   unfolding plainOp
   plain-some s p = rw (plainOp, s, p)
@@ -273,7 +261,7 @@ module _ (bytes : List ℕ) (t : Thread) where
 
   -- what is plain is taken
   pub plain-taken : (table : List ℤ) → plainIn bytes t ≡ true → performed wrapping table t (plainOp bytes t) ≡ stepped wrapping bytes table t
-  unfolding plainIn plainOp stackOnly stepped attempted stackedOp takesOp
+  unfolding plainIn plainOp stackOnly stackEvent stepped attempted stackedOp takesOp
   plain-taken table e = go (eqb (t .start) 0 || eqb (t .place) (t .end)) e
     where
       able : Op
@@ -292,14 +280,17 @@ module _ (bytes : List ℕ) (t : Thread) where
       taken (op.Fork size) q = never q
       taken op.Foreign q = never q
 
-      same : (b c : Bool) → b ≡ true → c ≡ true → performed wrapping table t (elim b [ true ↦ able | false ↦ op.Foreign ]) ≡ (elim c [ true ↦ performed wrapping table t able | false ↦ handed (unacted t) table ])
-      same true true q f = refl
-      same true false q f = never f
-      same false c q f = never q
+      tried : (c : Bool) → c ≡ true → performed wrapping table t able ≡ (elim c [ true ↦ performed wrapping table t able | false ↦ handed (unacted t) table ])
+      tried true f = refl
+      tried false f = never f
 
-      go : (b : Bool) → (elim b [ true ↦ false | false ↦ stackedOp able (t .height) left ]) ≡ true → performed wrapping table t (elim b [ true ↦ op.Foreign | false ↦ stackOnly bytes t able ]) ≡ (elim b [ true ↦ handed (unacted t) table | false ↦ attempted wrapping bytes table t able ])
+      some : (b : Bool) → stackedOp able (t .height) left ≡ b → not (eqb (stackEvent (elim b [ true ↦ able | false ↦ op.Foreign ])) 0) ≡ true → performed wrapping table t (elim b [ true ↦ able | false ↦ op.Foreign ]) ≡ attempted wrapping bytes table t able
+      some true q f = tried (takesOp able (t .height) (t .base) (length table) left) (taken able q)
+      some false q f = never f
+
+      go : (b : Bool) → not (eqb (stackEvent (elim b [ true ↦ op.Foreign | false ↦ stackOnly bytes t able ])) 0) ≡ true → performed wrapping table t (elim b [ true ↦ op.Foreign | false ↦ stackOnly bytes t able ]) ≡ (elim b [ true ↦ handed (unacted t) table | false ↦ attempted wrapping bytes table t able ])
       go true f = never f
-      go false f = same (stackedOp able (t .height) left) (takesOp able (t .height) (t .base) (length table) left) f (taken able f)
+      go false f = some (stackedOp able (t .height) left) refl f
 
   -- what is due is Foreign, or a PUSH or an ADD that the record has what it takes for
   pub plain-able : length bytes < 2 ^ 64 → Stackable (stackEvent (plainOp bytes t)) (t .height) (t .place)
@@ -343,7 +334,7 @@ abbrev pub plainAction : Thread → Op → Action
 plainAction t o = acting (stackEvent o) (stackTurn (stackEvent o) (t .begin)) (stackedBy (stackEvent o) (numberOp o) t)
 
 stack-acts : (table : List ℤ) (t : Thread) (left : ℕ) (o : Op) → stackedOp o (t .height) left ≡ true → handed (plainAction t o) table ≡ performed wrapping table t o
-unfolding stackedOp stackEvent stackTurn stackedBy numberOp performed
+unfolding stackedOp takesOp stackEvent stackTurn stackedBy numberOp performed
 stack-acts table t left (op.Push n) q = refl
 stack-acts table t left op.Add q = refl
 stack-acts table t left (op.Read v) q = never q

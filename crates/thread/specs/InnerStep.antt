@@ -1,7 +1,7 @@
 -- Mirrors the methods of `Thread` for their proofs. Nobody has to believe it: in a state that fits, a step is `act` with every number that it
 -- hands back (`step-acts` and `idle-step`, machine/proofs/Actings). What it does of a record that no such state has is left free by the papers.
 use Prim.Native.Nat.{ℕ, zero, suc, _+_, _-_, _^_, _≤_, _<_}
-use mathlib.Core.Bool.{Bool, true, false, cond, _&&_, _||_}
+use mathlib.Core.Bool.{Bool, true, false, cond, not, _&&_, _||_}
 use mathlib.Core.List.{List, _++_}
 use mathlib.Core.Path.{_≡_}
 use lib.Dec.{eqb, leb, ltb}
@@ -150,17 +150,6 @@ stepped sum bytes table t =
     ]
 
 -- ---- PUSH and ADD, which change the stack alone
--- whether the instruction is one of them, and a record with this height has what it takes
-unfoldable pub stackedOp : Op → (height left : ℕ) → Bool
-stackedOp (op.Push n) h left = enoughFor 0 h 63 5 left
-stackedOp op.Add h left = enoughFor 2 h 64 1 left
-stackedOp (op.Read v) h left = false
-stackedOp (op.Write v) h left = false
-stackedOp op.Begin h left = false
-stackedOp op.Commit h left = false
-stackedOp (op.Fork size) h left = false
-stackedOp op.Foreign h left = false
-
 -- its event, 0 if it is none of them
 unfoldable pub stackEvent : Op → ℕ
 stackEvent (op.Push n) = 1
@@ -172,6 +161,10 @@ stackEvent op.Commit = 0
 stackEvent (op.Fork size) = 0
 stackEvent op.Foreign = 0
 
+-- whether the instruction is one of them, and a record with this height has what it takes
+unfoldable pub stackedOp : Op → (height left : ℕ) → Bool
+stackedOp o h left = cond (eqb (stackEvent o) 0) false (takesOp o h 0 0 left)
+
 unfoldable pub numberOp : Op → ℤ
 numberOp (op.Push n) = n
 numberOp op.Add = pos 0
@@ -181,14 +174,6 @@ numberOp op.Begin = pos 0
 numberOp op.Commit = pos 0
 numberOp (op.Fork size) = pos 0
 numberOp op.Foreign = pos 0
-
--- whether a step is one of them
-unfoldable pub plainIn : (code : List ℕ) → Thread → Bool
-plainIn bytes t =
-    elim (eqb (t .start) 0 || eqb (t .place) (t .end)) [
-      | true ↦ false
-      | false ↦ stackedOp (shownOp (opAt (drop (t .place) bytes))) (t .height) (length bytes - t .place)
-    ]
 
 -- the instruction of a step if it is one of them, else Foreign
 unfoldable pub stackOnly : (code : List ℕ) → Thread → Op → Op
@@ -200,6 +185,10 @@ plainOp bytes t =
       | true ↦ op.Foreign
       | false ↦ stackOnly bytes t (shownOp (opAt (drop (t .place) bytes)))
     ]
+
+-- whether a step is one of them
+unfoldable pub plainIn : (code : List ℕ) → Thread → Bool
+plainIn bytes t = not (eqb (stackEvent (plainOp bytes t)) 0)
 
 -- by the event: what a record must have; which cells change, the height and the place after it; the low cell's value; the record; the turn
 pub record Stackable (event height place : ℕ) : Type 0 where

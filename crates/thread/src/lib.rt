@@ -206,22 +206,6 @@ fn takes(op: ops::Op, height: usize, base: usize, registers: usize, left: usize)
     }
 }
 
-// Whether the instruction is PUSH or ADD, and a record with this height has what it takes.
-fn is_stacked(op: ops::Op, height: usize, left: usize) -> bool
-    ensures { λ r. ⌜ r ≡ stackedOp op height left ⌝ }
-{
-    match op {
-        ops::Op::Push(_n) => enough(0, height, 63, 5, left),
-        ops::Op::Add => enough(2, height, 64, 1, left),
-        ops::Op::Read(_v) => false,
-        ops::Op::Write(_v) => false,
-        ops::Op::Begin => false,
-        ops::Op::Commit => false,
-        ops::Op::Fork(_size) => false,
-        ops::Op::Foreign => false,
-    }
-}
-
 // The event of a PUSH or an ADD, else 0.
 fn stack_event(op: ops::Op) -> usize
     ensures { λ r. ⌜ r ≡ stackEvent op ⌝ }
@@ -236,6 +220,16 @@ fn stack_event(op: ops::Op) -> usize
         ops::Op::Fork(_size) => 0,
         ops::Op::Foreign => 0,
     }
+}
+
+// Whether the instruction is PUSH or ADD, and a record with this height has what it takes.
+fn is_stacked(op: ops::Op, height: usize, left: usize) -> bool
+    ensures { λ r. ⌜ r ≡ stackedOp op height left ⌝ }
+{
+    if stack_event(op) == 0 {
+        return false;
+    }
+    takes(op, height, 0, 0, left)
 }
 
 // A PUSH's number, else 0.
@@ -580,24 +574,6 @@ impl Thread {
         self.act(op, registers)
     }
 
-    // Whether a step is a PUSH or an ADD, which changes the stack alone.
-    pub fn is_plain(self, code: &[u8]) -> bool
-        ensures { λ r. ⌜ r ≡ plainIn (now (code .entry)) self ⌝ }
-    {
-        let place = self.place;
-        if self.start == 0 {
-            return false;
-        }
-        if place == self.end {
-            return false;
-        }
-        is_stacked(
-            ops::op_at(code, place),
-            self.height,
-            behind(code.len(), place),
-        )
-    }
-
     // The instruction at the record's place if it is PUSH or ADD and the record has what it takes, else Foreign.
     fn plain_op(self, code: &[u8]) -> ops::Op
         ensures { λ r. ⌜ r ≡ plainOp (now (code .entry)) self ⌝ }
@@ -614,6 +590,13 @@ impl Thread {
             return ops::Op::Foreign;
         }
         op
+    }
+
+    // Whether a step is a PUSH or an ADD, which changes the stack alone.
+    pub fn is_plain(self, code: &[u8]) -> bool
+        ensures { λ r. ⌜ r ≡ plainIn (now (code .entry)) self ⌝ }
+    {
+        stack_event(self.plain_op(code)) != 0
     }
 
     // After a PUSH, an ADD or none of them, in one way: the stack alone is changed.
