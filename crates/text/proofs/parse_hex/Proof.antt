@@ -1,4 +1,4 @@
--- `bench_cases::parse_hex` meets its contract. The loop's invariant: `at` is within the text, `count` within out, and out is as long as
+-- `text::parse_hex` meets its contract. The loop's invariant: `at` is within the text, `count` within out, and out is as long as
 -- it came. The measure is what is left of the text. Assumes nothing.
 use native.Mathlib.Omega.{arith}
 use borrow.Author.Needs.{needs}
@@ -6,8 +6,8 @@ use mathlib.Core.Path.{_≡_}
 use Prim.Native.Nat.{_≤_, _-_}
 use lib.ListN.{length, length-set}
 use Rattle.io.proofs.Counting.{counts}
-use Rattle.bench_cases.proofs.parse_hex.Statement.{statement}
-use Rattle.bench_cases.proofs.parse_hex.Tie as tie
+use Rattle.text.proofs.parse_hex.Statement.{statement}
+use Rattle.text.proofs.parse_hex.Tie as tie
 
 abbrev Inv-loop : tie.InvT-loop
 Inv-loop text out₀ at₀ count₀ out at count = ((at ≤ length text) × (count ≤ length out)) × (length out ≡ length out₀)

@@ -1,9 +1,9 @@
--- `bench_cases::starts` is safe and ends. The loop's invariant: `at` is within the word. The measure is what is left of it. Assumes nothing.
+-- `text::starts` is safe and ends. The loop's invariant: `at` is within the word. The measure is what is left of it. Assumes nothing.
 use native.Mathlib.Omega.{arith}
 use Prim.Native.Nat.{_≤_, _-_}
 use lib.ListN.{length}
-use Rattle.bench_cases.proofs.starts.Statement.{statement}
-use Rattle.bench_cases.proofs.starts.Tie as tie
+use Rattle.text.proofs.starts.Statement.{statement}
+use Rattle.text.proofs.starts.Tie as tie
 
 abbrev Inv-loop : tie.InvT-loop
 Inv-loop text word at₀ at = at ≤ length word

@@ -1,11 +1,11 @@
--- `bench_cases::find` meets its contract. The loop's invariant: `at` is at most the length. The measure is what is left of the text.
+-- `text::find` meets its contract. The loop's invariant: `at` is at most the length. The measure is what is left of the text.
 -- Assumes nothing.
 use native.Mathlib.Omega.{arith}
 use Prim.Native.Nat.{_≤_, _-_}
 use lib.ListN.{length}
 use Rattle.io.proofs.Counting.{counts}
-use Rattle.bench_cases.proofs.find.Statement.{statement}
-use Rattle.bench_cases.proofs.find.Tie as tie
+use Rattle.text.proofs.find.Statement.{statement}
+use Rattle.text.proofs.find.Tie as tie
 
 abbrev Inv-loop : tie.InvT-loop
 Inv-loop text byte at₀ at = at ≤ length text

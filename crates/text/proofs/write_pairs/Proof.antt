@@ -1,9 +1,9 @@
--- `bench_cases::write_pairs` is safe and ends. The loop's invariant: `at` is within the bytes. The measure is what is left of them. Assumes nothing.
+-- `text::write_pairs` is safe and ends. The loop's invariant: `at` is within the bytes. The measure is what is left of them. Assumes nothing.
 use native.Mathlib.Omega.{arith}
 use Prim.Native.Nat.{_≤_, _-_}
 use lib.ListN.{length}
-use Rattle.bench_cases.proofs.write_pairs.Statement.{statement}
-use Rattle.bench_cases.proofs.write_pairs.Tie as tie
+use Rattle.text.proofs.write_pairs.Statement.{statement}
+use Rattle.text.proofs.write_pairs.Tie as tie
 
 abbrev Inv-loop : tie.InvT-loop
 Inv-loop bytes at₀ t3 at = at ≤ length bytes

@@ -1,9 +1,9 @@
--- `bench_cases::checksum` is safe and ends. The loop's invariant: `at` is within the bytes. The measure is `at` itself. Assumes nothing.
+-- `text::checksum` is safe and ends. The loop's invariant: `at` is within the bytes. The measure is `at` itself. Assumes nothing.
 use native.Mathlib.Omega.{arith}
 use Prim.Native.Nat.{_≤_}
 use lib.ListN.{length}
-use Rattle.bench_cases.proofs.checksum.Statement.{statement}
-use Rattle.bench_cases.proofs.checksum.Tie as tie
+use Rattle.text.proofs.checksum.Statement.{statement}
+use Rattle.text.proofs.checksum.Tie as tie
 
 abbrev Inv-loop : tie.InvT-loop
 Inv-loop bytes tail₀ sum₀ at₀ tail sum at = at ≤ length bytes
