@@ -36,10 +36,10 @@ fn is_filled(out: &[u8]) -> bool {
 // Writes what became of the part of an output that no result was put into.
 fn write_rest(rest: &[u8]) {
     if is_filled(rest) {
-        text::write(b" kept");
+        text::write_kept();
         return;
     }
-    text::write(b" altered");
+    text::write_altered();
 }
 
 // Writes a result and what lies behind it.
@@ -75,46 +75,73 @@ fn write_reading(bytes: &[u8]) {
     }
 }
 
-// Runs a case that has an output.
-fn run_output(label: &[u8], bytes: &[u8], out: &mut [u8]) {
+// Compiles into an output.
+fn run_compile(bytes: &[u8], out: &mut [u8]) {
     fill(out);
+    let answer = compiler::compile(bytes, out);
+    write_answer(answer, b"code ", out);
+}
+
+// Reads back into an output.
+fn run_back(bytes: &[u8], out: &mut [u8]) {
+    fill(out);
+    let answer = compiler::read_back(bytes, out);
+    write_answer(answer, b"job ", out);
+}
+
+// What the label's first word says: 1 a job, 2 compiling, 3 reading back, 0 none of them.
+fn command(label: &[u8]) -> u8 {
+    if text::starts(label, b"job ") {
+        return 1;
+    }
     if text::starts(label, b"compile ") {
-        let answer = compiler::compile(bytes, out);
-        write_answer(answer, b"code ", out);
-        return;
+        return 2;
     }
     if text::starts(label, b"back ") {
-        let answer = compiler::read_back(bytes, out);
-        write_answer(answer, b"job ", out);
-        return;
+        return 3;
     }
-    text::write(b"malformed");
+    0
+}
+
+// Runs a case that has an output.
+fn run_output(what: u8, bytes: &[u8], out: &mut [u8]) {
+    match what {
+        2 => run_compile(bytes, out),
+        3 => run_back(bytes, out),
+        _ => text::write_malformed(),
+    }
+}
+
+// The size that the label's second word spells, or 6001.
+fn label_size(label: &[u8]) -> usize {
+    text::size(text::before(text::behind(label, b' '), b' '), 6000)
 }
 
 // Runs one case. What is run is chosen here.
 fn run_case(label: &[u8], bytes: &[u8], out: &mut [u8]) {
-    if text::starts(label, b"job ") {
+    let what = command(label);
+    if what == 1 {
         write_reading(bytes);
         return;
     }
-    let size = text::size(text::before(text::behind(label, b' '), b' '), 6000);
+    let size = label_size(label);
     if size > 6000 {
-        text::write(b"malformed");
+        text::write_malformed();
         return;
     }
     let n = text::within(size, out);
-    run_output(label, bytes, &mut out[..n]);
+    run_output(what, bytes, &mut out[..n]);
 }
 
 // Runs the case of a line. The space is for its bytes.
 fn run_bytes(line: &[u8], space: &mut [u8], out: &mut [u8]) {
     if !text::holds(line, b':') {
-        text::write(b"malformed");
+        text::write_malformed();
         return;
     }
     let bytes = text::parse_hex(text::behind(line, b':'), space);
     if !bytes.whole {
-        text::write(b"malformed");
+        text::write_malformed();
         return;
     }
     let count = bytes.count;
@@ -126,10 +153,9 @@ fn run_line(line: &[u8], space: &mut [u8], out: &mut [u8]) {
     if !text::says(line) {
         return;
     }
-    text::write(text::before(line, b':'));
-    text::write(b": ");
+    text::write_label(line);
     run_bytes(line, space, out);
-    text::write(b"\n");
+    text::write_end();
 }
 
 // Runs each line of the text.

@@ -330,3 +330,26 @@ pub fn write_refusal(number: usize, place: usize) {
     write_number(b"refused ", number);
     write_number(b" at ", place);
 }
+
+// Writes what a line comes to that is no case.
+pub fn write_malformed() {
+    io::write_all(1, b"malformed");
+}
+
+pub fn write_kept() {
+    io::write_all(1, b" kept");
+}
+
+pub fn write_altered() {
+    io::write_all(1, b" altered");
+}
+
+// Writes a line's label.
+pub fn write_label(line: &[u8]) {
+    io::write_all(1, before(line, b':'));
+    io::write_all(1, b": ");
+}
+
+pub fn write_end() {
+    io::write_all(1, b"\n");
+}
