@@ -50,6 +50,18 @@ pub fn behind<'a>(text: &'a [u8], byte: u8) -> &'a [u8]
     &text[next..]
 }
 
+// Part k, counted from 0, of a text whose parts stand between such bytes; nothing where there are fewer.
+pub fn part<'a>(text: &'a [u8], byte: u8, k: u8) -> &'a [u8] {
+    let mut left = text;
+    let mut n = k;
+    while n > 0 {
+        let next = behind(left, byte);
+        left = next;
+        n -= 1;
+    }
+    before(left, byte)
+}
+
 // Whether the byte stands in the text.
 pub fn holds(text: &[u8], byte: u8) -> bool {
     find(text, byte) < text.len()
@@ -198,6 +210,36 @@ pub fn signed(n: Number) -> i32 {
     value
 }
 
+// A word of at most 12 small letters as a number to the base of 32, a being 1; 0 for any other text.
+pub fn word_number(text: &[u8]) -> u64 {
+    let mut n: u64 = 0;
+    let mut at = 0;
+    while at < text.len() {
+        let byte = text[at];
+        if !is_letter(byte, n) {
+            return 0;
+        }
+        n = std::num::wrapping_add_u64((n % 36028797018963968) * 32, letter_number(byte));
+        at += 1;
+    }
+    n
+}
+
+// Whether the byte is a small letter, and a word's number has room for it.
+fn is_letter(byte: u8, n: u64) -> bool {
+    if n >= 36028797018963968 {
+        return false;
+    }
+    if byte < b'a' {
+        return false;
+    }
+    byte <= b'z'
+}
+
+fn letter_number(byte: u8) -> u64 {
+    wide(byte % 32)
+}
+
 // The byte that two hex digits spell, or 256 where one of them is none.
 fn pair(high: u8, low: u8) -> u16 {
     let h = digit(high);
@@ -308,7 +350,7 @@ pub fn write_number(word: &[u8], n: usize) {
 }
 
 // A number from 0 up, or 0 for one below.
-fn natural(n: i32) -> u64 {
+pub fn natural(n: i32) -> u64 {
     if n < 0 {
         return 0;
     }
