@@ -161,10 +161,21 @@ fn write_step(reply: machine::StepReply) {
     text::write_number(b" turn ", reply.turn);
 }
 
-fn run_step(code: &[u8], m: Memory, pick: u8) {
+fn run_step(code: &[u8], m: Memory, picks: &[u8]) {
+    if picks.len() != 1 {
+        text::write_malformed();
+        return;
+    }
     let registers = m.registers;
     let threads = m.threads;
-    let stepped = owned::step(code, registers, m.cells, threads, m.records, pick);
+    let stepped = owned::step(
+        code,
+        registers,
+        m.cells,
+        threads,
+        m.records,
+        text::first(picks),
+    );
     let reply = stepped.reply;
     let r = stepped.registers;
     let t = stepped.threads;
@@ -263,7 +274,7 @@ fn run_cut(code: &[u8], m: Memory, picks: &[u8]) {
 fn run_call(what: u64, code: &[u8], m: Memory, picks: &[u8]) {
     match what {
         6887016 => run_fresh(code, m), // fresh
-        643248 => run_step(code, m, text::first(picks)), // step
+        643248 => run_step(code, m, picks), // step
         19118 => run_run(code, m, picks), // run
         3764 => run_cut(code, m, picks), // cut
         _ => text::write_malformed(),

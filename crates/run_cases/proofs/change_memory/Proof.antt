@@ -1,0 +1,46 @@
+use native.Mathlib.Omega.{arith}
+use Prim.Native.Nat.{_≤_}
+use lib.ListN.{length}
+use Rattle.run_cases.proofs.change_memory.Statement.{statement}
+use Rattle.run_cases.proofs.change_memory.Tie as tie
+
+abbrev Inv-loop : tie.InvT-loop
+Inv-loop changes memory₀ left₀ memory left = 0 ≤ length left
+
+abbrev μ-loop : tie.MeasureT-loop
+μ-loop changes memory₀ left₀ memory left = length left
+
+loop-holds : tie.Need-loop-holds Inv-loop μ-loop
+loop-holds c = omega arith
+
+before-requires : tie.Need-before-requires Inv-loop μ-loop
+before-requires c κs = tt
+
+with-requires : tie.Need-with-requires Inv-loop μ-loop
+with-requires c κs = tt
+
+behind-requires : tie.Need-behind-requires Inv-loop μ-loop
+behind-requires c κs = tt
+
+loop-less : tie.Need-loop-less Inv-loop μ-loop
+loop-less c = omega arith
+
+loop-again : tie.Need-loop-again Inv-loop μ-loop
+loop-again c = omega arith
+
+returns : tie.Need-returns Inv-loop μ-loop
+returns c = tt
+
+pub change-memory-spec : {M : Type 1} → statement M
+change-memory-spec =
+    tie.close
+    (tie.spec
+    Inv-loop
+    μ-loop
+    loop-holds
+    before-requires
+    with-requires
+    behind-requires
+    loop-less
+    loop-again
+    returns)

@@ -1,0 +1,46 @@
+use native.Mathlib.Omega.{arith}
+use Prim.Native.Nat.{_+_, _≤_, _-_}
+use lib.ListN.{length}
+use Rattle.run_cases.proofs.first_cut.Statement.{statement}
+use Rattle.run_cases.proofs.first_cut.Tie as tie
+
+abbrev Inv-loop : tie.InvT-loop
+Inv-loop code m picks whole k₀ k = k ≤ length picks + 1
+
+abbrev μ-loop : tie.MeasureT-loop
+μ-loop code m picks whole k₀ k = (length picks + 1) - k
+
+loop-holds : tie.Need-loop-holds Inv-loop μ-loop
+loop-holds c = omega arith
+
+agrees-requires : tie.Need-agrees-requires Inv-loop μ-loop
+agrees-requires c κs = omega arith
+
+returns : tie.Need-returns Inv-loop μ-loop
+returns c = omega arith
+
+add-k : tie.Need-add-k Inv-loop μ-loop
+add-k c = omega arith
+
+loop-less : tie.Need-loop-less Inv-loop μ-loop
+loop-less c = omega arith
+
+loop-again : tie.Need-loop-again Inv-loop μ-loop
+loop-again c = omega arith
+
+returns-2 : tie.Need-returns-2 Inv-loop μ-loop
+returns-2 c = omega arith
+
+pub first-cut-spec : {M : Type 1} → statement M
+first-cut-spec =
+    tie.close
+    (tie.spec
+    Inv-loop
+    μ-loop
+    loop-holds
+    agrees-requires
+    returns
+    add-k
+    loop-less
+    loop-again
+    returns-2)
