@@ -353,6 +353,18 @@ impl Memory {
             _ => self.bad(),
         }
     }
+
+    // All changes of a text, commas standing between them.
+    pub fn with_all(self, changes: &[u8]) -> Memory {
+        let mut m = self;
+        let mut left = changes;
+        while left.len() > 0 {
+            m = m.with(text::before(left, b','));
+            let next = text::behind(left, b',');
+            left = next;
+        }
+        m
+    }
 }
 
 // The number of an entry, of a field whose first entry has number k.

@@ -12,9 +12,7 @@
 //
 // What is written: the answer, each thread, each register that is not 0, and a checksum over all registers and records; of a refusal whether
 // the memory was `kept`. `cut` runs the picks in one call and in two, cut at each place: `same` if both leave the same and the counts add up.
-ghost use Rattle.io.specs.Counts.{Counts};
 use delivery::Answer;
-use machine::RunReply;
 use memory::Memory;
 use text::Hex;
 
@@ -47,118 +45,116 @@ fn load(text: &[u8], code: &mut [u8]) -> Hex {
     load_job(text, code)
 }
 
-// ---- the picks
-
-// Puts so many picks behind the first `from`, as far as there is room, and answers how many there are then.
-fn put_times(picks: &mut [u8], from: usize, pick: u8, times: usize) -> usize {
-    let mut at = text::within(from, picks);
-    let mut n = times;
-    while n > 0 {
-        if at == picks.len() {
-            return at;
-        }
-        picks[at] = pick;
-        at += 1;
-        n -= 1;
-    }
-    at
-}
-
-// How often a word says: `3*N` says N, `3` once.
-fn times(word: &[u8]) -> usize {
-    if text::holds(word, b'*') {
-        return text::size(text::behind(word, b'*'), 40000);
-    }
-    1
-}
-
-// Puts the picks of a word behind those that are there.
-fn put_word(list: Hex, word: &[u8], picks: &mut [u8]) -> Hex {
-    if word.len() == 0 {
-        return list;
-    }
-    let pick = text::size(text::before(word, b'*'), 255);
-    let n = times(word);
-    if pick > 255 || n > 40000 {
-        return Hex {
-            count: list.count,
-            whole: false,
-        };
-    }
-    Hex {
-        count: put_times(picks, list.count, pick as u8, n),
-        whole: list.whole,
-    }
-}
-
-// Puts the picks that the text spells at the start of `picks`.
-fn parse_picks(text: &[u8], picks: &mut [u8]) -> Hex
-    ensures { λ r. ⌜ Counts (r .count) (now (picks .exit)) ⌝ }
-{
-    let mut list = Hex {
-        count: 0,
-        whole: true,
-    };
-    let mut left = text;
-    while left.len() > 0 {
-        list = put_word(list, text::before(left, b' '), picks);
-        let next = text::behind(left, b' ');
-        left = next;
-    }
-    let n = text::within(list.count, picks);
-    Hex {
-        count: n,
-        whole: list.whole,
-    }
-}
-
 // ---- the calls
 
+// What a call left and answered: refusal and place, and its other numbers in their order.
 struct Taken {
     after: Memory,
-    reply: RunReply,
+    refusal: usize,
+    place: usize,
+    a: usize,
+    b: usize,
+    c: usize,
+    d: usize,
+}
+
+fn taken_fresh(m: Memory, laid: owned::Laid) -> Taken {
+    let registers = laid.registers;
+    let threads = laid.threads;
+    let reply = laid.reply;
+    let after = m.left(registers, threads);
+    Taken {
+        after,
+        refusal: reply.refusal,
+        place: reply.place,
+        a: 0,
+        b: 0,
+        c: 0,
+        d: 0,
+    }
+}
+
+fn call_fresh(code: &[u8], m: Memory) -> Taken {
+    let registers = m.registers;
+    let threads = m.threads;
+    taken_fresh(
+        m,
+        owned::fresh(code, registers, m.cells, threads, m.records),
+    )
+}
+
+fn taken_step(m: Memory, stepped: owned::Stepped) -> Taken {
+    let registers = stepped.registers;
+    let threads = stepped.threads;
+    let reply = stepped.reply;
+    let after = m.left(registers, threads);
+    Taken {
+        after,
+        refusal: reply.refusal,
+        place: reply.place,
+        a: reply.event,
+        b: reply.register,
+        c: reply.turn,
+        d: 0,
+    }
+}
+
+fn call_step(code: &[u8], m: Memory, pick: u8) -> Taken {
+    let registers = m.registers;
+    let threads = m.threads;
+    taken_step(
+        m,
+        owned::step(code, registers, m.cells, threads, m.records, pick),
+    )
+}
+
+fn taken_run(m: Memory, ran: owned::Ran) -> Taken {
+    let registers = ran.registers;
+    let threads = ran.threads;
+    let reply = ran.reply;
+    let after = m.left(registers, threads);
+    Taken {
+        after,
+        refusal: reply.refusal,
+        place: reply.place,
+        a: reply.steps,
+        b: reply.idle,
+        c: reply.commits,
+        d: reply.back,
+    }
 }
 
 fn call_run(code: &[u8], m: Memory, picks: &[u8]) -> Taken {
     let registers = m.registers;
     let threads = m.threads;
-    let ran = owned::run(code, registers, m.cells, threads, m.records, picks);
-    let r = ran.registers;
-    let t = ran.threads;
-    let reply = ran.reply;
-    let after = m.left(r, t);
-    Taken { after, reply }
+    taken_run(
+        m,
+        owned::run(code, registers, m.cells, threads, m.records, picks),
+    )
 }
 
-fn call_fresh(code: &[u8], m: Memory) -> Memory {
-    let registers = m.registers;
-    let threads = m.threads;
-    let laid = owned::fresh(code, registers, m.cells, threads, m.records);
-    let r = laid.registers;
-    let t = laid.threads;
-    m.left(r, t)
-}
-
-fn run_fresh(code: &[u8], m: Memory) {
-    let registers = m.registers;
-    let threads = m.threads;
-    let laid = owned::fresh(code, registers, m.cells, threads, m.records);
-    let reply = laid.reply;
-    let r = laid.registers;
-    let t = laid.threads;
-    let after = m.left(r, t);
-    if reply.refusal != 0 {
-        memory::write_refused(reply.refusal, reply.place, m, after);
-        return;
+// Writes a refusal, if there is one, and tells whether there is.
+fn refused(m: Memory, taken: Taken) -> bool {
+    if taken.refusal == 0 {
+        return false;
     }
-    text::write(b"laid");
+    let after = taken.after;
+    memory::write_refused(taken.refusal, taken.place, m, after);
+    true
+}
+
+fn write_after(taken: Taken) {
+    let after = taken.after;
     memory::write_state(after);
 }
 
-fn write_step(reply: machine::StepReply) {
-    text::write_number(b"event ", reply.event);
-    text::write_number(b" register ", reply.register);
-    text::write_number(b" turn ", reply.turn);
+fn run_fresh(code: &[u8], m: Memory) {
+    let taken = call_fresh(code, m);
+    if refused(m, taken) {
+        return;
+    }
+    text::write(b"laid");
+    write_after(taken);
 }
 
 fn run_step(code: &[u8], m: Memory, picks: &[u8]) {
@@ -166,91 +162,84 @@ fn run_step(code: &[u8], m: Memory, picks: &[u8]) {
         text::write_malformed();
         return;
     }
-    let registers = m.registers;
-    let threads = m.threads;
-    let stepped = owned::step(
-        code,
-        registers,
-        m.cells,
-        threads,
-        m.records,
-        text::first(picks),
-    );
-    let reply = stepped.reply;
-    let r = stepped.registers;
-    let t = stepped.threads;
-    let after = m.left(r, t);
-    if reply.refusal != 0 {
-        memory::write_refused(reply.refusal, reply.place, m, after);
+    let taken = call_step(code, m, text::first(picks));
+    if refused(m, taken) {
         return;
     }
-    write_step(reply);
-    memory::write_state(after);
-}
-
-fn write_counts(reply: RunReply) {
-    text::write_number(b"steps ", reply.steps);
-    text::write_number(b" idle ", reply.idle);
-    text::write_number(b" commits ", reply.commits);
-    text::write_number(b" back ", reply.back);
+    text::write_step(taken.a, taken.b, taken.c);
+    write_after(taken);
 }
 
 fn run_run(code: &[u8], m: Memory, picks: &[u8]) {
     let taken = call_run(code, m, picks);
-    let after = taken.after;
-    let reply = taken.reply;
-    if reply.refusal != 0 {
-        memory::write_refused(reply.refusal, reply.place, m, after);
+    if refused(m, taken) {
         return;
     }
-    write_counts(reply);
-    memory::write_state(after);
+    text::write_counts(taken.a, taken.b, taken.c, taken.d);
+    write_after(taken);
 }
 
 // ---- calls cut in two
 
-fn is_sum(a: usize, b: usize, c: usize) -> bool {
-    std::num::wrapping_add_usize(a, b) == c
+fn sum(a: usize, b: usize) -> usize {
+    std::num::wrapping_add_usize(a, b)
 }
 
-// Whether neither of two calls is refused and their counts add up to those of a third.
-fn add_up(a: RunReply, b: RunReply, c: RunReply) -> bool {
-    if !is_sum(a.refusal, b.refusal, 0) {
-        return false;
+// What two calls come to, the second after the first.
+fn joined(first: Taken, second: Taken) -> Taken {
+    let after = second.after;
+    Taken {
+        after,
+        refusal: sum(first.refusal, second.refusal),
+        place: sum(first.place, second.place),
+        a: sum(first.a, second.a),
+        b: sum(first.b, second.b),
+        c: sum(first.c, second.c),
+        d: sum(first.d, second.d),
     }
-    if !is_sum(a.steps, b.steps, c.steps) {
-        return false;
-    }
-    if !is_sum(a.idle, b.idle, c.idle) {
-        return false;
-    }
-    if !is_sum(a.commits, b.commits, c.commits) {
-        return false;
-    }
-    is_sum(a.back, b.back, c.back)
 }
 
-// Whether two calls, of the first k picks and of the others, come to the same as one.
-fn agrees(code: &[u8], m: Memory, picks: &[u8], k: usize, whole: Taken) -> bool {
+// Two calls, of the first k picks and of the others.
+fn in_two(code: &[u8], m: Memory, picks: &[u8], k: usize) -> Taken {
     let first = call_run(code, m, text::front(picks, k));
     let between = first.after;
-    let second = call_run(code, between, text::rest(picks, k));
-    let a = first.reply;
-    let b = second.reply;
-    let c = whole.reply;
-    if !add_up(a, b, c) {
+    joined(first, call_run(code, between, text::rest(picks, k)))
+}
+
+fn same_counts(s: Taken, t: Taken) -> bool {
+    if s.a != t.a {
         return false;
     }
-    let x = second.after;
-    let y = whole.after;
-    memory::same(x, y)
+    if s.b != t.b {
+        return false;
+    }
+    if s.c != t.c {
+        return false;
+    }
+    s.d == t.d
+}
+
+// Whether both are taken, and left and answered the same.
+fn same(s: Taken, t: Taken) -> bool {
+    if s.refusal != 0 {
+        return false;
+    }
+    if t.refusal != 0 {
+        return false;
+    }
+    if !same_counts(s, t) {
+        return false;
+    }
+    let a = s.after;
+    let b = t.after;
+    memory::same(a, b)
 }
 
 // The first place at which cutting the picks makes a difference, or one more than there are picks.
 fn first_cut(code: &[u8], m: Memory, picks: &[u8], whole: Taken) -> usize {
     let mut k: usize = 0;
     while k <= picks.len() {
-        if !agrees(code, m, picks, k, whole) {
+        if !same(in_two(code, m, picks, k), whole) {
             return k;
         }
         k += 1;
@@ -259,8 +248,7 @@ fn first_cut(code: &[u8], m: Memory, picks: &[u8], whole: Taken) -> usize {
 }
 
 fn run_cut(code: &[u8], m: Memory, picks: &[u8]) {
-    let whole = call_run(code, m, picks);
-    let k = first_cut(code, m, picks, whole);
+    let k = first_cut(code, m, picks, call_run(code, m, picks));
     if k > picks.len() {
         text::write(b"same");
         return;
@@ -283,7 +271,7 @@ fn run_call(what: u64, code: &[u8], m: Memory, picks: &[u8]) {
 
 fn run_picks(what: u64, code: &[u8], m: Memory, list: &[u8]) {
     let mut picks = [0u8; 40000];
-    let parsed = parse_picks(list, &mut picks);
+    let parsed = text::parse_picks(list, &mut picks);
     if !parsed.whole {
         text::write_malformed();
         return;
@@ -292,32 +280,30 @@ fn run_picks(what: u64, code: &[u8], m: Memory, list: &[u8]) {
     run_call(what, code, m, &picks[..n]);
 }
 
-// The memory as it is before the changes.
-fn set_up(what: u64, code: &[u8], list: &[u8]) -> Memory {
-    let m = memory::filled();
-    if what == 6887016 {
-        return m;
-    }
-    let mut picks = [0u8; 40000];
-    let parsed = parse_picks(list, &mut picks);
-    if !parsed.whole {
-        return m.bad();
-    }
-    let n = parsed.count;
+// A fresh state and so many picks.
+fn begun(code: &[u8], m: Memory, picks: &[u8]) -> Memory {
     let laid = call_fresh(code, m);
-    let taken = call_run(code, laid, &picks[..n]);
+    let fresh = laid.after;
+    let taken = call_run(code, fresh, picks);
     taken.after
 }
 
-fn change_memory(m: Memory, changes: &[u8]) -> Memory {
-    let mut memory = m;
-    let mut left = changes;
-    while left.len() > 0 {
-        memory = memory.with(text::before(left, b','));
-        let next = text::behind(left, b',');
-        left = next;
+fn set_up_picks(code: &[u8], list: &[u8]) -> Memory {
+    let mut picks = [0u8; 40000];
+    let parsed = text::parse_picks(list, &mut picks);
+    if !parsed.whole {
+        return memory::filled().bad();
     }
-    memory
+    let n = parsed.count;
+    begun(code, memory::filled(), &picks[..n])
+}
+
+// The memory as it is before the changes.
+fn set_up(what: u64, code: &[u8], list: &[u8]) -> Memory {
+    if what == 6887016 {
+        return memory::filled();
+    }
+    set_up_picks(code, list)
 }
 
 // Puts a byte into the code where the change asks for it.
@@ -349,12 +335,20 @@ fn change_code(code: &mut [u8], changes: &[u8]) -> bool {
     true
 }
 
+// The memory with the setup and the changes of a line's body.
+fn prepared(what: u64, code: &[u8], body: &[u8]) -> Memory {
+    let m = set_up(what, code, text::part(body, b';', 1));
+    m.with_all(text::part(body, b';', 2))
+}
+
 // Runs the case of a line's body on its code.
 fn run_body(what: u64, code: &mut [u8], body: &[u8]) {
-    let before = set_up(what, code, text::part(body, b';', 1));
-    let m = change_memory(before, text::part(body, b';', 2));
-    let good = change_code(code, text::part(body, b';', 2));
-    if !good || !m.good {
+    let m = prepared(what, code, body);
+    if !m.good {
+        text::write_malformed();
+        return;
+    }
+    if !change_code(code, text::part(body, b';', 2)) {
         text::write_malformed();
         return;
     }

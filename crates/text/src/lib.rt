@@ -301,6 +301,71 @@ fn to_u16(byte: u8) -> u16 {
     byte as u16
 }
 
+// ---- the picks
+
+// Puts so many picks behind the first `from`, as far as there is room, and answers how many there are then.
+fn put_times(picks: &mut [u8], from: usize, pick: u8, times: usize) -> usize {
+    let mut at = within(from, picks);
+    let mut n = times;
+    while n > 0 {
+        if at == picks.len() {
+            return at;
+        }
+        picks[at] = pick;
+        at += 1;
+        n -= 1;
+    }
+    at
+}
+
+// How often a word says: `3*N` says N, `3` once.
+fn times(word: &[u8]) -> usize {
+    if holds(word, b'*') {
+        return size(behind(word, b'*'), 40000);
+    }
+    1
+}
+
+// Puts the picks of a word behind those that are there.
+fn put_word(list: Hex, word: &[u8], picks: &mut [u8]) -> Hex {
+    if word.len() == 0 {
+        return list;
+    }
+    let pick = size(before(word, b'*'), 255);
+    let n = times(word);
+    if pick > 255 || n > 40000 {
+        return Hex {
+            count: list.count,
+            whole: false,
+        };
+    }
+    Hex {
+        count: put_times(picks, list.count, pick as u8, n),
+        whole: list.whole,
+    }
+}
+
+// Puts the picks that the list spells at the start of `picks`, words such as `3` or `3*N` with spaces between.
+pub fn parse_picks(list: &[u8], picks: &mut [u8]) -> Hex
+    ensures { λ r. ⌜ Counts (r .count) (now (picks .exit)) ⌝ }
+{
+    let mut put = Hex {
+        count: 0,
+        whole: true,
+    };
+    let mut left = list;
+    while left.len() > 0 {
+        put = put_word(put, before(left, b' '), picks);
+        let next = behind(left, b' ');
+        left = next;
+    }
+    let n = within(put.count, picks);
+    Hex {
+        count: n,
+        whole: put.whole,
+    }
+}
+
 // ---- what is written
 
 // The digit of a number below 16.
@@ -394,4 +459,19 @@ pub fn write_label(line: &[u8]) {
 
 pub fn write_end() {
     io::write_all(1, b"\n");
+}
+
+// Writes the numbers of a step's answer.
+pub fn write_step(event: usize, register: usize, turn: usize) {
+    write_number(b"event ", event);
+    write_number(b" register ", register);
+    write_number(b" turn ", turn);
+}
+
+// Writes the counts of a run's answer.
+pub fn write_counts(steps: usize, idle: usize, commits: usize, back: usize) {
+    write_number(b"steps ", steps);
+    write_number(b" idle ", idle);
+    write_number(b" commits ", commits);
+    write_number(b" back ", back);
 }

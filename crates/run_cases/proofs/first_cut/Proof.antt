@@ -1,6 +1,6 @@
 use native.Mathlib.Omega.{arith}
-use Prim.Native.Nat.{_+_, _≤_, _-_}
 use lib.ListN.{length}
+use Prim.Native.Nat.{_+_, _≤_, _-_}
 use Rattle.run_cases.proofs.first_cut.Statement.{statement}
 use Rattle.run_cases.proofs.first_cut.Tie as tie
 
@@ -13,11 +13,14 @@ abbrev μ-loop : tie.MeasureT-loop
 loop-holds : tie.Need-loop-holds Inv-loop μ-loop
 loop-holds c = omega arith
 
-agrees-requires : tie.Need-agrees-requires Inv-loop μ-loop
-agrees-requires c κs = omega arith
+in-two-requires : tie.Need-in-two-requires Inv-loop μ-loop
+in-two-requires c κs = tt
+
+same-requires : tie.Need-same-requires Inv-loop μ-loop
+same-requires c κs = tt
 
 returns : tie.Need-returns Inv-loop μ-loop
-returns c = omega arith
+returns c = tt
 
 add-k : tie.Need-add-k Inv-loop μ-loop
 add-k c = omega arith
@@ -29,7 +32,7 @@ loop-again : tie.Need-loop-again Inv-loop μ-loop
 loop-again c = omega arith
 
 returns-2 : tie.Need-returns-2 Inv-loop μ-loop
-returns-2 c = omega arith
+returns-2 c = tt
 
 pub first-cut-spec : {M : Type 1} → statement M
 first-cut-spec =
@@ -38,7 +41,8 @@ first-cut-spec =
     Inv-loop
     μ-loop
     loop-holds
-    agrees-requires
+    in-two-requires
+    same-requires
     returns
     add-k
     loop-less

@@ -2,8 +2,8 @@ use native.Mathlib.Omega.{arith}
 use Prim.Native.Nat.{_≤_}
 use mathlib.Core.Path.{_≡_}
 use lib.ListN.{length, length-set}
-use Rattle.run_cases.proofs.put_times.Statement.{statement}
-use Rattle.run_cases.proofs.put_times.Tie as tie
+use Rattle.text.proofs.put_times.Statement.{statement}
+use Rattle.text.proofs.put_times.Tie as tie
 
 abbrev Inv-loop : tie.InvT-loop
 Inv-loop picks₀ from pick times at₀ n₀ picks at n = (at ≤ length picks) × (length picks ≡ length picks₀)

@@ -2,8 +2,8 @@ use native.Mathlib.Omega.{arith}
 use Prim.Native.Nat.{_≤_}
 use mathlib.Core.Path.{_≡_}
 use lib.ListN.{length}
-use Rattle.run_cases.proofs.parse_picks.Statement.{statement}
-use Rattle.run_cases.proofs.parse_picks.Tie as tie
+use Rattle.text.proofs.parse_picks.Statement.{statement}
+use Rattle.text.proofs.parse_picks.Tie as tie
 
 abbrev Inv-loop : tie.InvT-loop
 Inv-loop text picks₀ list₀ left₀ picks list left = length picks ≡ length picks₀

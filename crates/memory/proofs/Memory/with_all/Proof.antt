@@ -1,14 +1,14 @@
 use native.Mathlib.Omega.{arith}
 use Prim.Native.Nat.{_≤_}
 use lib.ListN.{length}
-use Rattle.run_cases.proofs.change_memory.Statement.{statement}
-use Rattle.run_cases.proofs.change_memory.Tie as tie
+use Rattle.memory.proofs.Memory.with_all.Statement.{statement}
+use Rattle.memory.proofs.Memory.with_all.Tie as tie
 
 abbrev Inv-loop : tie.InvT-loop
-Inv-loop changes memory₀ left₀ memory left = 0 ≤ length left
+Inv-loop changes m₀ left₀ m left = 0 ≤ length left
 
 abbrev μ-loop : tie.MeasureT-loop
-μ-loop changes memory₀ left₀ memory left = length left
+μ-loop changes m₀ left₀ m left = length left
 
 loop-holds : tie.Need-loop-holds Inv-loop μ-loop
 loop-holds c = omega arith
@@ -31,8 +31,8 @@ loop-again c = omega arith
 returns : tie.Need-returns Inv-loop μ-loop
 returns c = tt
 
-pub change-memory-spec : {M : Type 1} → statement M
-change-memory-spec =
+pub with-all-spec : {M : Type 1} → statement M
+with-all-spec =
     tie.close
     (tie.spec
     Inv-loop
