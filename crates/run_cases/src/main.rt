@@ -45,226 +45,15 @@ fn load(text: &[u8], code: &mut [u8]) -> Hex {
     load_job(text, code)
 }
 
-// ---- the calls
-
-// What a call left and answered: refusal and place, and its other numbers in their order.
-struct Taken {
-    after: Memory,
-    refusal: usize,
-    place: usize,
-    a: usize,
-    b: usize,
-    c: usize,
-    d: usize,
-}
-
-fn taken_fresh(m: Memory, laid: owned::Laid) -> Taken {
-    let registers = laid.registers;
-    let threads = laid.threads;
-    let reply = laid.reply;
-    let after = m.left(registers, threads);
-    Taken {
-        after,
-        refusal: reply.refusal,
-        place: reply.place,
-        a: 0,
-        b: 0,
-        c: 0,
-        d: 0,
-    }
-}
-
-fn call_fresh(code: &[u8], m: Memory) -> Taken {
-    let registers = m.registers;
-    let threads = m.threads;
-    taken_fresh(
-        m,
-        owned::fresh(code, registers, m.cells, threads, m.records),
-    )
-}
-
-fn taken_step(m: Memory, stepped: owned::Stepped) -> Taken {
-    let registers = stepped.registers;
-    let threads = stepped.threads;
-    let reply = stepped.reply;
-    let after = m.left(registers, threads);
-    Taken {
-        after,
-        refusal: reply.refusal,
-        place: reply.place,
-        a: reply.event,
-        b: reply.register,
-        c: reply.turn,
-        d: 0,
-    }
-}
-
-fn call_step(code: &[u8], m: Memory, pick: u8) -> Taken {
-    let registers = m.registers;
-    let threads = m.threads;
-    taken_step(
-        m,
-        owned::step(code, registers, m.cells, threads, m.records, pick),
-    )
-}
-
-fn taken_run(m: Memory, ran: owned::Ran) -> Taken {
-    let registers = ran.registers;
-    let threads = ran.threads;
-    let reply = ran.reply;
-    let after = m.left(registers, threads);
-    Taken {
-        after,
-        refusal: reply.refusal,
-        place: reply.place,
-        a: reply.steps,
-        b: reply.idle,
-        c: reply.commits,
-        d: reply.back,
-    }
-}
-
-fn call_run(code: &[u8], m: Memory, picks: &[u8]) -> Taken {
-    let registers = m.registers;
-    let threads = m.threads;
-    taken_run(
-        m,
-        owned::run(code, registers, m.cells, threads, m.records, picks),
-    )
-}
-
-// Writes a refusal, if there is one, and tells whether there is.
-fn refused(m: Memory, taken: Taken) -> bool {
-    if taken.refusal == 0 {
-        return false;
-    }
-    let after = taken.after;
-    memory::write_refused(taken.refusal, taken.place, m, after);
-    true
-}
-
-fn write_after(taken: Taken) {
-    let after = taken.after;
-    memory::write_state(after);
-}
-
-fn run_fresh(code: &[u8], m: Memory) {
-    let taken = call_fresh(code, m);
-    if refused(m, taken) {
-        return;
-    }
-    text::write(b"laid");
-    write_after(taken);
-}
-
-fn run_step(code: &[u8], m: Memory, picks: &[u8]) {
-    if picks.len() != 1 {
-        text::write_malformed();
-        return;
-    }
-    let taken = call_step(code, m, text::first(picks));
-    if refused(m, taken) {
-        return;
-    }
-    text::write_step(taken.a, taken.b, taken.c);
-    write_after(taken);
-}
-
-fn run_run(code: &[u8], m: Memory, picks: &[u8]) {
-    let taken = call_run(code, m, picks);
-    if refused(m, taken) {
-        return;
-    }
-    text::write_counts(taken.a, taken.b, taken.c, taken.d);
-    write_after(taken);
-}
-
-// ---- calls cut in two
-
-fn sum(a: usize, b: usize) -> usize {
-    std::num::wrapping_add_usize(a, b)
-}
-
-// What two calls come to, the second after the first.
-fn joined(first: Taken, second: Taken) -> Taken {
-    let after = second.after;
-    Taken {
-        after,
-        refusal: sum(first.refusal, second.refusal),
-        place: sum(first.place, second.place),
-        a: sum(first.a, second.a),
-        b: sum(first.b, second.b),
-        c: sum(first.c, second.c),
-        d: sum(first.d, second.d),
-    }
-}
-
-// Two calls, of the first k picks and of the others.
-fn in_two(code: &[u8], m: Memory, picks: &[u8], k: usize) -> Taken {
-    let first = call_run(code, m, text::front(picks, k));
-    let between = first.after;
-    joined(first, call_run(code, between, text::rest(picks, k)))
-}
-
-fn same_counts(s: Taken, t: Taken) -> bool {
-    if s.a != t.a {
-        return false;
-    }
-    if s.b != t.b {
-        return false;
-    }
-    if s.c != t.c {
-        return false;
-    }
-    s.d == t.d
-}
-
-// Whether both are taken, and left and answered the same.
-fn same(s: Taken, t: Taken) -> bool {
-    if s.refusal != 0 {
-        return false;
-    }
-    if t.refusal != 0 {
-        return false;
-    }
-    if !same_counts(s, t) {
-        return false;
-    }
-    let a = s.after;
-    let b = t.after;
-    memory::same(a, b)
-}
-
-// The first place at which cutting the picks makes a difference, or one more than there are picks.
-fn first_cut(code: &[u8], m: Memory, picks: &[u8], whole: Taken) -> usize {
-    let mut k: usize = 0;
-    while k <= picks.len() {
-        if !same(in_two(code, m, picks, k), whole) {
-            return k;
-        }
-        k += 1;
-    }
-    k
-}
-
-fn run_cut(code: &[u8], m: Memory, picks: &[u8]) {
-    let k = first_cut(code, m, picks, call_run(code, m, picks));
-    if k > picks.len() {
-        text::write(b"same");
-        return;
-    }
-    text::write_number(b"differs at ", k);
-}
-
 // ---- lines
 
 // Runs a call. What is run is chosen here, by `text::word_number` of the command.
 fn run_call(what: u64, code: &[u8], m: Memory, picks: &[u8]) {
     match what {
-        6887016 => run_fresh(code, m), // fresh
-        643248 => run_step(code, m, picks), // step
-        19118 => run_run(code, m, picks), // run
-        3764 => run_cut(code, m, picks), // cut
+        6887016 => calls::run_fresh(code, m), // fresh
+        643248 => calls::run_step(code, m, picks), // step
+        19118 => calls::run_run(code, m, picks), // run
+        3764 => calls::run_cut(code, m, picks), // cut
         _ => text::write_malformed(),
     }
 }
@@ -280,14 +69,6 @@ fn run_picks(what: u64, code: &[u8], m: Memory, list: &[u8]) {
     run_call(what, code, m, &picks[..n]);
 }
 
-// A fresh state and so many picks.
-fn begun(code: &[u8], m: Memory, picks: &[u8]) -> Memory {
-    let laid = call_fresh(code, m);
-    let fresh = laid.after;
-    let taken = call_run(code, fresh, picks);
-    taken.after
-}
-
 fn set_up_picks(code: &[u8], list: &[u8]) -> Memory {
     let mut picks = [0u8; 40000];
     let parsed = text::parse_picks(list, &mut picks);
@@ -295,7 +76,7 @@ fn set_up_picks(code: &[u8], list: &[u8]) -> Memory {
         return memory::filled().bad();
     }
     let n = parsed.count;
-    begun(code, memory::filled(), &picks[..n])
+    calls::begun(code, memory::filled(), &picks[..n])
 }
 
 // The memory as it is before the changes.

@@ -1,8 +1,8 @@
 use native.Mathlib.Omega.{arith}
 use lib.ListN.{length}
 use Prim.Native.Nat.{_+_, _≤_, _-_}
-use Rattle.run_cases.proofs.first_cut.Statement.{statement}
-use Rattle.run_cases.proofs.first_cut.Tie as tie
+use Rattle.calls.proofs.first_cut.Statement.{statement}
+use Rattle.calls.proofs.first_cut.Tie as tie
 
 abbrev Inv-loop : tie.InvT-loop
 Inv-loop code m picks whole k₀ k = k ≤ length picks + 1
