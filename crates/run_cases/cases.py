@@ -450,7 +450,7 @@ def the_order():
     section("code of another job that the state fits")
     case("run another number", SEVEN, changes="code 9 8", picks="0", says=ran(1, 0, 0, 0, "thread 0 done 8"))
     case("run another register", TWICE, "0*2", "code 9 4", "0*3", says=ran(3, 0, 1, 0, "thread 0 done 0"))
-    case("run a state in which PUSH becomes two", SEVEN, changes="code 8 1", picks="0", says=ran(1, 0, 0, 0, "thread 0 done 263"))
+    case("run another number, of two bytes", SEVEN, changes="code 8 1", picks="0", says=ran(1, 0, 0, 0, "thread 0 done 263"))
 
 
 def the_events():
@@ -482,6 +482,9 @@ def the_events():
     case("run three values to the end", LOOK, "0", ", ".join(values), "0*2", says=ran(2, 0, 0, 1, "thread 0 open", "register 0 9"))
     case("run two values to the end", LOOK, "0", values[0] + ", " + values[2], "0*2", says=ran(2, 0, 1, 0, "thread 0 done 5", "register 0 5"))
     case("run all registers marked", LOOK, "0", "thread 0 writes %s, thread 0 writelog 0 5, thread 0 writelog 63 -6" % EVERY, "0*2", says=ran(2, 0, 1, 0, "thread 0 done 5", "register 0 5", "register 63 -6"))
+    case("step 9 own write, the register changed since", OWN, "0*5", "register 0 99", "0", says=stepped(9, 0, 1, "thread 0 done 10", "register 0 5"))
+    case("step 10 read and written, the register changed since", WHOLE, "0*2 1*5", "register 0 99", "1", says=stepped(10, 0, 0, "thread 0 open", "thread 1 open", "thread 2 open", "register 0 99"))
+    case("run read before the change, written after it", WHOLE, "0*2 1*2", "register 0 99", "1*4", says=ran(4, 0, 0, 1, "thread 0 open", "thread 1 open", "thread 2 open", "register 0 99"))
     section("COMMIT: the first stale register")
     case("step 10 the lowest of two", STALE, "0*5 1*5", picks="0", says=stepped(10, 1, 0, "thread 0 open", "thread 1 done 1", "register 1 1", "register 2 1"))
     case("step 10 register 63", last(1), "0*3 1*4", picks="0", says=stepped(10, 63, 0, "thread 0 open", "thread 1 done 1", "register 63 1"))
@@ -768,17 +771,17 @@ def some_change(rng, tree, code, setup):
 def the_random():
     section("random jobs and picks")
     rng = random.Random(20260101)
-    for k in range(110):
+    for k in range(190):
         tree = some_tree(rng)
         case("run random %d" % k, tree, "", "", some_picks(rng, forks(tree), 30))
-    for k in range(40):
+    for k in range(70):
         tree = some_tree(rng)
         case("step random %d" % k, tree, some_picks(rng, forks(tree), 14), "", str(rng.randint(0, forks(tree))))
-    for k in range(20):
+    for k in range(25):
         tree = some_tree(rng)
         case("cut random %d" % k, tree, "", "", some_picks(rng, forks(tree), 16), says="same")
     section("random jobs and picks, a number changed in between")
-    for k in range(90):
+    for k in range(140):
         tree = some_tree(rng)
         setup = some_picks(rng, forks(tree), 10)
         case("run changed %d" % k, tree, setup, some_change(rng, tree, bytearray(whole(tree)), setup), some_picks(rng, forks(tree), 12))

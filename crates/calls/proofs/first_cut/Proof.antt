@@ -1,3 +1,4 @@
+-- `calls::first_cut` is safe and ends. The loop's invariant: k is at most one more than there are picks. The measure is what is left up to there. Assumes nothing.
 use native.Mathlib.Omega.{arith}
 use lib.ListN.{length}
 use Prim.Native.Nat.{_+_, _≤_, _-_}

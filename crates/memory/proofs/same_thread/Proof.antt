@@ -1,3 +1,4 @@
+-- `memory::same_thread` is safe and ends. The loop's invariant: k is at most 200. The measure is what is left up to there. Assumes nothing.
 use native.Mathlib.Omega.{arith}
 use Prim.Native.Nat.{_≤_, _-_}
 use Rattle.memory.proofs.same_thread.Statement.{statement}

@@ -1,3 +1,4 @@
+-- `memory::sum_thread` is safe and ends. The loop's invariant: k is at most 200. The measure is what is left up to there. Assumes nothing.
 use native.Mathlib.Omega.{arith}
 use Prim.Native.Nat.{_≤_, _-_}
 use Rattle.memory.proofs.sum_thread.Statement.{statement}

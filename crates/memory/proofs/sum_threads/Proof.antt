@@ -1,3 +1,4 @@
+-- `memory::sum_threads` is safe and ends. The loop's invariant: i is at most 17. The measure is what is left up to there. Assumes nothing.
 use native.Mathlib.Omega.{arith}
 use Prim.Native.Nat.{_≤_, _-_}
 use Rattle.memory.proofs.sum_threads.Statement.{statement}

@@ -1,3 +1,4 @@
+-- `memory::write_threads` is safe and ends. The loop's invariant: i is at most 16. The measure is what is left up to there. Assumes nothing.
 use native.Mathlib.Omega.{arith}
 use Prim.Native.Nat.{_≤_, _-_}
 use Rattle.memory.proofs.write_threads.Statement.{statement}

@@ -1,5 +1,5 @@
+-- `run_cases::change_code` is safe and ends. The loop's invariant: the code is as long as it came. The measure is what is left of the changes. Assumes nothing.
 use native.Mathlib.Omega.{arith}
-use Prim.Native.Nat.{_≤_}
 use mathlib.Core.Path.{_≡_}
 use lib.ListN.{length}
 use Rattle.run_cases.proofs.change_code.Statement.{statement}

@@ -1,3 +1,4 @@
+-- `run_cases::run_lines` is safe and ends. The measure is what is left of the lines; there is nothing to keep. Assumes nothing.
 use native.Mathlib.Omega.{arith}
 use Prim.Native.Nat.{_≤_}
 use lib.ListN.{length}

@@ -1,5 +1,5 @@
+-- `text::parse_picks` meets its contract. The loop's invariant: picks is as long as it came. The measure is what is left of the list. Assumes nothing.
 use native.Mathlib.Omega.{arith}
-use Prim.Native.Nat.{_≤_}
 use mathlib.Core.Path.{_≡_}
 use lib.ListN.{length}
 use Rattle.text.proofs.parse_picks.Statement.{statement}

@@ -1,3 +1,4 @@
+-- `text::part` is safe and ends. The loop's invariant: n is at most k. The measure is n. Assumes nothing.
 use native.Mathlib.Omega.{arith}
 use Prim.Native.Nat.{_≤_}
 use Rattle.text.proofs.part.Statement.{statement}

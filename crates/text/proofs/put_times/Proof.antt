@@ -1,3 +1,4 @@
+-- `text::put_times` is safe and ends. The loop's invariant: `at` is within picks, and picks is as long as it came. The measure is n. Assumes nothing.
 use native.Mathlib.Omega.{arith}
 use Prim.Native.Nat.{_≤_}
 use mathlib.Core.Path.{_≡_}

@@ -1,3 +1,4 @@
+-- `text::word_number` is safe and ends. The loop's invariant: `at` is within the text. The measure is what is left of it. Assumes nothing.
 use native.Mathlib.Omega.{arith}
 use Prim.Native.Nat.{_≤_, _-_}
 use lib.ListN.{length}

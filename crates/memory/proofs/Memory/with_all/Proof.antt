@@ -1,3 +1,4 @@
+-- `memory::Memory::with_all` is safe and ends. The measure is what is left of the changes; there is nothing to keep. Assumes nothing.
 use native.Mathlib.Omega.{arith}
 use Prim.Native.Nat.{_≤_}
 use lib.ListN.{length}
