@@ -650,6 +650,10 @@ def the_table():
         ("a height of 64", both, "thread 0 height 64"),
         ("all registers marked outside", both, "thread 2 reads " + EVERY),
         ("a place in the mark", "", "thread 0 place 4"),
+        ("thread 0 in a child's code", "", spawned(0, 8, 20)),
+        ("thread 0 in a child's code, as thread 1 is", one, spawned(0, 8, 20) + ", thread 0 height 0"),
+        ("no thread", "", blank(0)),
+        ("no thread 0", both, blank(0) + ", thread 0 height 0"),
         ("threads 0 and 1 exchanged", one, spawned(0, 8, 20) + ", thread 1 start 5, thread 1 end 36, thread 1 place 20, thread 0 height 0, thread 1 height 1"),
     ):
         case("run " + label, WHOLE, setup, changes, picks, says="refused 12 at 0 kept")

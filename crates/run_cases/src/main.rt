@@ -11,7 +11,8 @@
 // `*N` behind one that is repeated. At each ';' and ',' a space follows.
 //
 // What is written: the answer, each thread, each register that is not 0, and a checksum over all registers and records; of a refusal whether
-// the memory was `kept`. `cut` runs the picks in one call and in two, cut at each place: `same` if both leave the same and the counts add up.
+// the memory was `kept`. `cut` runs the picks in one call and in two, cut at each place: `same` if both leave the same and the counts add up, else
+// `differs at` the first such place. A line that is no case is `malformed`.
 use delivery::Answer;
 use memory::Memory;
 use text::Hex;
