@@ -269,9 +269,17 @@ impl Memory {
     }
 
     // Something asked for was malformed.
-    pub fn bad(mut self) -> Memory {
+    fn bad(mut self) -> Memory {
         self.good = false;
         self
+    }
+
+    // The memory if what was asked for is well formed.
+    pub fn only(self, good: bool) -> Memory {
+        if good {
+            return self;
+        }
+        self.bad()
     }
 
     fn with_records(mut self, n: usize) -> Memory {

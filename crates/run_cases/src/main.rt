@@ -19,10 +19,17 @@ use text::Hex;
 
 // ---- the code
 
-fn done(answer: Answer) -> usize {
+// How many bytes of code there are; `whole` if the job was spelled well and is taken.
+fn done(answer: Answer, whole: bool) -> Hex {
     match answer {
-        Answer::Done(length) => length,
-        Answer::Refused(_number, _place) => 0,
+        Answer::Done(length) => Hex {
+            count: length,
+            whole,
+        },
+        Answer::Refused(_number, _place) => Hex {
+            count: 0,
+            whole: false,
+        },
     }
 }
 
@@ -31,16 +38,13 @@ fn load_job(text: &[u8], code: &mut [u8]) -> Hex {
     let mut space = [0u8; 4096];
     let hex = text::parse_hex(text, &mut space);
     let count = hex.count;
-    let n = done(compiler::compile(&space[..count], code));
-    Hex {
-        count: n,
-        whole: hex.whole && n > 0,
-    }
+    done(compiler::compile(&space[..count], code), hex.whole)
 }
 
 // Puts the code at the start of `code`.
 fn load(text: &[u8], code: &mut [u8]) -> Hex {
-    if text::starts(text, b" code") {
+    // the word `code`
+    if text::word_number(text::part(text, b' ', 1)) == 113797 {
         return text::parse_hex(text::rest(text, 5), code);
     }
     load_job(text, code)
@@ -59,25 +63,34 @@ fn run_call(what: u64, code: &[u8], m: Memory, picks: &[u8]) {
     }
 }
 
-fn run_picks(what: u64, code: &[u8], m: Memory, list: &[u8]) {
-    let mut picks = [0u8; 40000];
-    let parsed = text::parse_picks(list, &mut picks);
-    if !parsed.whole {
-        text::write_malformed();
+fn both(a: bool, b: bool) -> bool {
+    if a {
+        return b;
+    }
+    false
+}
+
+// Runs a call, if the line is a case.
+fn run_good(what: u64, good: bool, code: &[u8], m: Memory, picks: &[u8]) {
+    if both(good, m.good) {
+        run_call(what, code, m, picks);
         return;
     }
+    text::write_malformed();
+}
+
+fn run_picks(what: u64, good: bool, code: &[u8], m: Memory, list: &[u8]) {
+    let mut picks = [0u8; 40000];
+    let parsed = text::parse_picks(list, &mut picks);
     let n = parsed.count;
-    run_call(what, code, m, &picks[..n]);
+    run_good(what, both(good, parsed.whole), code, m, &picks[..n]);
 }
 
 fn set_up_picks(code: &[u8], list: &[u8]) -> Memory {
     let mut picks = [0u8; 40000];
     let parsed = text::parse_picks(list, &mut picks);
-    if !parsed.whole {
-        return memory::filled().bad();
-    }
     let n = parsed.count;
-    calls::begun(code, memory::filled(), &picks[..n])
+    calls::begun(code, memory::filled().only(parsed.whole), &picks[..n])
 }
 
 // The memory as it is before the changes.
@@ -123,29 +136,18 @@ fn prepared(what: u64, code: &[u8], body: &[u8]) -> Memory {
     m.with_all(text::part(body, b';', 2))
 }
 
-// Runs the case of a line's body on its code.
-fn run_body(what: u64, code: &mut [u8], body: &[u8]) {
+// Runs the case of a line's body on its code, `whole` telling whether that is well formed.
+fn run_body(what: u64, whole: bool, code: &mut [u8], body: &[u8]) {
     let m = prepared(what, code, body);
-    if !m.good {
-        text::write_malformed();
-        return;
-    }
-    if !change_code(code, text::part(body, b';', 2)) {
-        text::write_malformed();
-        return;
-    }
-    run_picks(what, code, m, text::part(body, b';', 3));
+    let good = change_code(code, text::part(body, b';', 2));
+    run_picks(what, both(whole, good), code, m, text::part(body, b';', 3));
 }
 
 fn run_case(what: u64, body: &[u8]) {
     let mut code = [0u8; 6000];
     let loaded = load(text::before(body, b';'), &mut code);
-    if !loaded.whole {
-        text::write_malformed();
-        return;
-    }
     let n = text::within(loaded.count, &code);
-    run_body(what, &mut code[..n], body);
+    run_body(what, loaded.whole, &mut code[..n], body);
 }
 
 // Runs one line, and writes its label and what the case comes to.
