@@ -42,21 +42,30 @@ fn write_rest(rest: &[u8]) {
     text::write_altered();
 }
 
+// Writes what a result is: 2 code, 3 a job.
+fn write_kind(what: u8) {
+    if what == 2 {
+        text::write(b"code ");
+        return;
+    }
+    text::write(b"job ");
+}
+
 // Writes a result and what lies behind it.
-fn write_result(word: &[u8], length: usize, out: &[u8]) {
+fn write_result(what: u8, length: usize, out: &[u8]) {
     if length > out.len() {
         text::write(b"beyond the output");
         return;
     }
-    text::write(word);
+    write_kind(what);
     text::write_bytes(text::front(out, length));
     write_rest(text::rest(out, length));
 }
 
 // Writes an answer and the output that goes with it.
-fn write_answer(answer: Answer, word: &[u8], out: &[u8]) {
+fn write_answer(answer: Answer, what: u8, out: &[u8]) {
     match answer {
-        Answer::Done(length) => write_result(word, length, out),
+        Answer::Done(length) => write_result(what, length, out),
         Answer::Refused(number, place) => {
             text::write_refusal(number as usize, place);
             write_rest(out);
@@ -79,28 +88,27 @@ fn write_reading(bytes: &[u8]) {
 fn run_compile(bytes: &[u8], out: &mut [u8]) {
     fill(out);
     let answer = compiler::compile(bytes, out);
-    write_answer(answer, b"code ", out);
+    write_answer(answer, 2, out);
 }
 
 // Reads back into an output.
 fn run_back(bytes: &[u8], out: &mut [u8]) {
     fill(out);
     let answer = compiler::read_back(bytes, out);
-    write_answer(answer, b"job ", out);
+    write_answer(answer, 3, out);
 }
 
-// What the label's first word says: 1 a job, 2 compiling, 3 reading back, 0 none of them.
+// What the label's first word says: 1 a job, 2 compiling, 3 reading back, 0 none of them. Words are numbers by `text::word_number`.
 fn command(label: &[u8]) -> u8 {
-    if text::starts(label, b"job ") {
-        return 1;
+    if !text::holds(label, b' ') {
+        return 0;
     }
-    if text::starts(label, b"compile ") {
-        return 2;
+    match text::word_number(text::before(label, b' ')) {
+        10722 => 1, // job
+        3738707333 => 2, // compile
+        66667 => 3, // back
+        _ => 0,
     }
-    if text::starts(label, b"back ") {
-        return 3;
-    }
-    0
 }
 
 // Runs a case that has an output.
@@ -117,52 +125,63 @@ fn label_size(label: &[u8]) -> usize {
     text::size(text::before(text::behind(label, b' '), b' '), 6000)
 }
 
+// Runs a case with an output of this size.
+fn run_sized(what: u8, size: usize, bytes: &[u8]) {
+    if size > 6000 {
+        text::write_malformed();
+        return;
+    }
+    let mut out = [0u8; 6000];
+    let n = text::within(size, &out);
+    run_output(what, bytes, &mut out[..n]);
+}
+
 // Runs one case. What is run is chosen here.
-fn run_case(label: &[u8], bytes: &[u8], out: &mut [u8]) {
+fn run_case(label: &[u8], bytes: &[u8]) {
     let what = command(label);
     if what == 1 {
         write_reading(bytes);
         return;
     }
-    let size = label_size(label);
-    if size > 6000 {
-        text::write_malformed();
-        return;
-    }
-    let n = text::within(size, out);
-    run_output(what, bytes, &mut out[..n]);
+    run_sized(what, label_size(label), bytes);
 }
 
-// Runs the case of a line. The space is for its bytes.
-fn run_bytes(line: &[u8], space: &mut [u8], out: &mut [u8]) {
-    if !text::holds(line, b':') {
-        text::write_malformed();
-        return;
-    }
-    let bytes = text::parse_hex(text::behind(line, b':'), space);
+// Runs the case of a label whose bytes the text spells.
+fn run_text(label: &[u8], hex: &[u8]) {
+    let mut space = [0u8; 8192];
+    let bytes = text::parse_hex(hex, &mut space);
     if !bytes.whole {
         text::write_malformed();
         return;
     }
     let count = bytes.count;
-    run_case(text::before(line, b':'), &space[..count], out);
+    run_case(label, &space[..count]);
+}
+
+// Runs the case of a line.
+fn run_parts(line: &[u8]) {
+    if text::holds(line, b':') {
+        run_text(text::before(line, b':'), text::behind(line, b':'));
+        return;
+    }
+    text::write_malformed();
 }
 
 // Runs one line, and writes its label and what the case comes to.
-fn run_line(line: &[u8], space: &mut [u8], out: &mut [u8]) {
+fn run_line(line: &[u8]) {
     if !text::says(line) {
         return;
     }
     text::write_label(line);
-    run_bytes(line, space, out);
+    run_parts(line);
     text::write_end();
 }
 
 // Runs each line of the text.
-fn run_lines(lines: &[u8], space: &mut [u8], out: &mut [u8]) {
+fn run_lines(lines: &[u8]) {
     let mut left = lines;
     while left.len() > 0 {
-        run_line(text::before(left, b'\n'), space, out);
+        run_line(text::before(left, b'\n'));
         let next = text::behind(left, b'\n');
         left = next;
     }
@@ -170,12 +189,10 @@ fn run_lines(lines: &[u8], space: &mut [u8], out: &mut [u8]) {
 
 fn main() {
     let mut lines = [0u8; 131073];
-    let mut space = [0u8; 8192];
-    let mut out = [0u8; 6000];
     let length = io::read_full(0, &mut lines);
     if length > 131072 {
         text::write(b"input longer than 131072 bytes\n");
         return;
     }
-    run_lines(&lines[..length], &mut space, &mut out);
+    run_lines(&lines[..length]);
 }

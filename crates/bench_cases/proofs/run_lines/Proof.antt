@@ -1,16 +1,15 @@
--- `bench_cases::run_lines` is safe and ends. The loop's invariant: space and out are as long as they came. The measure is what is left of the lines. Assumes
--- nothing.
+-- `bench_cases::run_lines` is safe and ends. The measure is what is left of the lines; there is nothing to keep. Assumes nothing.
 use native.Mathlib.Omega.{arith}
-use mathlib.Core.Path.{_≡_}
+use Prim.Native.Nat.{_≤_}
 use lib.ListN.{length}
 use Rattle.bench_cases.proofs.run_lines.Statement.{statement}
 use Rattle.bench_cases.proofs.run_lines.Tie as tie
 
 abbrev Inv-loop : tie.InvT-loop
-Inv-loop lines space₀ out₀ left₀ space out left = (length space ≡ length space₀) × (length out ≡ length out₀)
+Inv-loop lines left₀ left = 0 ≤ length left
 
 abbrev μ-loop : tie.MeasureT-loop
-μ-loop lines space₀ out₀ left₀ space out left = length left
+μ-loop lines left₀ left = length left
 
 loop-holds : tie.Need-loop-holds Inv-loop μ-loop
 loop-holds c = omega arith
@@ -30,12 +29,6 @@ loop-less c = omega arith
 loop-again : tie.Need-loop-again Inv-loop μ-loop
 loop-again c = omega arith
 
-same-length : tie.Need-same-length Inv-loop μ-loop
-same-length c = omega arith
-
-same-length-2 : tie.Need-same-length-2 Inv-loop μ-loop
-same-length-2 c = omega arith
-
 returns : tie.Need-returns Inv-loop μ-loop
 returns c = tt
 
@@ -51,6 +44,4 @@ run-lines-spec =
     behind-requires
     loop-less
     loop-again
-    same-length
-    same-length-2
     returns)
