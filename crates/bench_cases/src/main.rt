@@ -1,6 +1,6 @@
 // Runs the cases of standard input, and writes a line for each.
 //
-// A case is a line `label: bytes in hex`. Spaces between the bytes are ignored. Empty lines and lines that start with
+// An input above 131,072 bytes is not run. A case is a line `label: bytes in hex`. Spaces between the bytes are ignored. Empty lines and lines that start with
 // '#' are skipped. The label's first word says what is run:
 //
 //     job ..          reads the bytes as a job
@@ -9,126 +9,8 @@
 //
 // An output is full of AA beforehand. `kept` or `altered` tells whether what lies behind the result, or on a refusal the
 // whole, still is.
-ghost use mathlib.Core.Path.{_≡_};
-ghost use Rattle.io.specs.Counts.{Counts};
 use delivery::Answer;
 use job::Reading;
-
-// What a text in hex comes to: how many bytes were put, and whether they are all.
-struct Hex {
-    count: usize,
-    whole: bool,
-}
-
-// A digit's value, or 16 where the byte is no hex digit.
-fn digit(byte: u8) -> u8 {
-    match byte {
-        b'0'..=b'9' => byte - b'0',
-        b'a'..=b'f' => byte - b'a' + 10,
-        b'A'..=b'F' => byte - b'A' + 10,
-        _ => 16,
-    }
-}
-
-// The first place of the byte in the text, or the text's length.
-fn find(text: &[u8], byte: u8) -> usize
-    ensures { λ r. ⌜ Counts r (now (text .entry)) ⌝ }
-{
-    let mut at = 0;
-    while at < text.len() {
-        if text[at] == byte {
-            return at;
-        }
-        at += 1;
-    }
-    at
-}
-
-// The byte that two hex digits spell, or 256 where one of them is none.
-fn pair(high: u8, low: u8) -> u16 {
-    let h = digit(high);
-    let l = digit(low);
-    if h > 15 {
-        return 256;
-    }
-    if l > 15 {
-        return 256;
-    }
-    (h * 16 + l) as u16
-}
-
-// Puts the bytes that the text spells at the start of out, up to the first that is not well formed or has no room.
-fn parse_hex(text: &[u8], out: &mut [u8]) -> Hex
-    ensures { λ r. ⌜ Counts (r .count) (now (out .exit)) ⌝ }
-{
-    let mut at = 0;
-    let mut count = 0;
-    while at < text.len() {
-        if text[at] == b' ' {
-            at += 1;
-        } else {
-            if text.len() - at < 2 {
-                break;
-            }
-            if count == out.len() {
-                break;
-            }
-            let byte = pair(text[at], text[at + 1]);
-            if byte > 255 {
-                break;
-            }
-            out[count] = byte as u8;
-            count += 1;
-            at += 2;
-        }
-    }
-    Hex {
-        count: count,
-        whole: at == text.len(),
-    }
-}
-
-// The number that the text spells in decimal digits, or 6001 where it spells none up to 6,000.
-fn parse_size(text: &[u8]) -> usize {
-    let mut n: usize = 0;
-    let mut at = 0;
-    while at < text.len() {
-        let value = digit(text[at]);
-        if value > 9 {
-            return 6001;
-        }
-        n = n * 10 + to_usize(value);
-        if n > 6000 {
-            return 6001;
-        }
-        at += 1;
-    }
-    if at == 0 {
-        return 6001;
-    }
-    n
-}
-
-fn to_usize(byte: u8) -> usize
-    ensures { λ r. ⌜ r ≡ byte ⌝ }
-{
-    byte as usize
-}
-
-// Whether the text starts with the word.
-fn starts(text: &[u8], word: &[u8]) -> bool {
-    let mut at = 0;
-    while at < word.len() {
-        if at >= text.len() {
-            return false;
-        }
-        if text[at] != word[at] {
-            return false;
-        }
-        at += 1;
-    }
-    true
-}
 
 // Fills an output with AA.
 fn fill(out: &mut [u8]) {
@@ -151,90 +33,41 @@ fn is_filled(out: &[u8]) -> bool {
     true
 }
 
-// The sum of each byte times its place, counted from 1, in 16 bits: from the end, each tail's sum is added once.
-fn checksum(bytes: &[u8]) -> u16 {
-    let mut tail: u16 = 0;
-    let mut sum: u16 = 0;
-    let mut at = bytes.len();
-    while at > 0 {
-        at -= 1;
-        tail = std::num::wrapping_add_u16(tail, to_u16(bytes[at]));
-        sum = std::num::wrapping_add_u16(sum, tail);
-    }
-    sum
-}
-
-fn to_u16(byte: u8) -> u16 {
-    byte as u16
-}
-
-// The digit of a number below 16.
-fn letter(n: u8) -> u8 {
-    match n {
-        0..=9 => b'0' + n,
-        10..=15 => b'A' + (n - 10),
-        _ => b'?',
-    }
-}
-
-fn write_byte(byte: u8) {
-    let text = [letter(byte / 16), letter(byte % 16)];
-    io::write_all(1, &text);
-}
-
-// Writes bytes as pairs of digits, with a space between.
-fn write_pairs(bytes: &[u8]) {
-    let mut at = 0;
-    while at < bytes.len() {
-        if at > 0 {
-            io::write_all(1, b" ");
-        }
-        write_byte(bytes[at]);
-        at += 1;
-    }
-}
-
-// Writes a result, or of a long one its length and checksum.
-fn write_bytes(bytes: &[u8]) {
-    if bytes.len() <= 64 {
-        write_pairs(bytes);
-        return;
-    }
-    io::print_decimal(1, bytes.len() as u64);
-    io::write_all(1, b" bytes sum ");
-    io::print_decimal(1, checksum(bytes) as u64);
-}
-
-fn write_refusal(number: u8, place: usize) {
-    io::write_all(1, b"refused ");
-    io::print_decimal(1, number as u64);
-    io::write_all(1, b" at ");
-    io::print_decimal(1, place as u64);
-}
-
 // Writes what became of the part of an output that no result was put into.
 fn write_rest(rest: &[u8]) {
     if is_filled(rest) {
-        io::write_all(1, b" kept");
-    } else {
-        io::write_all(1, b" altered");
+        text::write_kept();
+        return;
     }
+    text::write_altered();
+}
+
+// Writes what a result is: 2 code, 3 a job.
+fn write_kind(what: u8) {
+    if what == 2 {
+        text::write(b"code ");
+        return;
+    }
+    text::write(b"job ");
+}
+
+// Writes a result and what lies behind it.
+fn write_result(what: u8, length: usize, out: &[u8]) {
+    if length > out.len() {
+        text::write(b"beyond the output");
+        return;
+    }
+    write_kind(what);
+    text::write_bytes(text::front(out, length));
+    write_rest(text::rest(out, length));
 }
 
 // Writes an answer and the output that goes with it.
-fn write_answer(answer: Answer, word: &[u8], out: &[u8]) {
+fn write_answer(answer: Answer, what: u8, out: &[u8]) {
     match answer {
-        Answer::Done(length) => {
-            if length > out.len() {
-                io::write_all(1, b"beyond the output");
-                return;
-            }
-            io::write_all(1, word);
-            write_bytes(&out[..length]);
-            write_rest(&out[length..]);
-        }
+        Answer::Done(length) => write_result(what, length, out),
         Answer::Refused(number, place) => {
-            write_refusal(number, place);
+            text::write_refusal(number as usize, place);
             write_rest(out);
         }
     }
@@ -244,93 +77,122 @@ fn write_answer(answer: Answer, word: &[u8], out: &[u8]) {
 fn write_reading(bytes: &[u8]) {
     match job::read_job(bytes) {
         Reading::Accepted(version, length) => {
-            io::write_all(1, b"accepted version ");
-            io::print_decimal(1, version as u64);
-            io::write_all(1, b" code ");
-            io::print_decimal(1, length as u64);
+            text::write_number(b"accepted version ", version as usize);
+            text::write_number(b" code ", length);
         }
-        Reading::Refused(number, place) => write_refusal(number, place),
+        Reading::Refused(number, place) => text::write_refusal(number as usize, place),
+    }
+}
+
+// Compiles into an output.
+fn run_compile(bytes: &[u8], out: &mut [u8]) {
+    fill(out);
+    let answer = compiler::compile(bytes, out);
+    write_answer(answer, 2, out);
+}
+
+// Reads back into an output.
+fn run_back(bytes: &[u8], out: &mut [u8]) {
+    fill(out);
+    let answer = compiler::read_back(bytes, out);
+    write_answer(answer, 3, out);
+}
+
+// What the label's first word says: 1 a job, 2 compiling, 3 reading back, 0 none of them. Words are numbers by `text::word_number`.
+fn command(label: &[u8]) -> u8 {
+    if !text::holds(label, b' ') {
+        return 0;
+    }
+    match text::word_number(text::before(label, b' ')) {
+        10722 => 1, // job
+        3738707333 => 2, // compile
+        66667 => 3, // back
+        _ => 0,
     }
 }
 
 // Runs a case that has an output.
-fn run_output(label: &[u8], bytes: &[u8], out: &mut [u8]) {
-    fill(out);
-    if starts(label, b"compile ") {
-        let answer = compiler::compile(bytes, out);
-        write_answer(answer, b"code ", out);
-    } else if starts(label, b"back ") {
-        let answer = compiler::read_back(bytes, out);
-        write_answer(answer, b"job ", out);
-    } else {
-        io::write_all(1, b"malformed");
+fn run_output(what: u8, bytes: &[u8], out: &mut [u8]) {
+    match what {
+        2 => run_compile(bytes, out),
+        3 => run_back(bytes, out),
+        _ => text::write_malformed(),
     }
 }
 
-// The size that the label's second word spells, as `parse_size`.
+// The size that the label's second word spells, or 6001.
 fn label_size(label: &[u8]) -> usize {
-    let first = find(label, b' ');
-    if first == label.len() {
-        return 6001;
+    text::size(text::before(text::behind(label, b' '), b' '), 6000)
+}
+
+// Runs a case with an output of this size.
+fn run_sized(what: u8, size: usize, bytes: &[u8]) {
+    if size > 6000 {
+        text::write_malformed();
+        return;
     }
-    let start = first + 1;
-    let end = start + find(&label[start..], b' ');
-    parse_size(&label[start..end])
+    let mut out = [0u8; 6000];
+    let n = text::within(size, &out);
+    run_output(what, bytes, &mut out[..n]);
 }
 
 // Runs one case. What is run is chosen here.
-fn run_case(label: &[u8], bytes: &[u8], out: &mut [u8]) {
-    if starts(label, b"job ") {
+fn run_case(label: &[u8], bytes: &[u8]) {
+    let what = command(label);
+    if what == 1 {
         write_reading(bytes);
         return;
     }
-    let size = label_size(label);
-    if size > out.len() {
-        io::write_all(1, b"malformed");
-        return;
-    }
-    run_output(label, bytes, &mut out[..size]);
+    run_sized(what, label_size(label), bytes);
 }
 
-// Runs one line, and writes its label and what the case comes to. The space is for the case's bytes.
-fn run_line(line: &[u8], space: &mut [u8], out: &mut [u8]) {
-    if line.len() == 0 || line[0] == b'#' {
+// Runs the case of a label whose bytes the text spells.
+fn run_text(label: &[u8], hex: &[u8]) {
+    let mut space = [0u8; 8192];
+    let bytes = text::parse_hex(hex, &mut space);
+    if !bytes.whole {
+        text::write_malformed();
         return;
     }
-    let colon = find(line, b':');
-    io::write_all(1, &line[..colon]);
-    io::write_all(1, b": ");
-    if colon == line.len() {
-        io::write_all(1, b"malformed\n");
+    let count = bytes.count;
+    run_case(label, &space[..count]);
+}
+
+// Runs the case of a line.
+fn run_parts(line: &[u8]) {
+    if text::holds(line, b':') {
+        run_text(text::before(line, b':'), text::behind(line, b':'));
         return;
     }
-    let hex = parse_hex(&line[colon + 1..], space);
-    if !hex.whole {
-        io::write_all(1, b"malformed\n");
+    text::write_malformed();
+}
+
+// Runs one line, and writes its label and what the case comes to.
+fn run_line(line: &[u8]) {
+    if !text::says(line) {
         return;
     }
-    let count = hex.count;
-    run_case(&line[..colon], &space[..count], out);
-    io::write_all(1, b"\n");
+    text::write_label(line);
+    run_parts(line);
+    text::write_end();
 }
 
 // Runs each line of the text.
-fn run_lines(text: &[u8], space: &mut [u8], out: &mut [u8]) {
-    let mut at = 0;
-    while at < text.len() {
-        let end = at + find(&text[at..], b'\n');
-        run_line(&text[at..end], space, out);
-        if end == text.len() {
-            return;
-        }
-        at = end + 1;
+fn run_lines(lines: &[u8]) {
+    let mut left = lines;
+    while left.len() > 0 {
+        run_line(text::before(left, b'\n'));
+        let next = text::behind(left, b'\n');
+        left = next;
     }
 }
 
 fn main() {
-    let mut text = [0u8; 131072];
-    let mut space = [0u8; 8192];
-    let mut out = [0u8; 6000];
-    let length = io::read_full(0, &mut text);
-    run_lines(&text[..length], &mut space, &mut out);
+    let mut lines = [0u8; 131073];
+    let length = io::read_full(0, &mut lines);
+    if length > 131072 {
+        text::write(b"input longer than 131072 bytes\n");
+        return;
+    }
+    run_lines(&lines[..length]);
 }

@@ -1,0 +1,807 @@
+#!/usr/bin/env python3
+"""Writes the files stdin and stdout of this program, beside this one.
+
+The machine here is a second implementation, written from document 01 alone; jobs, their code and what code is foreign come from the
+second implementation in bench_cases/cases.py. Where a case states its answer by hand, the two are compared before anything is written.
+"""
+import copy
+import importlib.util
+import os
+import random
+
+HERE = os.path.dirname(os.path.abspath(__file__))
+spec = importlib.util.spec_from_file_location("bench", os.path.join(HERE, "..", "bench_cases", "cases.py"))
+bench = importlib.util.module_from_spec(spec)
+spec.loader.exec_module(bench)
+from_bench = ("valp", "addp", "atomic", "fork", "valt", "addt", "read", "write", "job", "whole", "job_of", "nodes", "chain")
+valp, addp, atomic, fork, valt, addt, read, write, job, whole, job_of, nodes, chain = (getattr(bench, n) for n in from_bench)
+
+# ---- the machine
+
+SCALARS = ("start", "end", "place", "height", "begin", "base", "reads", "writes")
+ARRAYS = ("cell", "readlog", "writelog")
+
+
+class Record:
+    """A thread record. A thread exists if its start is not 0."""
+
+    def __init__(self, number=0):
+        for name in SCALARS:
+            setattr(self, name, number)
+        for name in ARRAYS:
+            setattr(self, name, [number] * 64)
+
+    def numbers(self):
+        out = [getattr(self, name) for name in SCALARS]
+        for name in ARRAYS:
+            out += getattr(self, name)
+        return out
+
+
+class Memory:
+    """65 registers and 17 records, of which the first so many are lent."""
+
+    def __init__(self):
+        self.registers = [-7] * 65
+        self.threads = [Record(7) for _ in range(17)]
+        self.lent_registers = 64
+        self.lent_records = 16
+
+    def numbers(self):
+        out = list(self.registers)
+        for record in self.threads:
+            out += record.numbers()
+        return out
+
+
+def wrap(n):
+    """A number in 32 bits, two's complement."""
+    return (n + 2**31) % 2**32 - 2**31
+
+
+OPERAND = {1: 4, 2: 0, 3: 1, 4: 1, 5: 0, 6: 0, 7: 2}
+
+
+def instruction(code, place):
+    """(opcode, operand, place behind it)."""
+    op = code[place]
+    behind = place + 1 + OPERAND[op]
+    return op, int.from_bytes(code[place + 1 : behind], "big", signed=op == 1), behind
+
+
+def walk(code, start, end):
+    """The places of the thread that owns this code: place, stack height, the open transaction's BEGIN and the height there, or None,
+    and the child code of the FORKs passed. The last one is the end."""
+    points, height, note, passed, at = [], 0, None, [], start
+    while True:
+        points.append((at, height, note, list(passed)))
+        if at == end:
+            return points
+        op, operand, behind = instruction(code, at)
+        if op in (1, 3):
+            height += 1
+        elif op == 2:
+            height -= 1
+        elif op == 5:
+            note = (at, height)
+        elif op == 6:
+            note = None
+        elif op == 7:
+            height += 1
+            passed.append((behind, behind + operand))
+            behind += operand
+        at = behind
+
+
+def fits(code, memory):
+    if memory.lent_records != 16 or memory.lent_registers != 64:
+        return False
+    records = memory.threads[:16]
+    count = sum(record.start != 0 for record in records)
+    threads, others = records[:count], records[count:]
+    # numbered without gaps, and what does not exist holds 0
+    if any(any(record.numbers()) for record in others):
+        return False
+    if count == 0 or (threads[0].start, threads[0].end) != (5, len(code)):
+        return False
+    # every piece of code that a thread can own
+    owned, left = {}, [(5, len(code))]
+    while left:
+        piece = left.pop()
+        owned[piece] = walk(code, *piece)
+        left += owned[piece][-1][3]
+    asked = []
+    for record in threads:
+        piece = (record.start, record.end)
+        if piece not in owned:
+            return False
+        found = [point for point in owned[piece] if point[0] == record.place]
+        if not found:
+            return False
+        _, height, note, passed = found[0]
+        asked += passed
+        if record.height != height or any(record.cell[height:]):
+            return False
+        if note is None:
+            if record.begin or record.base or record.reads or record.writes or any(record.readlog) or any(record.writelog):
+                return False
+        elif (record.begin, record.base) != note:
+            return False
+        for v in range(64):
+            if not record.reads >> v & 1 and record.readlog[v]:
+                return False
+            if not record.writes >> v & 1 and record.writelog[v]:
+                return False
+    return sorted(asked) == sorted((record.start, record.end) for record in threads[1:])
+
+
+def close(record):
+    """Logs and notes emptied."""
+    record.begin = record.base = record.reads = record.writes = 0
+    record.readlog = [0] * 64
+    record.writelog = [0] * 64
+
+
+def pick(code, memory, i):
+    """One pick: (event, register, turn)."""
+    if i >= 16 or memory.threads[i].start == 0:
+        return 0, 0, 0
+    t = memory.threads[i]
+    if t.place == t.end:
+        return 0, 0, 0
+    op, operand, behind = instruction(code, t.place)
+
+    def push(n):
+        t.cell[t.height] = n
+        t.height += 1
+
+    if op == 1:
+        push(operand)
+        t.place = behind
+        return 1, 0, 0
+    if op == 2:
+        right, left = t.cell[t.height - 1], t.cell[t.height - 2]
+        t.cell[t.height - 1] = 0
+        t.cell[t.height - 2] = wrap(left + right)
+        t.height -= 1
+        t.place = behind
+        return 2, 0, 0 if t.begin else 1
+    if op == 3:
+        if t.writes >> operand & 1:
+            value, event = t.writelog[operand], 5
+        elif t.reads >> operand & 1:
+            value, event = t.readlog[operand], 6
+        else:
+            value, event = memory.registers[operand], 7
+            t.reads |= 1 << operand
+            t.readlog[operand] = value
+        push(value)
+        t.place = behind
+        return event, 0, 0
+    if op == 4:
+        t.writes |= 1 << operand
+        t.writelog[operand] = t.cell[t.height - 1]
+        t.place = behind
+        return 8, 0, 0
+    if op == 5:
+        at, height = t.place, t.height
+        close(t)
+        t.begin, t.base = at, height
+        t.place = behind
+        return 4, 0, 0
+    if op == 6:
+        for v in range(64):
+            if t.reads >> v & 1 and t.readlog[v] != memory.registers[v]:
+                t.place, t.height = t.begin, t.base
+                t.cell[t.height :] = [0] * (64 - t.height)
+                close(t)
+                return 10, v, 0
+        for v in range(64):
+            if t.writes >> v & 1:
+                memory.registers[v] = t.writelog[v]
+        close(t)
+        t.place = behind
+        return 9, 0, 1
+    push(0)
+    t.place = behind + operand
+    child = next(record for record in memory.threads if record.start == 0)
+    child.start = child.place = behind
+    child.end = behind + operand
+    return 3, 0, 1
+
+
+def refusal(code, memory, picks, fresh=False):
+    """The number of the refusal, or 0."""
+    if job_of(bytes(code)) is None:
+        return 11
+    if fresh:
+        return 0 if (memory.lent_registers, memory.lent_records) == (64, 16) else 12
+    if not fits(code, memory):
+        return 12
+    return 13 if len(picks) > 32768 else 0
+
+
+def call_fresh(code, memory):
+    number = refusal(code, memory, [], True)
+    if number == 0:
+        memory.registers[:64] = [0] * 64
+        memory.threads[:16] = [Record() for _ in range(16)]
+        root = memory.threads[0]
+        root.start = root.place = 5
+        root.end = len(code)
+    return number
+
+
+def call_run(code, memory, picks):
+    """(refusal, events)."""
+    number = refusal(code, memory, picks)
+    return number, [] if number else [pick(code, memory, i) for i in picks]
+
+
+def counts(events):
+    """steps, idle, commits, back"""
+    kinds = [event for event, _, _ in events]
+    return len(kinds) - kinds.count(0), kinds.count(0), kinds.count(9), kinds.count(10)
+
+
+# ---- what is written
+
+
+def checksum(memory):
+    tail = total = 0
+    for n in memory.numbers():
+        tail = (tail + n) % 2**64
+        total = (total + tail) % 2**64
+    return total
+
+
+def show_state(memory):
+    out = ""
+    for i, t in enumerate(memory.threads[:16]):
+        if t.start:
+            out += ", thread %d " % i + ("done %d" % t.cell[0] if t.place == t.end else "open")
+    for v, n in enumerate(memory.registers[:64]):
+        if n:
+            out += ", register %d %d" % (v, n)
+    return out
+
+
+def listed(picks):
+    """A list of picks from a text such as '0*3 1'."""
+    out = []
+    for word in picks.split():
+        name, _, times = word.partition("*")
+        out += [int(name)] * int(times or 1)
+    return out
+
+
+def change(code, memory, text):
+    words = text.split()
+    if words[0] == "records":
+        memory.lent_records = int(words[1])
+    elif words[0] == "registers":
+        memory.lent_registers = int(words[1])
+    elif words[0] == "code":
+        code[int(words[1])] = int(words[2])
+    elif words[0] == "register":
+        memory.registers[int(words[1])] = int(words[2])
+    elif words[2] in SCALARS:
+        setattr(memory.threads[int(words[1])], words[2], int(words[3]))
+    else:
+        getattr(memory.threads[int(words[1])], words[2])[int(words[3])] = int(words[4])
+
+
+def answer(command, code, setup, changes, picks):
+    """What the program writes behind the label, and the memory."""
+    code, memory, picks = bytearray(code), Memory(), listed(picks)
+    if command != "fresh":
+        call_fresh(code, memory)
+        call_run(code, memory, listed(setup))
+    for text in changes.split(", ") if changes else []:
+        change(code, memory, text)
+    before = copy.deepcopy(memory)
+    if command == "fresh":
+        number, said = call_fresh(code, memory), "laid"
+    elif command == "step":
+        number, events = call_run(code, memory, picks)
+        said = "" if number else "event %d register %d turn %d" % events[0]
+    else:
+        number, events = call_run(code, memory, picks)
+        said = "steps %d idle %d commits %d back %d" % counts(events)
+    if command == "cut":
+        assert number == 0
+        for k in range(len(picks) + 1):
+            again = copy.deepcopy(before)
+            first, second = call_run(code, again, picks[:k]), call_run(code, again, picks[k:])
+            assert first[0] == second[0] == 0 and again.numbers() == memory.numbers()
+            assert counts(first[1] + second[1]) == counts(events)
+        return "same", memory
+    if number:
+        assert before.numbers() == memory.numbers()
+        return "refused %d at 0 kept" % number, memory
+    return said + show_state(memory) + ", sum %d" % checksum(memory), memory
+
+
+# ---- the cases
+
+lines = []  # of stdin
+answers = []  # lines of stdout
+labels = set()
+
+
+def section(title):
+    lines.append("")
+    lines.append("# " + title)
+
+
+def line(label, text, said):
+    assert ":" not in label and label not in labels, label
+    labels.add(label)
+    lines.append(label + ":" + text)
+    answers.append(label + ": " + said)
+
+
+def case(label, what, setup="", changes="", picks="", says=None):
+    """A call on a tree's code, or on code. `says` is the answer stated by hand, the checksum left out."""
+    command = label.split()[0]
+    if isinstance(what, tuple):
+        code, text = whole(what), job(what).hex()
+    else:
+        code, text = what, ("code " + what.hex()).strip()
+    said, _ = answer(command, code, setup, changes, picks)
+    if says is not None:
+        assert said.rpartition(", sum ")[0] == says or said == says, (label, said, says)
+    line(label, " %s; %s; %s; %s" % (text, setup, changes, picks), said)
+
+
+def ran(steps, idle, commits, back, *left):
+    return ", ".join(("steps %d idle %d commits %d back %d" % (steps, idle, commits, back),) + left)
+
+
+def stepped(event, register, turn, *left):
+    return ", ".join(("event %d register %d turn %d" % (event, register, turn),) + left)
+
+
+SEVEN = valp(7)
+LOW = addp(valp(-2147483648), valp(-1))
+OWN = atomic(addt(write(0, valt(5)), read(0)))
+STEP = fork(atomic(write(0, addt(read(0), valt(1)))))
+WHOLE = addp(STEP, STEP)
+PICKS = "0*3 1*2 2*6 1*10"
+HIGH = addp(valp(5), addp(fork(atomic(write(0, valt(1)))), atomic(read(0))))
+LOOK = atomic(read(0))
+TWICE = atomic(addt(read(3), read(3)))
+STALE = addp(fork(atomic(write(2, write(1, valt(1))))), atomic(addt(read(2), read(1))))
+NEST = chain(fork, 15, valp(1))
+NEST_PICKS = " ".join(str(i) for i in range(15))
+WIDE = bench.balanced(addp, fork(valp(2)), 15)
+# four threads each add 1 to register 0; all read it before one commits
+BUSY = addp(STEP, addp(STEP, addp(STEP, atomic(write(0, addt(read(0), valt(1)))))))
+BUSY_PICKS = "0*3 " + 5 * "0 1 2 3 " + "1 0 2 3 " + 5 * "0 2 3 " + "2 0 3 " + 5 * "0 3 " + "3 0 200 0*9"
+BIT_63 = str(2**63)
+EVERY = str(2**64 - 1)
+
+
+def last(n):
+    return addp(fork(atomic(write(63, valt(n)))), atomic(read(63)))
+
+
+def the_whole_case():
+    section("document 01's whole case and the cases of its bench that run")
+    end = ("thread 0 done 0", "thread 1 done 2", "thread 2 done 1", "register 0 2")
+    case("run the whole case", WHOLE, picks=PICKS, says=ran(21, 0, 2, 1, *end))
+    case("run one PUSH", SEVEN, picks="0", says=ran(1, 0, 0, 0, "thread 0 done 7"))
+    case("run one PUSH picked three times", SEVEN, picks="0*3", says=ran(1, 2, 0, 0, "thread 0 done 7"))
+    case("run below the least number", LOW, picks="0*3", says=ran(3, 0, 0, 0, "thread 0 done 2147483647"))
+    case("run above the greatest number", addp(valp(2147483647), valp(1)), picks="0*3", says=ran(3, 0, 0, 0, "thread 0 done -2147483648"))
+    case("run a register read after its own write", OWN, picks="0*6", says=ran(6, 0, 1, 0, "thread 0 done 10", "register 0 5"))
+    case("run the same up to COMMIT", OWN, picks="0*5", says=ran(5, 0, 0, 0, "thread 0 open"))
+    assert answer("run", whole(OWN), "", "", "0*5")[1].threads[0].reads == 0
+    case("run an empty list", SEVEN, says=ran(0, 0, 0, 0, "thread 0 open"))
+    case("run a write to register 63", atomic(write(63, read(63))), picks="0*4", says=ran(4, 0, 1, 0, "thread 0 done 0"))
+    case("run a sum of register 63", atomic(write(63, addt(read(63), valt(-4)))), picks="0*6", says=ran(6, 0, 1, 0, "thread 0 done -4", "register 63 -4"))
+
+
+def fresh_states():
+    section("fresh: laid over memory of -7 and 7, of which register 64 and record 16 stay")
+    case("fresh one PUSH", SEVEN, says="laid, thread 0 open")
+    case("fresh the whole case", WHOLE, says="laid, thread 0 open")
+    case("fresh over another memory", SEVEN, changes="register 0 5, thread 3 cell 9 -1, thread 15 reads " + EVERY, says="laid, thread 0 open")
+    section("fresh: 11, then 12")
+    for n in (15, 17, 0):
+        case("fresh %d records" % n, SEVEN, changes="records %d" % n, says="refused 12 at 0 kept")
+    for n in (63, 65, 0):
+        case("fresh %d registers" % n, SEVEN, changes="registers %d" % n, says="refused 12 at 0 kept")
+    case("fresh foreign code", b"", says="refused 11 at 0 kept")
+    case("fresh foreign code, a job", job(SEVEN), says="refused 11 at 0 kept")
+    case("fresh foreign code and 15 records", b"", changes="records 15", says="refused 11 at 0 kept")
+    case("fresh foreign code and 65 registers", SEVEN, changes="code 5 9, registers 65", says="refused 11 at 0 kept")
+    case("fresh foreign code and no memory", SEVEN, changes="code 4 2, registers 0, records 0", says="refused 11 at 0 kept")
+
+
+def the_order():
+    section("run and step: 11, then 12, then 13")
+    long = "0*32769"
+    case("run foreign code, foreign state, long list", b"", picks=long, says="refused 11 at 0 kept")
+    case("run foreign code, foreign state", b"", picks="0", says="refused 11 at 0 kept")
+    case("run foreign code, long list", SEVEN, changes="code 5 9", picks=long, says="refused 11 at 0 kept")
+    case("run foreign code", SEVEN, changes="code 5 9", picks="0", says="refused 11 at 0 kept")
+    case("run foreign code, changed state", SEVEN, changes="code 0 0, thread 0 height 1", picks="0", says="refused 11 at 0 kept")
+    case("run foreign code, 15 records", SEVEN, changes="code 0 0, records 15", picks="0", says="refused 11 at 0 kept")
+    case("run foreign state, long list", SEVEN, changes="thread 0 start 6", picks=long, says="refused 12 at 0 kept")
+    case("run 15 records, long list", SEVEN, changes="records 15", picks=long, says="refused 12 at 0 kept")
+    case("run foreign state", SEVEN, changes="thread 0 start 6", picks="0", says="refused 12 at 0 kept")
+    case("run foreign state, no picks", SEVEN, changes="thread 0 start 6", says="refused 12 at 0 kept")
+    case("run long list", SEVEN, picks=long, says="refused 13 at 0 kept")
+    case("run long list, the whole case begun", WHOLE, "0*3 1*2", picks="1*32000 2*769", says="refused 13 at 0 kept")
+    case("run long list of idle picks", SEVEN, "0", picks="200*32769", says="refused 13 at 0 kept")
+    case("run full list", SEVEN, picks="0*32768", says=ran(1, 32767, 0, 0, "thread 0 done 7"))
+    case("run full list, the whole case", WHOLE, picks="0*16384 1*8192 2*8192", says=ran(15, 32753, 2, 0, "thread 0 done 0", "thread 1 done 1", "thread 2 done 2", "register 0 2"))
+    case("step foreign code, foreign state", b"", picks="0", says="refused 11 at 0 kept")
+    case("step foreign code", SEVEN, changes="code 5 9", picks="0", says="refused 11 at 0 kept")
+    case("step foreign code, a job", job(SEVEN), picks="0", says="refused 11 at 0 kept")
+    case("step foreign state", SEVEN, changes="thread 0 place 0", picks="0", says="refused 12 at 0 kept")
+    case("step foreign state, an idle pick", SEVEN, changes="thread 0 place 0", picks="9", says="refused 12 at 0 kept")
+    for command in ("run", "step"):
+        for n in (15, 17, 0):
+            case("%s %d records" % (command, n), SEVEN, changes="records %d" % n, picks="0", says="refused 12 at 0 kept")
+        for n in (63, 65, 0):
+            case("%s %d registers" % (command, n), SEVEN, changes="registers %d" % n, picks="0", says="refused 12 at 0 kept")
+    section("code of another job that the state fits")
+    case("run another number", SEVEN, changes="code 9 8", picks="0", says=ran(1, 0, 0, 0, "thread 0 done 8"))
+    case("run another register", TWICE, "0*2", "code 9 4", "0*3", says=ran(3, 0, 1, 0, "thread 0 done 0"))
+    case("run another number, of two bytes", SEVEN, changes="code 8 1", picks="0", says=ran(1, 0, 0, 0, "thread 0 done 263"))
+
+
+def the_events():
+    section("step: each event")
+    case("step 0 idle, ended", SEVEN, "0", picks="0", says=stepped(0, 0, 0, "thread 0 done 7"))
+    case("step 0 idle, no such thread", SEVEN, picks="3", says=stepped(0, 0, 0, "thread 0 open"))
+    for n in (15, 16, 17, 255):
+        case("step 0 idle, pick %d" % n, SEVEN, picks=str(n), says=stepped(0, 0, 0, "thread 0 open"))
+    case("step 1 push", SEVEN, picks="0", says=stepped(1, 0, 0, "thread 0 done 7"))
+    case("step 2 sum outside", LOW, "0*2", picks="0", says=stepped(2, 0, 1, "thread 0 done 2147483647"))
+    case("step 2 sum inside", OWN, "0*4", picks="0", says=stepped(2, 0, 0, "thread 0 open"))
+    case("step 3 fork", WHOLE, picks="0", says=stepped(3, 0, 1, "thread 0 open", "thread 1 open"))
+    case("step 3 fork, the next", WHOLE, "0", picks="0", says=stepped(3, 0, 1, "thread 0 open", "thread 1 open", "thread 2 open"))
+    case("step 4 begin", WHOLE, "0*2", picks="1", says=stepped(4, 0, 0, "thread 0 open", "thread 1 open", "thread 2 open"))
+    case("step 4 begin, two numbers below", HIGH, "0*2", picks="0", says=stepped(4, 0, 0, "thread 0 open", "thread 1 open"))
+    case("step 5 read, own write", OWN, "0*3", picks="0", says=stepped(5, 0, 0, "thread 0 open"))
+    case("step 6 read, read before", TWICE, "0*2", picks="0", says=stepped(6, 0, 0, "thread 0 open"))
+    case("step 7 read, the table's", WHOLE, "0*2 1", picks="1", says=stepped(7, 0, 0, "thread 0 open", "thread 1 open", "thread 2 open"))
+    case("step 8 write", WHOLE, "0*2 1*4", picks="1", says=stepped(8, 0, 0, "thread 0 open", "thread 1 open", "thread 2 open"))
+    case("step 9 commit", WHOLE, "0*2 1*5", picks="1", says=stepped(9, 0, 1, "thread 0 open", "thread 1 done 1", "thread 2 open", "register 0 1"))
+    case("step 9 commit, an empty write log", TWICE, "0*4", picks="0", says=stepped(9, 0, 1, "thread 0 done 0"))
+    case("step 10 sent back", WHOLE, "0*3 1*2 2*6 1*3", picks="1", says=stepped(10, 0, 0, "thread 0 done 0", "thread 1 open", "thread 2 done 1", "register 0 1"))
+    section("READ: the write log, then the read log, then the table")
+    values = ("register 0 9", "thread 0 reads 1, thread 0 readlog 0 7", "thread 0 writes 1, thread 0 writelog 0 5")
+    case("step 7 of three values", LOOK, "0", values[0], "0", says=stepped(7, 0, 0, "thread 0 open", "register 0 9"))
+    case("step 6 of three values", LOOK, "0", ", ".join(values[:2]), "0", says=stepped(6, 0, 0, "thread 0 open", "register 0 9"))
+    case("step 5 of three values", LOOK, "0", ", ".join(values), "0", says=stepped(5, 0, 0, "thread 0 open", "register 0 9"))
+    case("step 5 of two values", LOOK, "0", values[0] + ", " + values[2], "0", says=stepped(5, 0, 0, "thread 0 open", "register 0 9"))
+    case("run three values to the end", LOOK, "0", ", ".join(values), "0*2", says=ran(2, 0, 0, 1, "thread 0 open", "register 0 9"))
+    case("run two values to the end", LOOK, "0", values[0] + ", " + values[2], "0*2", says=ran(2, 0, 1, 0, "thread 0 done 5", "register 0 5"))
+    case("run all registers marked", LOOK, "0", "thread 0 writes %s, thread 0 writelog 0 5, thread 0 writelog 63 -6" % EVERY, "0*2", says=ran(2, 0, 1, 0, "thread 0 done 5", "register 0 5", "register 63 -6"))
+    case("step 9 own write, the register changed since", OWN, "0*5", "register 0 99", "0", says=stepped(9, 0, 1, "thread 0 done 10", "register 0 5"))
+    case("step 10 read and written, the register changed since", WHOLE, "0*2 1*5", "register 0 99", "1", says=stepped(10, 0, 0, "thread 0 open", "thread 1 open", "thread 2 open", "register 0 99"))
+    case("run read before the change, written after it", WHOLE, "0*2 1*2", "register 0 99", "1*4", says=ran(4, 0, 0, 1, "thread 0 open", "thread 1 open", "thread 2 open", "register 0 99"))
+    section("COMMIT: the first stale register")
+    case("step 10 the lowest of two", STALE, "0*5 1*5", picks="0", says=stepped(10, 1, 0, "thread 0 open", "thread 1 done 1", "register 1 1", "register 2 1"))
+    case("step 10 register 63", last(1), "0*3 1*4", picks="0", says=stepped(10, 63, 0, "thread 0 open", "thread 1 done 1", "register 63 1"))
+    case("step 9 the same value written", last(0), "0*3 1*4", picks="0", says=stepped(9, 0, 1, "thread 0 open", "thread 1 done 0"))
+    case("step 9 written and set back", last(1), "0*3 1*4", "register 63 0", "0", says=stepped(9, 0, 1, "thread 0 open", "thread 1 done 1"))
+    case("step 10 a marked register never named", LOOK, "0*2", "thread 0 reads %d, thread 0 readlog 5 1" % (2**5 + 1), "0", says=stepped(10, 5, 0, "thread 0 open"))
+    case("step 10 sent back, a write log dropped", OWN, "0*5", "thread 0 reads 2, thread 0 readlog 1 4", "0", says=stepped(10, 1, 0, "thread 0 open"))
+    case("step 10 two numbers below", HIGH, "0*4 1*4", picks="0", says=stepped(10, 0, 0, "thread 0 open", "thread 1 done 1", "register 0 1"))
+    case("run two numbers below, to the end", HIGH, "0*4 1*4", picks="0*6", says=ran(6, 0, 1, 1, "thread 0 done 6", "thread 1 done 1", "register 0 1"))
+
+
+def the_sizes():
+    section("many threads, a high stack")
+    open_ = ["thread %d done 0" % i for i in range(15)]
+    case("run 15 FORKs in each other", NEST, picks=NEST_PICKS, says=ran(15, 0, 0, 0, *open_, "thread 15 open"))
+    case("run 15 FORKs in each other, and the last PUSH", NEST, picks=NEST_PICKS + " 15", says=ran(16, 0, 0, 0, *open_, "thread 15 done 1"))
+    case("run picks 16, 17 and 255", SEVEN, picks="16 17 255 0", says=ran(1, 3, 0, 0, "thread 0 done 7"))
+    case("run picks 16, 17 and 255 with 16 threads", NEST, NEST_PICKS, picks="16*2 17 255 15", says=ran(1, 4, 0, 0, *open_, "thread 15 done 1"))
+    case("step pick 16 with 16 threads", NEST, NEST_PICKS, picks="16", says=stepped(0, 0, 0, *open_, "thread 15 open"))
+    case("step pick 15 with 16 threads", NEST, NEST_PICKS, picks="15", says=stepped(1, 0, 0, *open_, "thread 15 done 1"))
+    case("run 15 FORKs side by side", WIDE, picks="0*29 " + " ".join(str(i) for i in range(1, 16)), says=ran(44, 0, 0, 0, "thread 0 done 0", *("thread %d done 2" % i for i in range(1, 16))))
+    deep = bench.right_comb(addp, valp(3), 64)
+    case("run a stack of 64", deep, picks="0*64", says=ran(64, 0, 0, 0, "thread 0 open"))
+    assert answer("run", whole(deep), "", "", "0*64")[1].threads[0].height == 64
+    case("step the first sum of a stack of 64", deep, "0*64", picks="0", says=stepped(2, 0, 1, "thread 0 open"))
+    case("run a stack of 64 to the end", deep, picks="0*130", says=ran(127, 3, 0, 0, "thread 0 done 192"))
+    inside = atomic(bench.right_comb(addt, read(1), 63))
+    case("run a stack of 63 in a transaction", inside, "0", "register 1 -5", "0*126", says=ran(126, 0, 1, 0, "thread 0 done -315", "register 1 -5"))
+    case("run a stack of 63 sent back", inside, "0*64", "register 1 -5", "0*63", says=ran(63, 0, 0, 1, "thread 0 open", "register 1 -5"))
+    comb = atomic(bench.left_comb(addt, write(7, read(7)), 32))
+    case("run many writes of one register", comb, "0", "register 7 3", "0*200", says=None)
+    case("run 62 WRITEs in each other", atomic(chain(lambda t: write(9, t), 62, valt(4))), picks="0*65", says=ran(65, 0, 1, 0, "thread 0 done 4", "register 9 4"))
+
+
+def the_table():
+    """The rows of the table of states in docs/ARCHITECTURE.md, with the same labels."""
+    section("states that fit and states that do not: labels as in docs/ARCHITECTURE.md")
+    fresh, one, both, begun, inside, behind = "", "0", "0*2", "0*2 1", "0*2 1*2", "0*2 1*6"
+    picks = "0*2 1*3 2 3"
+
+    def blank(i):
+        return "thread %d start 0, thread %d end 0, thread %d place 0" % (i, i, i)
+
+    def spawned(i, start, end):
+        return "thread %d start %d, thread %d end %d, thread %d place %d" % (i, start, i, end, i, start)
+
+    rows = (
+        ("thread 0 owns the whole code", WHOLE, (
+            ("fits-fresh", fresh, "", True),
+            ("root-end-early", fresh, "thread 0 end 35", False),
+            ("root-end-late", fresh, "thread 0 end 37", False),
+            ("root-start", fresh, "thread 0 start 20, thread 0 place 20", False),
+        )),
+        ("each child its FORK's child code", WHOLE, (
+            ("fits-forked", both, "", True),
+            ("child-end-early", both, "thread 1 end 19", False),
+            ("child-end-late", both, "thread 1 end 35", False),
+            ("child-start", both, spawned(1, 9, 20), False),
+        )),
+        ("less the child code of the FORKs in it; every FORK passed has exactly one thread, and no other exists", WHOLE, (
+            ("fits-one", one, "", True),
+            ("in-child", one, "thread 0 place 8", False),
+            ("missing-thread", both, blank(2), False),
+            ("two-threads", both, spawned(3, 23, 35), False),
+            ("unforked", one, spawned(2, 23, 35), False),
+            ("other-order", both, spawned(1, 23, 35) + ", " + spawned(2, 8, 20), True),
+        )),
+        ("the same with FORKs in each other", NEST, (
+            ("fits-nest-one", one, "", True),
+            ("unforked-by-child", one, spawned(2, 11, 55), False),
+            ("fits-all-threads", NEST_PICKS, "", True),
+            ("last-missing", NEST_PICKS, blank(15), False),
+        )),
+        ("each place is at an instruction of the thread's own code or at its end", WHOLE, (
+            ("fits-inside", inside, "", True),
+            ("in-push", inside, "thread 1 place 15", False),
+            ("in-read", inside, "thread 1 place 10", False),
+            ("no-place", both, "thread 1 place 0", False),
+            ("other-child", both, "thread 1 place 23", False),
+            ("fits-ended", PICKS, "", True),
+            ("behind-end", PICKS, "thread 0 place 37", False),
+            ("fits-child-ended", behind, "", True),
+            ("behind-child-end", behind, "thread 1 place 35, thread 1 height 2", False),
+        )),
+        ("the stack height is the one which the instructions before that place leave", WHOLE, (
+            ("height-low", both, "thread 0 height 1", False),
+            ("height-high", both, "thread 0 height 3", False),
+            ("height-high-filled", both, "thread 0 height 3, thread 0 cell 2 1", False),
+            ("height-ended", PICKS, "thread 0 height 2", False),
+        )),
+        ("a transaction is open exactly from after BEGIN until COMMIT is done; its notes", WHOLE, (
+            ("fits-begun", begun, "", True),
+            ("notes-missing", begun, "thread 1 begin 0", False),
+            ("begin-before", both, "thread 1 begin 8", False),
+            ("base-before", both, "thread 1 base 1", False),
+            ("begin-behind", behind, "thread 1 begin 8", False),
+            ("base-behind", behind, "thread 1 base 1", False),
+            ("begin-wrong", inside, "thread 1 begin 9", False),
+            ("begin-other", inside, "thread 1 begin 23", False),
+        )),
+        ("the stack height in the notes", HIGH, (
+            ("fits-high", "0*4", "", True),
+            ("base-low", "0*4", "thread 0 base 1", False),
+            ("base-high", "0*4", "thread 0 base 3", False),
+        )),
+        ("logs and notes being empty otherwise", WHOLE, (
+            ("read-before", both, "thread 1 reads 1", False),
+            ("write-before", both, "thread 1 writes 1", False),
+            ("read-behind", behind, "thread 1 reads " + BIT_63, False),
+            ("write-behind", behind, "thread 1 writes " + BIT_63, False),
+            ("marked-outside", both, "thread 1 reads %s, thread 1 readlog 63 9" % BIT_63, False),
+        )),
+        ("Threads are numbered without gaps", WHOLE, (("gap", both, blank(2) + ", " + spawned(3, 23, 35), False),)),
+        ("Log values not marked", WHOLE, (
+            ("unmarked-read", inside, "thread 1 readlog 1 1", False),
+            ("unmarked-read-63", inside, "thread 1 readlog 63 -1", False),
+            ("unmarked-write", inside, "thread 1 writelog 0 1", False),
+            ("unmarked-write-63", inside, "thread 1 writelog 63 -1", False),
+            ("unmarked-read-outside", both, "thread 1 readlog 3 1", False),
+            ("unmarked-write-outside", both, "thread 1 writelog 3 1", False),
+        )),
+        ("stack cells above the height", WHOLE, (
+            ("cell-above", both, "thread 0 cell 2 1", False),
+            ("cell-63", both, "thread 0 cell 63 -1", False),
+        )),
+        ("records of threads that do not exist hold 0", WHOLE, (
+            ("unused-end", both, "thread 3 end 1", False),
+            ("unused-place", both, "thread 3 place 1", False),
+            ("unused-height", both, "thread 3 height 1", False),
+            ("unused-cell", both, "thread 3 cell 0 1", False),
+            ("unused-begin", both, "thread 3 begin 1", False),
+            ("unused-base", both, "thread 3 base 1", False),
+            ("unused-read", both, "thread 3 reads 1", False),
+            ("unused-read-value", both, "thread 3 readlog 63 1", False),
+            ("unused-write", both, "thread 3 writes " + BIT_63, False),
+            ("unused-write-value", both, "thread 3 writelog 0 -1", False),
+            ("unused-last", both, "thread 15 cell 63 1", False),
+        )),
+        ("values on the stack, in registers and in logs are free; a log may mark a register which its transaction never names", WHOLE, (
+            ("free-cells", both, "thread 0 cell 0 7, thread 0 cell 1 -3", True),
+            ("free-registers", both, ", ".join("register %d -5" % v for v in range(64)), True),
+            ("free-read", inside, "thread 1 readlog 0 9", True),
+            ("free-write", inside, "thread 1 writes 32, thread 1 writelog 5 9", True),
+            ("unnamed", begun, "thread 1 reads %s, thread 1 readlog 63 9" % BIT_63, True),
+        )),
+    )
+    for title, tree, states in rows:
+        lines.append("# " + title)
+        for label, setup, changes, fit in states:
+            case("run " + label, tree, setup, changes, picks)
+            assert (answers[-1].rpartition(": ")[2] == "refused 12 at 0 kept") != fit, label
+    lines.append("# a run of other than 16 records, or a table of other than 64 registers")
+    for label, changes in (("records-15", "records 15"), ("records-17", "records 17"), ("registers-63", "registers 63"), ("registers-65", "registers 65")):
+        case("run " + label, SEVEN, "", changes, "0", says="refused 12 at 0 kept")
+    case("run fits-sized", SEVEN, "", "records 16, registers 64", "0", says=ran(1, 0, 0, 0, "thread 0 done 7"))
+    lines.append("# further states: the last numbers of a record and of 64 bits, and what lies behind the memory lent")
+    for label, setup, changes in (
+        ("the greatest place", both, "thread 1 place " + EVERY),
+        ("the greatest height", both, "thread 0 height " + EVERY),
+        ("the greatest end", "", "thread 0 end " + EVERY),
+        ("the greatest start", "", "thread 0 start " + EVERY),
+        ("the greatest notes", inside, "thread 1 begin %s, thread 1 base %s" % (EVERY, EVERY)),
+        ("a height of 64", both, "thread 0 height 64"),
+        ("all registers marked outside", both, "thread 2 reads " + EVERY),
+        ("a place in the mark", "", "thread 0 place 4"),
+        ("thread 0 in a child's code", "", spawned(0, 8, 20)),
+        ("thread 0 in a child's code, as thread 1 is", one, spawned(0, 8, 20) + ", thread 0 height 0"),
+        ("no thread", "", blank(0)),
+        ("no thread 0", both, blank(0) + ", thread 0 height 0"),
+        ("threads 0 and 1 exchanged", one, spawned(0, 8, 20) + ", thread 1 start 5, thread 1 end 36, thread 1 place 20, thread 0 height 0, thread 1 height 1"),
+    ):
+        case("run " + label, WHOLE, setup, changes, picks, says="refused 12 at 0 kept")
+    case("run record 16 and register 64 changed", WHOLE, both, "thread 16 start 9, thread 16 cell 0 3, register 64 12", picks)
+
+
+def the_cuts():
+    section("cut: one call, and two calls cut at each place")
+    case("cut the whole case", WHOLE, picks=PICKS, says="same")
+    case("cut the whole case with idle picks", WHOLE, picks="9 0*3 1*2 0 2*6 255 1*12 2", says="same")
+    case("cut four threads on one register", BUSY, picks=BUSY_PICKS, says="same")
+    end = ("thread 0 done 4", "thread 1 done 1", "thread 2 done 2", "thread 3 done 3", "register 0 4")
+    case("run four threads on one register", BUSY, picks=BUSY_PICKS, says=ran(66, 1, 4, 6, *end))
+    case("cut from the middle", BUSY, "0*3 0 1 2 3 0 1 2 3", picks="0*3 1*4 2*9 3*4 0 1 0*8 3*2 1*9", says="same")
+    case("cut 15 FORKs", NEST, picks=NEST_PICKS + " 15 16", says="same")
+    case("cut an empty list", SEVEN, says="same")
+
+
+def the_lines():
+    section("lines that are no case")
+    text = job(SEVEN).hex()
+    for label, body in (
+        ("jump another command", " %s; ; ; 0" % text),
+        ("run half a byte", " 57 5; ; ; 0"),
+        ("run a job that is refused", " 575343; ; ; 0"),
+        ("run pick 256", " %s; ; ; 256" % text),
+        ("run no number of times", " %s; ; ; 0*" % text),
+        ("run a pick in setup", " %s; x; ; 0" % text),
+        ("run another change", " %s; ; threads 3; 0" % text),
+        ("run another field", " %s; ; thread 0 begins 3; 0" % text),
+        ("run thread 17", " %s; ; thread 17 start 3; 0" % text),
+        ("run cell 64", " %s; ; thread 0 cell 64 3; 0" % text),
+        ("run register 65", " %s; ; register 65 3; 0" % text),
+        ("run 18 records", " %s; ; records 18; 0" % text),
+        ("run 66 registers", " %s; ; registers 66; 0" % text),
+        ("run a byte behind the code", " %s; ; code 10 3; 0" % text),
+        ("run no value", " %s; ; register 0; 0" % text),
+        ("step two picks", " %s; ; ; 0*2" % text),
+        ("step no pick", " %s; ; ; " % text),
+    ):
+        line(label, body, "malformed")
+    lines.append("a line with no colon")
+    answers.append("a line with no colon: malformed")
+
+
+# ---- random cases
+
+
+def some_tran(rng, size, registers):
+    if size == 1:
+        return read(rng.choice(registers)) if rng.random() < 0.6 else valt(rng.choice((1, 2, -1, 1000000000, -2147483648)))
+    if size == 2 or rng.random() < 0.5:
+        return write(rng.choice(registers), some_tran(rng, size - 1, registers))
+    left = rng.randint(1, size - 2)
+    return addt(some_tran(rng, left, registers), some_tran(rng, size - 1 - left, registers))
+
+
+def some_proc(rng, size, registers):
+    if size == 1:
+        return valp(rng.choice((0, 1, -3, 2147483647)))
+    kind = rng.random()
+    if size == 2 or kind < 0.35:
+        if rng.random() < 0.7:
+            return atomic(some_tran(rng, size - 1, registers))
+        return fork(some_proc(rng, size - 1, registers))
+    if kind < 0.55:
+        return fork(some_proc(rng, size - 1, registers))
+    left = rng.randint(1, size - 2)
+    return addp(some_proc(rng, left, registers), some_proc(rng, size - 1 - left, registers))
+
+
+def forks(tree):
+    return (tree[0] == 4) + sum(forks(part) for part in tree[2])
+
+
+def some_tree(rng):
+    while True:
+        tree = some_proc(rng, rng.randint(3, 25), rng.choice(((0,), (0, 1), (0, 1, 63))))
+        if forks(tree) <= 15:
+            return tree
+
+
+def some_picks(rng, count, most):
+    """Picks of the threads that there can be, now and then an idle one; runs of one thread happen."""
+    out = []
+    while len(out) < most:
+        i = rng.randint(0, count) if rng.random() < 0.92 else rng.choice((count + 1, 15, 16, 255))
+        out.append("%d*%d" % (i, n) if (n := rng.choice((1, 1, 1, 2, 3, 7))) > 1 else str(i))
+    return " ".join(out)
+
+
+def some_change(rng, tree, code, setup):
+    """A change of one number, or of two, of a state that fits; often to a number that is near."""
+    memory = Memory()
+    call_fresh(code, memory)
+    call_run(code, memory, listed(setup))
+    count = sum(record.start != 0 for record in memory.threads[:16])
+    i = rng.randint(0, min(count, 15))
+    t = memory.threads[i]
+    kind = rng.random()
+    if kind < 0.12:
+        return "code %d %d" % (rng.randrange(len(code)), rng.choice((0, 1, 2, 3, 5, 6, 7, 64)))
+    if kind < 0.3:
+        return "register %d %d" % (rng.choice((0, 1, 63)), rng.randint(-3, 3))
+    if kind < 0.45:
+        v = rng.choice((0, 1, 63))
+        log, logged = rng.choice((("reads", "readlog"), ("writes", "writelog")))
+        return "thread %d %s %d, thread %d %s %d %d" % (i, log, getattr(t, log) | 1 << v, i, logged, v, rng.randint(-2, 2))
+    if kind < 0.6:
+        return "thread %d cell %d %d" % (i, max(0, t.height + rng.randint(-2, 1)), rng.randint(-2, 2))
+    if kind < 0.7:
+        return "thread %d %s %d %d" % (i, rng.choice(("readlog", "writelog")), rng.choice((0, 1, 63)), rng.randint(-1, 1))
+    if kind < 0.8:
+        return "thread %d place %d, thread %d height %d" % (i, rng.randint(5, len(code)), i, max(0, t.height + rng.randint(-1, 1)))
+    name = rng.choice(SCALARS)
+    return "thread %d %s %d" % (i, name, max(0, getattr(t, name) + rng.choice((-1, 1, 2, 3))))
+
+
+def the_random():
+    section("random jobs and picks")
+    rng = random.Random(20260101)
+    for k in range(190):
+        tree = some_tree(rng)
+        case("run random %d" % k, tree, "", "", some_picks(rng, forks(tree), 30))
+    for k in range(70):
+        tree = some_tree(rng)
+        case("step random %d" % k, tree, some_picks(rng, forks(tree), 14), "", str(rng.randint(0, forks(tree))))
+    for k in range(25):
+        tree = some_tree(rng)
+        case("cut random %d" % k, tree, "", "", some_picks(rng, forks(tree), 16), says="same")
+    section("random jobs and picks, a number changed in between")
+    for k in range(140):
+        tree = some_tree(rng)
+        setup = some_picks(rng, forks(tree), 10)
+        case("run changed %d" % k, tree, setup, some_change(rng, tree, bytearray(whole(tree)), setup), some_picks(rng, forks(tree), 12))
+
+
+def main():
+    lines.append("# Calls of fresh, step and run on states, written by cases.py.")
+    for part in (the_whole_case, fresh_states, the_order, the_events, the_sizes, the_table, the_cuts, the_lines, the_random):
+        part()
+    for name, text in (("stdin", lines), ("stdout", answers)):
+        text = "\n".join(text) + "\n"
+        assert len(text) <= 131072, len(text)  # the program's room for stdin
+        with open(os.path.join(HERE, name), "w", newline="\n") as file:
+            file.write(text)
+    print(len(answers), "cases")
+
+
+if __name__ == "__main__":
+    main()
