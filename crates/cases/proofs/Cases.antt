@@ -176,6 +176,7 @@ cases =
       root-end-early = refl;
       root-end-late = refl;
       root-start = refl;
+      root-in-child = refl;
       fits-forked = refl;
       child-end-early = refl;
       child-end-late = refl;

@@ -442,6 +442,7 @@ pub record Cases : Type 0 where
   pub root-end-early : fits wholeCode (changed (fresh wholeCode) 0 (withCode 5 35)) ≡ false
   pub root-end-late : fits wholeCode (changed (fresh wholeCode) 0 (withCode 5 37)) ≡ false
   pub root-start : fits wholeCode (putAt (fresh wholeCode) 0 (spawned 20 36)) ≡ false
+  pub root-in-child : fits wholeCode (putAt (fresh wholeCode) 0 (spawned 8 20)) ≡ false
   -- "and each child its FORK's child code": an end before its COMMIT, the end of the other child, a start behind its BEGIN,
   -- where it stands
   pub fits-forked : fits wholeCode bothForked ≡ true
