@@ -1,3 +1,5 @@
 -- Why the page has what the definition says.
+pub mod Jobs
 pub mod Lines
 pub mod Pages
+pub mod Runs

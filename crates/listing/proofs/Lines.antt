@@ -11,8 +11,9 @@ use lib.Signed.{ltZ}
 use lib.ListN.{length, take, drop, getD, drop-of-length-le}
 use lib.Seq.{drop-cons}
 use Rattle.listing.specs.InnerPage.{Put, signOf}
-use Rattle.listing.specs.Listed.{ascii, decimal, integer, countsLine, threadLine, threadLines, registerLine, registerLines, refusalLine, isZero}
+use Rattle.listing.specs.Listed.{ascii, decimal, integer, countsLine, threadLine, threadLines, registerLine, registerLines, refusalLine, isZero, listing}
 use Rattle.listing.proofs.Pages.{put-put, put-same}
+use Rattle.machine.specs.Steps.{stateFrom}
 use Rattle.stm.specs.Events.{Counts}
 use Rattle.thread.specs.Threads.{exists}
 use Rattle.thread.specs.declared.Thread.{Thread}
@@ -91,3 +92,8 @@ threads-end i ts h = ap (threadLines i) (drop-of-length-le ts {i = i} h)
 pub registers-end : (v : ℕ) (ns : List ℤ) → length ns ≤ v → registerLines v (drop v ns) ≡ []
 unfolding registerLines
 registers-end v ns h = ap (registerLines v) (drop-of-length-le ns {i = v} h)
+
+-- the whole listing
+pub listing-is : (c : Counts) (rs : List ℤ) (ts : List Thread) → (countsLine c ++ threadLines 0 ts) ++ registerLines 0 rs ≡ listing c (stateFrom rs ts)
+unfolding listing
+listing-is c rs ts = append-assoc (countsLine c) (threadLines 0 ts) (registerLines 0 rs)
