@@ -1,13 +1,13 @@
 // The calls over a state that is lent: every record is read or written one by one, in a slice of any length.
 ghost use Prim.Native.Nat.{_<_, _≤_};
-ghost use mathlib.Core.Bool.{cond};
+ghost use mathlib.Core.Bool.{cond, true};
 ghost use mathlib.Core.Path.{_≡_};
 ghost use lib.Dec.{ltb};
 ghost use lib.ListN.{getD, length};
 ghost use Rattle.engine.specs.InnerEngine.{Admitted, Gathered, cleared, drove, laid, recordOf};
 ghost use Rattle.machine.specs.Answers.{answered, freshCall, runCall, stepCall};
 ghost use Rattle.machine.specs.Steps.{stateFrom};
-ghost use Rattle.progress.specs.InnerProgress.{driven, drivenBy, pickedBy, whichOf};
+ghost use Rattle.progress.specs.InnerProgress.{driven, drivenBy, pickedBy, plainPick, whichOf};
 ghost use Rattle.thread.specs.Threads.{blank, spawned};
 
 // The lesser of two numbers.
@@ -87,8 +87,8 @@ fn clear(registers: &mut [i32], limit: usize)
     }
 }
 
-// One pick: its record is taken out, stepped by value and put back; a forked child's record takes its seat.
-fn turn(
+// Any pick: its record is taken out, stepped by value and put back; a forked child's record takes its seat.
+fn full(
     code: &[u8],
     registers: &mut [i32],
     threads: &mut [thread::Thread],
@@ -107,6 +107,48 @@ fn turn(
         threads[seat] = spawned(out.start, out.end);
     }
     out.progress
+}
+
+// A pick that changes the stack of its record alone. It has a way of its own up to the store, so that the logs are not copied.
+fn brief(
+    code: &[u8],
+    registers: &mut [i32],
+    threads: &mut [thread::Thread],
+    pick: u8,
+    p: progress::Progress,
+) -> progress::Progress
+    requires { ⌜ (whichOf pick < length (now threads)) × (plainPick (now code) pick (getD (now threads) (whichOf pick) blank) ≡ true) ⌝ }
+    ensures { λ r. ⌜ drove (now (registers .exit)) (now (threads .exit)) r ≡ drivenBy (stateFrom (now (registers .entry)) (now (threads .entry))) (whichOf pick) (pickedBy (now (code .entry)) (now (registers .entry)) pick (getD (now (threads .entry)) (whichOf pick) blank) p) ⌝ }
+{
+    let who = progress::which(pick);
+    let t = threads[who];
+    let out = progress::plain(t, code, registers, pick, p);
+    threads[who] = out.thread;
+    let seat = out.seat;
+    if seat < threads.len() {
+        threads[seat] = spawned(out.start, out.end);
+    }
+    out.progress
+}
+
+// One pick: one that changes the stack of its record alone, or any other.
+fn turn(
+    code: &[u8],
+    registers: &mut [i32],
+    threads: &mut [thread::Thread],
+    pick: u8,
+    p: progress::Progress,
+) -> progress::Progress
+    requires { ⌜ whichOf pick < length (now threads) ⌝ }
+    ensures { λ r. ⌜ drove (now (registers .exit)) (now (threads .exit)) r ≡ drivenBy (stateFrom (now (registers .entry)) (now (threads .entry))) (whichOf pick) (pickedBy (now (code .entry)) (now (registers .entry)) pick (getD (now (threads .entry)) (whichOf pick) blank) p) ⌝ }
+{
+    let who = progress::which(pick);
+    let t = threads[who];
+    if progress::is_plain(t, code, pick) {
+        brief(code, registers, threads, pick, p)
+    } else {
+        full(code, registers, threads, pick, p)
+    }
 }
 
 // Pick number i.

@@ -5,7 +5,7 @@ use mathlib.Core.Bool.{Bool, cond, not}
 use mathlib.Core.List.{List, [], _∷_}
 use lib.Dec.{eqb, ltb}
 use lib.IntN.{ℤ}
-use lib.ListN.{length, set}
+use lib.ListN.{length, set, take}
 use Rattle.code.specs.Reader.{readCode}
 use Rattle.progress.specs.declared.Picked.{Picked}
 use Rattle.progress.specs.declared.Progress.{Progress}
@@ -20,7 +20,7 @@ use Rattle.script.specs.Jobs.{Job}
 use Rattle.survey.specs.InnerRecords.{surveyOf}
 use Rattle.survey.specs.InnerWalk.{surveyFits}
 use Rattle.thread.specs.declared.Thread.{Thread}
-use Rattle.thread.specs.InnerStep.{Handed, handed, unacted, stepped}
+use Rattle.thread.specs.InnerStep.{Handed, handed, unacted, performed, stepped, plainIn, plainOp}
 use Rattle.thread.specs.Threads.{spawned}
 use Rattle.word.specs.Sum.{wrapping}
 
@@ -52,6 +52,14 @@ advancedTo event register turn p =
 unfoldable pub whichOf : (pick : ℕ) → ℕ
 whichOf pick = cond (ltb pick 16) pick 0
 
+-- how much of the code it has before it
+unfoldable pub reachOf : (pick length : ℕ) → ℕ
+reachOf pick length = cond (ltb pick 16) length 0
+
+-- whether it changes the stack of its record alone
+unfoldable pub plainPick : (code : List ℕ) (pick : ℕ) → Thread → Bool
+plainPick bytes pick t = plainIn (take (reachOf pick (length bytes)) bytes) t
+
 -- what a pick leaves, with the table
 pub record Given : Type 0 where
   pub picked : Picked
@@ -76,6 +84,11 @@ pickedOf h p =
 unfoldable pub pickedBy : (code : List ℕ) (table : List ℤ) (pick : ℕ) → Thread → Progress → Given
 pickedBy bytes table pick t p =
     cond (ltb pick 16) (pickedOf (stepped wrapping bytes table t) p) (pickedOf (handed (unacted t) table) p)
+
+-- the same by what changes the stack alone; any other pick is idle
+unfoldable pub plainedBy : (code : List ℕ) (table : List ℤ) (pick : ℕ) → Thread → Progress → Given
+plainedBy bytes table pick t p =
+    pickedOf (performed wrapping table t (plainOp (take (reachOf pick (length bytes)) bytes) t)) p
 
 -- the refusal of a call with code, a state that fits or not, and so many picks
 unfoldable pub refusalOf : Outcome Job → (fitting : Bool) (picks : ℕ) → ℕ

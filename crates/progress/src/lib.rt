@@ -3,7 +3,7 @@ ghost use mathlib.Core.Path.{_≡_};
 ghost use lib.Dec.{eqb};
 ghost use lib.ListN.{length};
 ghost use Rattle.code.specs.Reader.{readCode};
-ghost use Rattle.progress.specs.InnerProgress.{admittedTo, advancedTo, freshRefusalOf, freshReplyOf, given, moreTo, pickedBy, refusalOf, runReplyOf, seatOf, stepReplyOf, unlessOf, whichOf};
+ghost use Rattle.progress.specs.InnerProgress.{admittedTo, advancedTo, freshRefusalOf, freshReplyOf, given, moreTo, pickedBy, plainPick, plainedBy, reachOf, refusalOf, runReplyOf, seatOf, stepReplyOf, unlessOf, whichOf};
 ghost use Rattle.survey.specs.InnerWalk.{surveyFits};
 
 // The number of threads, how many picks are to be done, document 01's number of the refusal, 0 if there is none, the counts so far, and what
@@ -110,7 +110,17 @@ pub fn which(pick: u8) -> usize
     0
 }
 
-// One pick of the record that was taken out.
+// How much of the code a pick has before it: of 16 and above nothing, so that its step is idle.
+fn reach(pick: u8, length: usize) -> usize
+    ensures { λ r. ⌜ r ≡ reachOf pick length ⌝ }
+{
+    if pick < 16 {
+        return length;
+    }
+    0
+}
+
+// One pick of the record that was taken out. Every pick goes one way, so that the record is copied in and out once.
 pub fn perform(
     t: thread::Thread,
     code: &[u8],
@@ -120,17 +130,36 @@ pub fn perform(
 ) -> Picked
     ensures { λ r. ⌜ given r (now (registers .exit)) ≡ pickedBy (now (code .entry)) (now (registers .entry)) pick t p ⌝ }
 {
-    if pick >= 16 {
-        return Picked {
-            thread: t,
-            seat: 16,
-            start: 0,
-            end: 0,
-            progress: p.after(0, 0, 0),
-        };
-    }
+    let reach = reach(pick, code.len());
     let threads = p.threads;
-    let a = t.step(code, registers);
+    let a = t.step(&code[..reach], registers);
+    let event = a.event;
+    let after = a.thread;
+    Picked {
+        thread: after,
+        seat: seat(event, threads),
+        start: a.start,
+        end: a.end,
+        progress: p.after(event, a.register, a.turn),
+    }
+}
+
+// Whether a pick changes the stack of its record alone.
+pub fn is_plain(t: thread::Thread, code: &[u8], pick: u8) -> bool
+    ensures { λ r. ⌜ r ≡ plainPick (now (code .entry)) pick t ⌝ }
+{
+    let reach = reach(pick, code.len());
+    t.is_plain(&code[..reach])
+}
+
+// A pick that changes the stack of its record alone, without the copies of the logs that `perform` makes; any other pick is idle. The table
+// stays.
+pub fn plain(t: thread::Thread, code: &[u8], registers: &mut [i32], pick: u8, p: Progress) -> Picked
+    ensures { λ r. ⌜ given r (now (registers .exit)) ≡ plainedBy (now (code .entry)) (now (registers .entry)) pick t p ⌝ }
+{
+    let reach = reach(pick, code.len());
+    let threads = p.threads;
+    let a = t.plain(&code[..reach]);
     let event = a.event;
     let after = a.thread;
     Picked {

@@ -49,6 +49,19 @@ module _ (reads : ℕ) (readlog table : List ℤ) where
   unfolding firstStaleIn
   found-end v = refl
 
+-- registers that are not marked are passed over
+pub found-past : (reads : ℕ) (readlog table : List ℤ) (v w : ℕ) → v ≤ w → w ≤ 64 → ((u : ℕ) → v ≤ u → u < w → member reads u ≡ false) → firstStaleIn (64 - v) v reads readlog table ≡ firstStaleIn (64 - w) w reads readlog table
+found-past reads readlog table v w a b f =
+    let e : v + (w - v) ≡ w = omega arith in
+    go (w - v) v (omega arith) (λ u c d. f u c (omega arith)) ∙ ap (λ (i : ℕ). firstStaleIn (64 - i) i reads readlog table) e
+  where
+    go : (k v : ℕ) → v + k ≤ 64 → ((u : ℕ) → v ≤ u → u < v + k → member reads u ≡ false) → firstStaleIn (64 - v) v reads readlog table ≡ firstStaleIn (64 - (v + k)) (v + k) reads readlog table
+    go zero v l g = ap (λ (i : ℕ). firstStaleIn (64 - i) i reads readlog table) (let e : v ≡ v + 0 = omega arith in e)
+    go (suc k) v l g =
+        let e : v + 1 + k ≡ v + suc k = omega arith in
+        found-later reads readlog table v (omega arith) (sym (stale-none reads readlog table v (g v (omega arith) (omega arith))))
+        ∙ (go k (v + 1) (omega arith) (λ u c d. g u (omega arith) (omega arith)) ∙ ap (λ (i : ℕ). firstStaleIn (64 - i) i reads readlog table) e)
+
 pub first-in : (left v : ℕ) (t : Thread) (table : List ℤ) → firstStaleIn left v (t .reads) (t .readlog) table ≡ firstStale left v t table
 unfolding firstStale firstStaleIn stale staleIn
 first-in zero v t table = refl
@@ -75,6 +88,18 @@ module _ (writes : ℕ) (writelog : List ℤ) where
   pub stored-end : (v : ℕ) (table : List ℤ) → storedIn 0 v writes writelog table ≡ table
   unfolding storedIn
   stored-end v table = refl
+
+pub stored-past : (writes : ℕ) (writelog table : List ℤ) (v w : ℕ) → v ≤ w → w ≤ 64 → ((u : ℕ) → v ≤ u → u < w → member writes u ≡ false) → storedIn (64 - v) v writes writelog table ≡ storedIn (64 - w) w writes writelog table
+stored-past writes writelog table v w a b f =
+    let e : v + (w - v) ≡ w = omega arith in
+    go (w - v) v (omega arith) (λ u c d. f u c (omega arith)) ∙ ap (λ (i : ℕ). storedIn (64 - i) i writes writelog table) e
+  where
+    go : (k v : ℕ) → v + k ≤ 64 → ((u : ℕ) → v ≤ u → u < v + k → member writes u ≡ false) → storedIn (64 - v) v writes writelog table ≡ storedIn (64 - (v + k)) (v + k) writes writelog table
+    go zero v l g = ap (λ (i : ℕ). storedIn (64 - i) i writes writelog table) (let e : v ≡ v + 0 = omega arith in e)
+    go (suc k) v l g =
+        let e : v + 1 + k ≡ v + suc k = omega arith in
+        stored-unmarked writes writelog v table (omega arith) (g v (omega arith) (omega arith))
+        ∙ (go k (v + 1) (omega arith) (λ u c d. g u (omega arith) (omega arith)) ∙ ap (λ (i : ℕ). storedIn (64 - i) i writes writelog table) e)
 
 pub stored-in : (left v : ℕ) (t : Thread) (table : List ℤ) → storedIn left v (t .writes) (t .writelog) table ≡ overlaid left v t table
 unfolding storedIn overlaid

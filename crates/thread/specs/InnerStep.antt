@@ -1,13 +1,15 @@
 -- Mirrors the methods of `Thread` for their proofs. Nobody has to believe it: in a state that fits, a step is `act` with every number that it
 -- hands back (`step-acts` and `idle-step`, machine/proofs/Actings). What it does of a record that no such state has is left free by the papers.
-use Prim.Native.Nat.{ℕ, zero, suc, _+_, _-_}
-use mathlib.Core.Bool.{Bool, true, false, cond, _&&_, _||_}
+use Prim.Native.Nat.{ℕ, zero, suc, _+_, _-_, _^_, _≤_, _<_}
+use mathlib.Core.Bool.{Bool, true, false, cond, not, _&&_, _||_}
 use mathlib.Core.List.{List, _++_}
+use mathlib.Core.Path.{_≡_}
 use lib.Dec.{eqb, leb, ltb}
 use lib.IntN.{ℤ, pos}
 use lib.Signed.{ltZ}
 use lib.ListN.{length, drop, getD, set, take, replicate}
 use Rattle.thread.specs.declared.Action.{Action}
+use Rattle.thread.specs.declared.Plan.{Plan}
 use Rattle.thread.specs.declared.Thread.{Thread}
 use Rattle.thread.specs.Threads.{push, add, begin, noted, read, write, closed, firstStale, overlaid}
 use Rattle.code.specs.Ops.{opAt}
@@ -16,9 +18,16 @@ use Rattle.ops.specs.declared.Op.{Op}
 use Rattle.ops.specs.declared.Op.the-variants as op
 use Rattle.stm.specs.Events.{fromTable}
 use Rattle.word.specs.Registers.{member}
-use Rattle.word.specs.Sum.{Rule}
+use Rattle.word.specs.Sum.{Rule, wrapping}
 
 -- ---- by the sets and values of a record
+-- the first register that a set marks, from this one on; 64 if there is none
+pub record Marked (set from r : ℕ) : Type 0 where
+  pub low : r ≤ 64
+  pub far : from ≤ 64 → from ≤ r
+  pub past : (v : ℕ) → from ≤ v → v < r → member set v ≡ false
+  pub here : r < 64 → member set r ≡ true
+
 unfoldable pub staleIn : (reads : ℕ) (readlog table : List ℤ) → ℕ → Bool
 staleIn reads readlog table v =
     member reads v
@@ -107,6 +116,25 @@ performed sum table t (op.Fork size) =
     table
 performed sum table t op.Foreign = handed (unacted t) table
 
+-- the instruction if the record has what it takes, else Foreign
+unfoldable pub ableOp : (code : List ℕ) (registers : ℕ) → Thread → Op → Op
+ableOp bytes registers t o =
+    elim (takesOp o (t .height) (t .base) registers (length bytes - t .place)) [ true ↦ o | false ↦ op.Foreign ]
+
+-- the instruction that is due: Foreign if there is none, or the record has not what it takes
+unfoldable pub dueOp : (code : List ℕ) (registers : ℕ) → Thread → Op
+dueOp bytes registers t =
+    elim (eqb (t .start) 0 || eqb (t .place) (t .end)) [
+      | true ↦ op.Foreign
+      | false ↦ ableOp bytes registers t (shownOp (opAt (drop (t .place) bytes)))
+    ]
+
+-- an instruction that is due in some code
+pub record Due (o : Op) (registers : ℕ) (t : Thread) : Type 0 where
+  pub code : List ℕ
+  pub short : length code < 2 ^ 64
+  pub is : o ≡ dueOp code registers t
+
 unfoldable pub attempted : Rule → (code : List ℕ) (table : List ℤ) → Thread → Op → Handed
 attempted sum bytes table t o =
     elim (takesOp o (t .height) (t .base) (length table) (length bytes - t .place)) [
@@ -120,3 +148,72 @@ stepped sum bytes table t =
       | true ↦ handed (unacted t) table
       | false ↦ attempted sum bytes table t (shownOp (opAt (drop (t .place) bytes)))
     ]
+
+-- ---- PUSH and ADD, which change the stack alone
+-- its event, 0 if it is none of them
+unfoldable pub stackEvent : Op → ℕ
+stackEvent (op.Push n) = 1
+stackEvent op.Add = 2
+stackEvent (op.Read v) = 0
+stackEvent (op.Write v) = 0
+stackEvent op.Begin = 0
+stackEvent op.Commit = 0
+stackEvent (op.Fork size) = 0
+stackEvent op.Foreign = 0
+
+-- whether the instruction is one of them, and a record with this height has what it takes
+unfoldable pub stackedOp : Op → (height left : ℕ) → Bool
+stackedOp o h left = cond (eqb (stackEvent o) 0) false (takesOp o h 0 0 left)
+
+unfoldable pub numberOp : Op → ℤ
+numberOp (op.Push n) = n
+numberOp op.Add = pos 0
+numberOp (op.Read v) = pos 0
+numberOp (op.Write v) = pos 0
+numberOp op.Begin = pos 0
+numberOp op.Commit = pos 0
+numberOp (op.Fork size) = pos 0
+numberOp op.Foreign = pos 0
+
+-- the instruction of a step if it is one of them, else Foreign
+unfoldable pub stackOnly : (code : List ℕ) → Thread → Op → Op
+stackOnly bytes t o = elim (stackedOp o (t .height) (length bytes - t .place)) [ true ↦ o | false ↦ op.Foreign ]
+
+unfoldable pub plainOp : (code : List ℕ) → Thread → Op
+plainOp bytes t =
+    elim (eqb (t .start) 0 || eqb (t .place) (t .end)) [
+      | true ↦ op.Foreign
+      | false ↦ stackOnly bytes t (shownOp (opAt (drop (t .place) bytes)))
+    ]
+
+-- whether a step is one of them
+unfoldable pub plainIn : (code : List ℕ) → Thread → Bool
+plainIn bytes t = not (eqb (stackEvent (plainOp bytes t)) 0)
+
+-- by the event: what a record must have; which cells change, the height and the place after it; the low cell's value; the record; the turn
+pub record Stackable (event height place : ℕ) : Type 0 where
+  pub push : event ≡ 1 → (height < 64) × (place + 5 < 2 ^ 64)
+  pub add : event ≡ 2 → (2 ≤ height) × (height ≤ 64) × (place + 1 < 2 ^ 64)
+
+unfoldable pub planOf : (event height place : ℕ) → Plan
+planOf event height place =
+    elim (eqb event 1) [
+      | true ↦ record { low = height; high = height; height = height + 1; place = place + 5 }
+      | false ↦ elim (eqb event 2) [
+        | true ↦ record { low = height - 2; high = height - 1; height = height - 1; place = place + 1 }
+        | false ↦ record { low = 0; high = 0; height = height; place = place }
+      ]
+    ]
+
+unfoldable pub valueOf : (event : ℕ) (n a b : ℤ) → ℤ
+valueOf event n a b = cond (eqb event 1) n (cond (eqb event 2) (wrapping a b) a)
+
+unfoldable pub stackedBy : (event : ℕ) (n : ℤ) → Thread → Thread
+stackedBy event n t =
+    elim (eqb event 1) [
+      | true ↦ push n (t .place + 5) t
+      | false ↦ elim (eqb event 2) [ true ↦ add wrapping t | false ↦ t ]
+    ]
+
+unfoldable pub stackTurn : (event begin : ℕ) → ℕ
+stackTurn event begin = cond (eqb event 2) (outsideTurn begin) 0

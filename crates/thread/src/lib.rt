@@ -1,8 +1,10 @@
 // The thread record that is lent, and one step of a thread, by value.
 ghost use Prim.Native.Nat.{_+_, _-_, _<_, _≤_, _^_};
 ghost use lib.ListN.{length};
+ghost use mathlib.Core.List.{List};
 ghost use mathlib.Core.Path.{_≡_};
-ghost use Rattle.thread.specs.InnerStep.{acting, cleared, committed, enoughFor, firstStaleIn, handed, logged, outsideTurn, sourceNumber, staleIn, stepped, storedIn, takesOp, unacted};
+ghost use lib.IntN.{ℤ};
+ghost use Rattle.thread.specs.InnerStep.{Due, Marked, Stackable, acting, cleared, committed, dueOp, enoughFor, firstStaleIn, handed, logged, numberOp, outsideTurn, performed, plainIn, plainOp, planOf, sourceNumber, stackEvent, stackTurn, stackedBy, stackedOp, staleIn, stepped, storedIn, takesOp, unacted, valueOf};
 ghost use Rattle.thread.specs.Threads as threads;
 ghost use Rattle.word.specs.Sum.{wrapping};
 
@@ -58,20 +60,34 @@ fn is_stale(reads: u64, readlog: &[i32; 64], registers: &[i32], v: usize) -> boo
     false
 }
 
-// The first stale register, or 64.
+// The first register that the set marks, from this one on; 64 if there is none.
+fn marked(set: u64, from: usize) -> usize
+    ensures { λ r. ⌜ Marked set from r ⌝ }
+{
+    if from > 63 {
+        return 64;
+    }
+    let rest = set >> from;
+    if rest == 0 {
+        return 64;
+    }
+    from + u64::trailing_zeros(rest) as usize
+}
+
+// The first stale register, or 64. Registers that the set does not mark are passed over.
 fn first_stale(reads: u64, readlog: &[i32; 64], registers: &[i32]) -> usize
     requires { ⌜ length (now registers) ≡ 64 ⌝ }
     ensures { λ r. ⌜ r ≡ firstStaleIn 64 0 reads (now (readlog .entry)) (now (registers .entry)) ⌝ }
 {
-    let mut v: usize = 0;
+    let mut v: usize = marked(reads, 0);
     let found = loop {
-        if v == 64 {
+        if v > 63 {
             break 64;
         }
         if is_stale(reads, readlog, registers, v) {
             break v;
         }
-        v += 1;
+        v = marked(reads, v + 1);
     };
     found
 }
@@ -81,12 +97,10 @@ fn store(writes: u64, writelog: &[i32; 64], registers: &mut [i32])
     requires { ⌜ length (now registers) ≡ 64 ⌝ }
     ensures { λ _. ⌜ now (registers .exit) ≡ storedIn 64 0 writes (now (writelog .entry)) (now (registers .entry)) ⌝ }
 {
-    let mut v: usize = 0;
+    let mut v: usize = marked(writes, 0);
     while v < 64 {
-        if word::has(writes, v as u8) {
-            registers[v] = writelog[v];
-        }
-        v += 1;
+        registers[v] = writelog[v];
+        v = marked(writes, v + 1);
     }
 }
 
@@ -192,6 +206,107 @@ fn takes(op: ops::Op, height: usize, base: usize, registers: usize, left: usize)
     }
 }
 
+// The event of a PUSH or an ADD, else 0.
+fn stack_event(op: ops::Op) -> usize
+    ensures { λ r. ⌜ r ≡ stackEvent op ⌝ }
+{
+    match op {
+        ops::Op::Push(_n) => 1,
+        ops::Op::Add => 2,
+        ops::Op::Read(_v) => 0,
+        ops::Op::Write(_v) => 0,
+        ops::Op::Begin => 0,
+        ops::Op::Commit => 0,
+        ops::Op::Fork(_size) => 0,
+        ops::Op::Foreign => 0,
+    }
+}
+
+// Whether the instruction is PUSH or ADD, and a record with this height has what it takes.
+fn is_stacked(op: ops::Op, height: usize, left: usize) -> bool
+    ensures { λ r. ⌜ r ≡ stackedOp op height left ⌝ }
+{
+    if stack_event(op) == 0 {
+        return false;
+    }
+    takes(op, height, 0, 0, left)
+}
+
+// A PUSH's number, else 0.
+fn number(op: ops::Op) -> i32
+    ensures { λ r. ⌜ r ≡ numberOp op ⌝ }
+{
+    match op {
+        ops::Op::Push(n) => n,
+        ops::Op::Add => 0,
+        ops::Op::Read(_v) => 0,
+        ops::Op::Write(_v) => 0,
+        ops::Op::Begin => 0,
+        ops::Op::Commit => 0,
+        ops::Op::Fork(_size) => 0,
+        ops::Op::Foreign => 0,
+    }
+}
+
+// The turns that a PUSH, an ADD or none of them takes.
+fn stack_turn(event: usize, begin: usize) -> usize
+    ensures { λ r. ⌜ r ≡ stackTurn event begin ⌝ }
+{
+    if event == 2 {
+        return outside(begin);
+    }
+    0
+}
+
+// Which cells a PUSH, an ADD or none of them changes, and the height and the place after it.
+struct Plan {
+    low: usize,
+    high: usize,
+    height: usize,
+    place: usize,
+}
+
+fn planned(event: usize, height: usize, place: usize) -> Plan
+    requires { ⌜ Stackable event height place ⌝ }
+    ensures { λ r. ⌜ r ≡ planOf event height place ⌝ }
+{
+    if event == 1 {
+        return Plan {
+            low: height,
+            high: height,
+            height: height + 1,
+            place: place + 5,
+        };
+    }
+    if event == 2 {
+        return Plan {
+            low: height - 2,
+            high: height - 1,
+            height: height - 1,
+            place: place + 1,
+        };
+    }
+    Plan {
+        low: 0,
+        high: 0,
+        height,
+        place,
+    }
+}
+
+// What the low one of these cells becomes.
+fn value(event: usize, n: i32, a: i32, b: i32) -> i32
+    ensures { λ r. ⌜ r ≡ valueOf event n a b ⌝ }
+{
+    if event == 1 {
+        return n;
+    }
+    if event == 2 {
+        return word::add(a, b);
+    }
+    a
+}
+
 // The record after an instruction that forks nothing and is not sent back.
 fn did(thread: Thread, event: usize, turn: usize) -> Action
     ensures { λ r. ⌜ r ≡ acting event turn thread ⌝ }
@@ -227,7 +342,9 @@ impl Thread {
         ensures { λ r. ⌜ r ≡ threads.push n next self ⌝ }
     {
         let height = self.height;
-        self.cells[height] = n;
+        let mut cells = self.cells;
+        cells[height] = n;
+        self.cells = cells;
         self.height = height + 1;
         self.place = next;
         self
@@ -240,10 +357,12 @@ impl Thread {
     {
         let height = self.height;
         let place = self.place;
-        let a = self.cells[height - 2];
-        let b = self.cells[height - 1];
-        self.cells[height - 2] = word::add(a, b);
-        self.cells[height - 1] = 0;
+        let mut cells = self.cells;
+        let a = cells[height - 2];
+        let b = cells[height - 1];
+        cells[height - 2] = word::add(a, b);
+        cells[height - 1] = 0;
+        self.cells = cells;
         self.height = height - 1;
         self.place = place + 1;
         self
@@ -274,9 +393,13 @@ impl Thread {
         let i = v as usize;
         let height = self.height;
         let place = self.place;
+        let mut readlog = self.readlog;
+        readlog[i] = n;
+        let mut cells = self.cells;
+        cells[height] = n;
         self.reads = word::insert(self.reads, v);
-        self.readlog[i] = n;
-        self.cells[height] = n;
+        self.readlog = readlog;
+        self.cells = cells;
         self.height = height + 1;
         self.place = place + 2;
         self
@@ -290,11 +413,13 @@ impl Thread {
         let i = v as usize;
         let next = self.place + 2;
         if word::has(self.writes, v) {
-            let n = self.writelog[i];
+            let log = self.writelog;
+            let n = log[i];
             return self.push(n, next);
         }
         if word::has(self.reads, v) {
-            let n = self.readlog[i];
+            let log = self.readlog;
+            let n = log[i];
             return self.push(n, next);
         }
         let n = registers[i];
@@ -309,30 +434,36 @@ impl Thread {
         let i = v as usize;
         let height = self.height;
         let place = self.place;
-        let n = self.cells[height - 1];
+        let cells = self.cells;
+        let n = cells[height - 1];
+        let mut writelog = self.writelog;
+        writelog[i] = n;
         self.writes = word::insert(self.writes, v);
-        self.writelog[i] = n;
+        self.writelog = writelog;
         self.place = place + 2;
         self
     }
 
     // At a place with a height, no transaction being open.
-    fn closed(mut self, place: usize, height: usize) -> Thread
+    fn closed(self, place: usize, height: usize) -> Thread
         requires { ⌜ height ≤ 64 ⌝ }
         ensures { λ r. ⌜ r ≡ threads.closed place height self ⌝ }
     {
         let cells = self.cells;
         let freed = clear(cells, height);
-        self.cells = freed;
-        self.place = place;
-        self.height = height;
-        self.begin = 0;
-        self.base = 0;
-        self.reads = word::empty();
-        self.readlog = [0; 64];
-        self.writes = word::empty();
-        self.writelog = [0; 64];
-        self
+        Thread {
+            start: self.start,
+            end: self.end,
+            place,
+            height,
+            cells: freed,
+            begin: 0,
+            base: 0,
+            reads: word::empty(),
+            readlog: [0; 64],
+            writes: word::empty(),
+            writelog: [0; 64],
+        }
     }
 
     // COMMIT
@@ -366,27 +497,36 @@ impl Thread {
         }
     }
 
-    // One instruction, the one at the record's place. Total: where there is none, or the record has not what it takes, it is handed back idle.
-    pub fn step(self, code: &[u8], registers: &mut [i32]) -> Action
-        ensures { λ r. ⌜ handed r (now (registers .exit)) ≡ stepped wrapping (now (code .entry)) (now (registers .entry)) self ⌝ }
+    // The instruction at the record's place; Foreign if there is none, or the record has not what it takes.
+    fn due(self, code: &[u8], registers: usize) -> ops::Op
+        ensures { λ r. ⌜ r ≡ dueOp (now (code .entry)) registers self ⌝ }
     {
         let place = self.place;
         if self.start == 0 {
-            return self.idle();
+            return ops::Op::Foreign;
         }
         if place == self.end {
-            return self.idle();
+            return ops::Op::Foreign;
         }
         let op = ops::op_at(code, place);
         if !takes(
             op,
             self.height,
             self.base,
-            registers.len(),
+            registers,
             behind(code.len(), place),
         ) {
-            return self.idle();
+            return ops::Op::Foreign;
         }
+        op
+    }
+
+    // An instruction that is due.
+    fn act(self, op: ops::Op, registers: &mut [i32]) -> Action
+        requires { ⌜ Due op (length (now registers)) self ⌝ }
+        ensures { λ r. ⌜ handed r (now (registers .exit)) ≡ performed wrapping (now (registers .entry)) self op ⌝ }
+    {
+        let place = self.place;
         match op {
             ops::Op::Push(n) => {
                 let t = self.push(n, place + 5);
@@ -424,5 +564,69 @@ impl Thread {
             }
             ops::Op::Foreign => self.idle(),
         }
+    }
+
+    // One instruction, the one at the record's place. Total: where there is none, or the record has not what it takes, it is handed back idle.
+    pub fn step(self, code: &[u8], registers: &mut [i32]) -> Action
+        ensures { λ r. ⌜ handed r (now (registers .exit)) ≡ stepped wrapping (now (code .entry)) (now (registers .entry)) self ⌝ }
+    {
+        let op = self.due(code, registers.len());
+        self.act(op, registers)
+    }
+
+    // The instruction at the record's place if it is PUSH or ADD and the record has what it takes, else Foreign.
+    fn plain_op(self, code: &[u8]) -> ops::Op
+        ensures { λ r. ⌜ r ≡ plainOp (now (code .entry)) self ⌝ }
+    {
+        let place = self.place;
+        if self.start == 0 {
+            return ops::Op::Foreign;
+        }
+        if place == self.end {
+            return ops::Op::Foreign;
+        }
+        let op = ops::op_at(code, place);
+        if !is_stacked(op, self.height, behind(code.len(), place)) {
+            return ops::Op::Foreign;
+        }
+        op
+    }
+
+    // Whether a step is a PUSH or an ADD, which changes the stack alone.
+    pub fn is_plain(self, code: &[u8]) -> bool
+        ensures { λ r. ⌜ r ≡ plainIn (now (code .entry)) self ⌝ }
+    {
+        stack_event(self.plain_op(code)) != 0
+    }
+
+    // After a PUSH, an ADD or none of them, in one way: the stack alone is changed.
+    fn stacked(mut self, event: usize, n: i32) -> Thread
+        requires { ⌜ Stackable event (self .height) (self .place) ⌝ }
+        ensures { λ r. ⌜ r ≡ stackedBy event n self ⌝ }
+    {
+        let q = planned(event, self.height, self.place);
+        let low = q.low;
+        let high = q.high;
+        let mut cells = self.cells;
+        let a = cells[low];
+        let b = cells[high];
+        cells[high] = 0;
+        cells[low] = value(event, n, a, b);
+        self.cells = cells;
+        self.height = q.height;
+        self.place = q.place;
+        self
+    }
+
+    // One instruction if it is PUSH or ADD; else the record is handed back idle.
+    pub fn plain(self, code: &[u8]) -> Action
+        ensures { λ r. ⌜ ((table : List ℤ) → handed r table ≡ performed wrapping table self (plainOp (now (code .entry)) self)) ⌝ }
+    {
+        let op = self.plain_op(code);
+        let event = stack_event(op);
+        let n = number(op);
+        let turn = stack_turn(event, self.begin);
+        let t = self.stacked(event, n);
+        did(t, event, turn)
     }
 }

@@ -1,13 +1,15 @@
-use Prim.Native.Nat.{_≤_, _<_, _-_}
+use Prim.Native.Nat.{_≤_, _<_, _-_, _+_}
 use mathlib.Core.Path.{_≡_, refl, sym, _∙_}
 use native.Mathlib.Omega.{arith}
+use borrow.Author.Needs.{needs}
 use Rattle.thread.specs.InnerStep.{firstStaleIn}
-use Rattle.thread.proofs.Loops.{found-here, found-later, found-end}
+use Rattle.thread.proofs.Loops.{found-here, found-later, found-past, found-end}
 use Rattle.thread.proofs.first_stale.Statement.{statement}
 use Rattle.thread.proofs.first_stale.Tie as tie
 use Rattle.thread.proofs.first_stale.Reads as reads
 use Rattle.thread.proofs.first_stale.Lts as lts
 use Rattle.thread.proofs.is_stale.Reads as is-stale-reads
+use Rattle.thread.proofs.marked.Reads as marked-reads
 
 abbrev Inv-loop : tie.InvT-loop
 Inv-loop reads readlog registers v₀ v = (v ≤ 64) × (firstStaleIn (64 - v) v reads readlog registers ≡ firstStaleIn 64 0 reads readlog registers)
@@ -15,32 +17,47 @@ Inv-loop reads readlog registers v₀ v = (v ≤ 64) × (firstStaleIn (64 - v) v
 abbrev μ-loop : tie.MeasureT-loop
 μ-loop reads readlog registers v₀ v = 64 - v
 
+marked-requires : tie.Need-marked-requires Inv-loop μ-loop
+marked-requires c κs = search needs
+
 -- src/lib.rt:62:9
 loop-holds : tie.Need-loop-holds Inv-loop μ-loop
-loop-holds c = (omega arith, refl)
+loop-holds c =
+    let m = c .marked .ensures in
+    (m .low, sym (found-past _ _ _ 0 _ (m .far (omega arith)) (m .low) (m .past)))
 
 -- src/lib.rt:66:12
 is-stale-requires : tie.Need-is-stale-requires Inv-loop μ-loop
-is-stale-requires c κs = (omega arith, c .before .before .pre)
+is-stale-requires c κs = (omega arith, c .before .before .before .pre)
 
 -- src/lib.rt:69:9
-add-v : tie.Need-add-v Inv-loop μ-loop
-add-v c = omega arith
+add-marked : tie.Need-add-marked Inv-loop μ-loop
+add-marked c = omega arith
+
+marked-requires-2 : tie.Need-marked-requires-2 Inv-loop μ-loop
+marked-requires-2 c κs = search needs
 
 -- src/lib.rt:62:9
 loop-less : tie.Need-loop-less Inv-loop μ-loop
-loop-less c = omega arith
+loop-less c =
+    let m = c .marked2 .ensures in
+    let f = m .far (omega arith) in
+    let g = m .low in
+    omega arith
 
 -- src/lib.rt:62:9
 loop-again : tie.Need-loop-again Inv-loop μ-loop
 loop-again c =
-    let l = c .before .before .before in
+    let m = c .marked2 .ensures in
+    let l = c .before .before .before .before in
     let h : l .loop .v < 64 = omega arith in
-    (omega arith, sym (found-later _ _ _ (l .loop .v) h (sym (c .before .is-stale .ensures) ∙ c .if2 .left)) ∙ l .loop .inv .1)
+    (m .low, sym (found-past _ _ _ (l .loop .v + 1) _ (m .far (omega arith)) (m .low) (m .past)) ∙ (sym (found-later _ _ _ (l .loop .v) h (sym (c .before .before .is-stale .ensures) ∙ c .before .if2 .left)) ∙ l .loop .inv .1))
 
 -- src/lib.rt:57:1
 returns : tie.Need-returns Inv-loop μ-loop
-returns c = sym (found-end _ _ _ 64) ∙ (rw (c .if1 .taken) at (c .before .loop .inv .1))
+returns c =
+    let z : c .before .loop .v ≡ 64 = omega arith in
+    sym (found-end _ _ _ 64) ∙ (rw z at (c .before .loop .inv .1))
 
 -- src/lib.rt:57:1
 returns-2 : tie.Need-returns-2 Inv-loop μ-loop
@@ -55,9 +72,11 @@ first-stale-spec =
     (tie.spec
     Inv-loop
     μ-loop
+    marked-requires
     loop-holds
     is-stale-requires
-    add-v
+    add-marked
+    marked-requires-2
     loop-less
     loop-again
     returns

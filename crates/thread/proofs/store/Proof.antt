@@ -1,88 +1,82 @@
-use Prim.Native.Nat.{_≤_, _<_, _-_}
+use Prim.Native.Nat.{_≤_, _<_, _-_, _+_}
+use mathlib.Core.Bool.{true}
 use mathlib.Core.Path.{_≡_, refl, sym, ap, _∙_}
-use mathlib.Core.Logic.{⊎-elim}
 use native.Mathlib.Omega.{arith}
 use borrow.Author.Needs.{needs, sfits-of}
 use lib.ListN.{length, length-set}
 use mir.Facts.{toZ-ofZ}
 use Rattle.thread.specs.InnerStep.{storedIn}
-use Rattle.thread.proofs.Loops.{stored-marked, stored-unmarked, stored-end}
+use Rattle.thread.proofs.Loops.{stored-marked, stored-past, stored-end}
+use Rattle.word.specs.Registers.{member}
 use Rattle.thread.proofs.store.Statement.{statement}
 use Rattle.thread.proofs.store.Tie as tie
 use Rattle.thread.proofs.store.Reads as reads
 use Rattle.thread.proofs.store.Lts as lts
-use Rattle.word.proofs.has.Reads as has-reads
+use Rattle.thread.proofs.marked.Reads as marked-reads
 
 abbrev Inv-loop : tie.InvT-loop
-Inv-loop writes writelog registers₀ v₀ registers v = (v ≤ 64) × (length registers ≡ 64) × (storedIn (64 - v) v writes writelog registers ≡ storedIn 64 0 writes writelog registers₀)
+Inv-loop writes writelog registers₀ v₀ registers v = (v ≤ 64) × (length registers ≡ 64) × (v < 64 → member writes v ≡ true) × (storedIn (64 - v) v writes writelog registers ≡ storedIn 64 0 writes writelog registers₀)
 
 abbrev μ-loop : tie.MeasureT-loop
 μ-loop writes writelog registers₀ v₀ registers v = 64 - v
 
+marked-requires : tie.Need-marked-requires Inv-loop μ-loop
+marked-requires c κs = search needs
+
 -- src/lib.rt:80:5
 loop-holds : tie.Need-loop-holds Inv-loop μ-loop
-loop-holds c = (omega arith, c .pre, refl)
+loop-holds c =
+    let m = c .marked .ensures in
+    (m .low, c .before .pre, m .here, sym (stored-past _ _ _ 0 _ (m .far (omega arith)) (m .low) (m .past)))
 
--- src/lib.rt:81:30
-cast-has : tie.Need-cast-has Inv-loop μ-loop
-cast-has c = omega arith
-
--- src/lib.rt:81:12
-has-requires : tie.Need-has-requires Inv-loop μ-loop
-has-requires c κs = search needs
-
--- src/lib.rt:82:28
 mul-registers : tie.Need-mul-registers Inv-loop μ-loop
 mul-registers c = omega arith
 
--- src/lib.rt:82:28
 element-copy-out-registers : tie.Need-element-copy-out-registers Inv-loop μ-loop
 element-copy-out-registers c = omega arith
 
--- src/lib.rt:82:13
-mul-t12 : tie.Need-mul-t12 Inv-loop μ-loop
-mul-t12 c = omega arith
+mul-t10 : tie.Need-mul-t10 Inv-loop μ-loop
+mul-t10 c = omega arith
 
--- src/lib.rt:82:13
 slice-set-from-registers : tie.Need-slice-set-from-registers Inv-loop μ-loop
 slice-set-from-registers c = omega arith
 
--- src/lib.rt:84:9
-add-v : tie.Need-add-v Inv-loop μ-loop
-add-v c = omega arith
+add-marked : tie.Need-add-marked Inv-loop μ-loop
+add-marked c = omega arith
+
+marked-requires-2 : tie.Need-marked-requires-2 Inv-loop μ-loop
+marked-requires-2 c κs = search needs
 
 -- src/lib.rt:80:5
 loop-less : tie.Need-loop-less Inv-loop μ-loop
-loop-less c = omega arith
+loop-less c =
+    let m = c .marked2 .ensures in
+    let f = m .far (omega arith) in
+    let g = m .low in
+    omega arith
 
 -- src/lib.rt:80:5
 loop-again : tie.Need-loop-again Inv-loop μ-loop
 loop-again c =
-    let h = c .before in
-    let l = h .before .before in
-    let k : l .loop .v < 64 = h .before .loop-test .taken in
-    ⊎-elim
-    (λ w. (
-      omega arith,
-      ap length (w .2) ∙ simp length-set (l .loop .inv .1),
-      rw (w .2, toZ-ofZ (sfits-of (w .1 .given))) (sym (stored-marked _ _ (l .loop .v) (l .loop .registers) k (sym (h .has .ensures) ∙ w .0 .taken)) ∙ l .loop .inv .2),
-    ))
-    (λ w. (
-      omega arith,
-      ap length (w .1) ∙ l .loop .inv .1,
-      rw (w .1) (sym (stored-unmarked _ _ (l .loop .v) (l .loop .registers) k (sym (h .has .ensures) ∙ w .0 .left)) ∙ l .loop .inv .2),
-    ))
-    (c .if1 .came)
+    let m = c .marked2 .ensures in
+    let h = c .before .before in
+    let l = h .before in
+    let k : l .loop .v < 64 = h .loop-test .taken in (
+      m .low,
+      simp length-set (l .loop .inv .1),
+      m .here,
+      rw (toZ-ofZ (sfits-of (c .before .registers .given))) (sym (stored-past _ _ _ (l .loop .v + 1) _ (m .far (omega arith)) (m .low) (m .past)) ∙ (sym (stored-marked _ _ (l .loop .v) (l .loop .registers) k (l .loop .inv .2 k)) ∙ l .loop .inv .3)),
+    )
 
 -- src/lib.rt:75:1
 same-length : tie.Need-same-length Inv-loop μ-loop
-same-length c = c .before .loop .inv .1 ∙ sym (c .before .before .pre)
+same-length c = c .before .loop .inv .1 ∙ sym (c .before .before .before .pre)
 
 -- src/lib.rt:75:1
 returns : tie.Need-returns Inv-loop μ-loop
 returns c =
     let z : 64 - c .before .loop .v ≡ 0 = omega arith in
-    sym (stored-end _ _ (c .before .loop .v) (c .before .loop .registers)) ∙ (rw z at (c .before .loop .inv .2))
+    sym (stored-end _ _ (c .before .loop .v) (c .before .loop .registers)) ∙ (rw z at (c .before .loop .inv .3))
 
 pub store-spec : {M : Type 1} → statement M
 store-spec =
@@ -90,14 +84,14 @@ store-spec =
     (tie.spec
     Inv-loop
     μ-loop
+    marked-requires
     loop-holds
-    cast-has
-    has-requires
     mul-registers
     element-copy-out-registers
-    mul-t12
+    mul-t10
     slice-set-from-registers
-    add-v
+    add-marked
+    marked-requires-2
     loop-less
     loop-again
     same-length

@@ -8,67 +8,67 @@ use Rattle.thread.proofs.Thread.add.Reads as reads
 use Rattle.thread.proofs.Thread.add.Lts as lts
 use Rattle.word.proofs.add.Reads as add-reads
 
--- src/lib.rt:157:28
+-- src/lib.rt:258:23
 sub-a : tie.Need-sub-a
 sub-a c = search needs
 
--- src/lib.rt:157:17
+-- src/lib.rt:258:17
 mul-a : tie.Need-mul-a
 mul-a c = search needs
 
--- src/lib.rt:157:17
-element-copy-out-a : tie.Need-element-copy-out-a
-element-copy-out-a c = search needs
+-- src/lib.rt:258:17
+array-copy-out-a : tie.Need-array-copy-out-a
+array-copy-out-a c = search needs
 
--- src/lib.rt:158:28
+-- src/lib.rt:259:23
 sub-b : tie.Need-sub-b
 sub-b c = search needs
 
--- src/lib.rt:158:17
+-- src/lib.rt:259:17
 mul-b : tie.Need-mul-b
 mul-b c = search needs
 
--- src/lib.rt:158:17
-element-copy-out-b : tie.Need-element-copy-out-b
-element-copy-out-b c = search needs
+-- src/lib.rt:259:17
+array-copy-out-b : tie.Need-array-copy-out-b
+array-copy-out-b c = search needs
 
--- src/lib.rt:159:34
+-- src/lib.rt:260:29
 add-requires : tie.Need-add-requires
 add-requires c κs = search needs
 
--- src/lib.rt:159:20
-sub-t7 : tie.Need-sub-t7
-sub-t7 c = search needs
+-- src/lib.rt:260:15
+sub-cells : tie.Need-sub-cells
+sub-cells c = search needs
 
--- src/lib.rt:159:9
-mul-t8 : tie.Need-mul-t8
-mul-t8 c = search needs
+-- src/lib.rt:260:9
+mul-cells : tie.Need-mul-cells
+mul-cells c = search needs
 
--- src/lib.rt:159:9
-element-set-from-self : tie.Need-element-set-from-self
-element-set-from-self c = search needs
+-- src/lib.rt:260:9
+array-set-from-cells : tie.Need-array-set-from-cells
+array-set-from-cells c = search needs
 
--- src/lib.rt:160:20
+-- src/lib.rt:261:15
+sub-cells-2 : tie.Need-sub-cells-2
+sub-cells-2 c = search needs
+
+-- src/lib.rt:261:9
+mul-cells-2 : tie.Need-mul-cells-2
+mul-cells-2 c = search needs
+
+-- src/lib.rt:261:9
+array-set-of-cells : tie.Need-array-set-of-cells
+array-set-of-cells c = search needs
+
+-- src/lib.rt:263:23
 sub-self : tie.Need-sub-self
 sub-self c = search needs
 
--- src/lib.rt:160:9
-mul-self : tie.Need-mul-self
-mul-self c = search needs
-
--- src/lib.rt:160:9
-element-set-of-self : tie.Need-element-set-of-self
-element-set-of-self c = search needs
-
--- src/lib.rt:161:23
-sub-self-2 : tie.Need-sub-self-2
-sub-self-2 c = search needs
-
--- src/lib.rt:162:22
+-- src/lib.rt:264:22
 add-self : tie.Need-add-self
 add-self c = search needs
 
--- src/lib.rt:151:5
+-- src/lib.rt:251:5
 returns : tie.Need-returns
 unfolding add
 returns c = rw (toZ-ofZ (sfits-of (c .add .ok)), c .add .ensures, toZ-ofZ (sfits-of (c .before .before .a .given)), toZ-ofZ (sfits-of (c .before .b .given)))
@@ -79,17 +79,17 @@ add-spec =
     (tie.spec
     sub-a
     mul-a
-    element-copy-out-a
+    array-copy-out-a
     sub-b
     mul-b
-    element-copy-out-b
+    array-copy-out-b
     add-requires
-    sub-t7
-    mul-t8
-    element-set-from-self
+    sub-cells
+    mul-cells
+    array-set-from-cells
+    sub-cells-2
+    mul-cells-2
+    array-set-of-cells
     sub-self
-    mul-self
-    element-set-of-self
-    sub-self-2
     add-self
     returns)

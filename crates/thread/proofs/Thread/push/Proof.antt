@@ -7,22 +7,22 @@ use Rattle.thread.proofs.Thread.push.Tie as tie
 use Rattle.thread.proofs.Thread.push.Reads as reads
 use Rattle.thread.proofs.Thread.push.Lts as lts
 
--- src/lib.rt:144:9
-mul-n : tie.Need-mul-n
-mul-n c = search needs
+-- src/lib.rt:243:9
+mul-cells : tie.Need-mul-cells
+mul-cells c = search needs
 
--- src/lib.rt:144:9
-element-set-from-n : tie.Need-element-set-from-n
-element-set-from-n c = search needs
+-- src/lib.rt:243:9
+array-set-from-cells : tie.Need-array-set-from-cells
+array-set-from-cells c = search needs
 
--- src/lib.rt:145:23
+-- src/lib.rt:245:23
 add-self : tie.Need-add-self
 add-self c = search needs
 
--- src/lib.rt:139:5
+-- src/lib.rt:237:5
 returns : tie.Need-returns
 unfolding push
-returns c = rw (toZ-ofZ (c .fits .n), add-one)
+returns c = rw (toZ-ofZ (c .before .fits .n), add-one)
 
 pub push-spec : {M : Type 1} → statement M
-push-spec = tie.close (tie.spec mul-n element-set-from-n add-self returns)
+push-spec = tie.close (tie.spec mul-cells array-set-from-cells add-self returns)
