@@ -2,4 +2,5 @@
 pub mod Jobs
 pub mod Lines
 pub mod Pages
+pub mod Printed
 pub mod Runs
