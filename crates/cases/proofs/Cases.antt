@@ -11,6 +11,7 @@ use Rattle.machine.specs.FitTest.{walk, walkTo, freeFrom, placed, allZero, none
 use Rattle.machine.specs.Answers.{freshOf, stepOf, runOf, freshCall, stepCall, runCall}
 use Rattle.machine.specs.Steps.{numberOf, commit, act, settle, pickAmong, fresh, run}
 use Rattle.stm.specs.Events.{counted, order, backs, tally, countsOf, eventNumber, eventRegister, turnNumber, eventOf}
+use Rattle.listing.specs.Listed.{listed, jobRun, printed, listing, countsLine, threadLines, threadLine, registerLines, registerLine, refusalLine, integer, decimal, digits, ascii}
 use Rattle.word.specs.Registers.{none, member, with}
 use Rattle.script.specs.Bytes.{nodeBytes, bytes16, bytes32, bytesT, bytesP, jobMark, jobBytes}
 use Rattle.script.specs.Count.{nodesT, nodesP, depthT, depthP, forks, atomics, threads, instructions, longest, bound, codeT, codeP, codeLength}
@@ -19,7 +20,7 @@ use Rattle.script.specs.Reader.{permitted, nodeOf, nodeAt, grown, readNodes, jo
 use Rattle.word.specs.Sum.{residue, signed, wrap, wrapping}
 
 pub cases : Cases
-unfolding wrapping wrap signed residue readJob readNodes nodeAt nodeOf permitted operand grown forkOf jobMarked taken jobBytes jobMark bytesP bytesT nodeBytes bytes16 bytes32 nodesP nodesT forks atomics threads instructions longest bound codeT codeP codeLength compiled codeBytes codeMark compileP compileT instructionBytes instructionsBytes readCode readOps endedAt doOp opAt decoded opcodeOperand codeMarked within depthT depthP blank spawned push add begin sourceOf read write closedAt stale firstStale overlaid numberOf commit act settle pickAmong fresh run counted order backs none member with walkOp nextPlace walk walkTo freeFrom placed allZero noneBehind inFront passedBy among allAmong threadsOf oneEach fits freshOf stepOf runOf tally countsOf eventNumber eventRegister turnNumber eventOf freshCall stepCall runCall
+unfolding listed jobRun printed listing countsLine threadLines threadLine registerLines registerLine refusalLine integer decimal digits ascii wrapping wrap signed residue readJob readNodes nodeAt nodeOf permitted operand grown forkOf jobMarked taken jobBytes jobMark bytesP bytesT nodeBytes bytes16 bytes32 nodesP nodesT forks atomics threads instructions longest bound codeT codeP codeLength compiled codeBytes codeMark compileP compileT instructionBytes instructionsBytes readCode readOps endedAt doOp opAt decoded opcodeOperand codeMarked within depthT depthP blank spawned push add begin sourceOf read write closedAt stale firstStale overlaid numberOf commit act settle pickAmong fresh run counted order backs none member with walkOp nextPlace walk walkTo freeFrom placed allZero noneBehind inFront passedBy among allAmong threadsOf oneEach fits freshOf stepOf runOf tally countsOf eventNumber eventRegister turnNumber eventOf freshCall stepCall runCall
 cases =
     record {
       seven-read = refl;
@@ -63,6 +64,12 @@ cases =
       high-job = refl;
       whole-written = refl;
       whole-back = refl;
+      whole-listing = refl;
+      open-listing = refl;
+      least-listing = refl;
+      cut-listing = refl;
+      cut-job-listing = refl;
+      no-listing = refl;
       whole-steps = refl;
       whole-idle = refl;
       whole-commits = refl;

@@ -16,6 +16,7 @@ use Rattle.script.specs.Reader.{readJob}
 use Rattle.code.specs.Bytes.{compiled}
 use Rattle.code.specs.Reader.{readCode}
 use Rattle.guarantee.specs.Histories.{Ended}
+use Rattle.listing.specs.Listed.{ascii, listed}
 use Rattle.thread.specs.declared.Thread.{Thread}
 use Rattle.thread.specs.Threads.{zeros, blank, spawned, noted, exists, withPlace, withStack, withNotes, withLogs}
 use Rattle.machine.specs.Steps.{State, Ran, numberOf, threadAt, fresh, run}
@@ -306,6 +307,17 @@ pub record Cases : Type 0 where
   pub whole-written : jobBytes 1 wholeTree ≡ wholeJob
   pub whole-back : readCode wholeCode ≡ accepted wholeTree
   -- the whole case's output: "steps 21 idle 0 commits 2 back 1", "thread 0 done 0", "thread 1 done 2", "thread 2 done 1", "register 0 2"
+  pub whole-listing :
+      listed (0x00 ∷ 0x20 ∷ (wholeJob ++ wholePicks)) ≡
+      ascii "steps 21 idle 0 commits 2 back 1\nthread 0 done 0\nthread 1 done 2\nthread 2 done 1\nregister 0 2\n"
+  -- "an empty pick list leaves thread 0 open"; the least number, as a result; an input cut below its job's length; a job that is cut itself
+  pub open-listing : listed (0x00 ∷ 0x0C ∷ seven) ≡ ascii "steps 0 idle 0 commits 0 back 0\nthread 0 open\n"
+  pub least-listing :
+      listed (0x00 ∷ 0x0C ∷ header 1 (0x01 ∷ 0x80 ∷ 0x00 ∷ 0x00 ∷ 0x00 ∷ 0x00 ∷ [])) ≡
+      ascii "steps 1 idle 0 commits 0 back 0\nthread 0 done -2147483648\n"
+  pub cut-listing : listed (0x00 ∷ 0x0C ∷ header 1 (0x01 ∷ 0x00 ∷ 0x00 ∷ [])) ≡ ascii "refused 1 at 12\n"
+  pub cut-job-listing : listed (0x00 ∷ 0x03 ∷ 0x57 ∷ 0x53 ∷ 0x4A ∷ []) ≡ ascii "refused 1 at 3\n"
+  pub no-listing : listed [] ≡ ascii "refused 1 at 0\n"
   pub whole-steps : steps (ran wholeCode wholePicks) ≡ 21
   pub whole-idle : counted isIdle (ran wholeCode wholePicks .events) ≡ 0
   pub whole-commits : counted isCommit (ran wholeCode wholePicks .events) ≡ 2

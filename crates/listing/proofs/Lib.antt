@@ -1,0 +1,6 @@
+-- Why the page has what the definition says.
+pub mod Jobs
+pub mod Lines
+pub mod Pages
+pub mod Printed
+pub mod Runs

@@ -1,0 +1,136 @@
+-- Texts put on a page one behind the other, and how long they are. Assumes nothing.
+use Prim.Native.Nat.{ℕ, zero, suc, _+_, _-_, _*_, _/_, _%_, _^_, _<_, _≤_, min}
+use mathlib.Core.Bool.{Bool, true, false, cond}
+use mathlib.Core.Path.{_≡_, refl, sym, ap, subst, _∙_}
+use mathlib.Core.List.{List, [], _∷_, _++_, append-assoc, append-nil}
+use native.Mathlib.Nat.{pow-suc, one-le-pow, pow-le-pow-right}
+use native.Mathlib.Omega.{arith}
+use borrow.Author.Tests.{ltb-true, ltb-false, lt-ltb, le-ltb}
+use lib.Dec.{ltb, lit<}
+use lib.IntN.{ℤ, pos, negsuc}
+use lib.ListN.{length, take, drop, getD, set, length-append, length-set, length-take}
+use lib.Seq.{take-suc, take-set-le, getD-set-same, take-length, paste, paste-suc}
+use Rattle.delivery.proofs.Delivers.{delivers}
+use Rattle.delivery.specs.Delivered.{Delivered, onto, delivered}
+use Rattle.delivery.specs.declared.Answer.the-variants.{Done}
+use Rattle.script.specs.Outcome.{done}
+use Rattle.io.specs.Digits as io
+use Rattle.listing.specs.InnerPage.{Put}
+use Rattle.listing.specs.Listed.{digits, decimal, integer}
+
+-- two texts, one behind the other
+pub put-put : {a r s : ℕ} {t u e m x : List ℕ} → Put a t e r m → Put r u m s x → Put a (t ++ u) e s x
+put-put {a} {r} {s} {t} {u} {e} {m} {x} p q =
+    record {
+      end = q .end ∙ ap (_+ length u) (p .end) ∙ (let z : a + length t + length u ≡ a + (length t + length u) = omega arith in z) ∙ ap (a +_) (sym (length-append t u));
+      front = q .front ∙ ap (_++ u) (p .front) ∙ append-assoc (take a e) t u;
+    }
+
+-- the same text
+pub put-same : {a r : ℕ} {t u e x : List ℕ} → t ≡ u → Put a t e r x → Put a u e r x
+put-same {a} {r} {e = e} {x = x} q p = subst (λ (v : List ℕ). Put a v e r x) q p
+
+-- no text
+pub put-none : (a : ℕ) (e : List ℕ) → Put a [] e a e
+put-none a e = record { end = omega arith; front = sym (append-nil (take a e)) }
+
+-- a page that has a text and nothing else at its front
+pub record Whole (text : List ℕ) (r : ℕ) (page : List ℕ) : Type 0 where
+  pub front : take r page ≡ text
+  pub size : r ≡ length text
+  pub within : r ≤ length page
+
+pub whole : {text e x : List ℕ} {r : ℕ} → Put 0 text e r x → Whole text r x
+whole {text} {x = x} {r = r} p =
+    let s : r ≡ length text = omega (arith, p .end) in
+    let m : length (take r x) ≡ min r (length x) = length-take r x in
+    record { front = p .front; size = s; within = omega (arith, s, m, ap length (p .front)) }
+
+-- delivered, it is the result
+pub page-delivered : (text page before after : List ℕ) (r : ℕ) → Whole text r page → r ≤ length before → after ≡ onto (take r page) before → delivered (done text) before ≡ record { answer = Done r; output = after }
+page-delivered text page before after r w h e =
+    delivers text before (omega (arith, w .size, h)) ∙ ap {B = Delivered} (λ (n : ℕ). record { answer = Done n; output = onto text before }) (sym (w .size)) ∙ ap {B = Delivered} (λ (l : List ℕ). record { answer = Done r; output = l }) (ap (λ (t : List ℕ). onto t before) (sym (w .front)) ∙ sym e)
+
+-- one byte more of a text, behind those that are there
+pub one-more : (at i : ℕ) (text before page : List ℕ) → i < length text → at + i < length page → take (at + i) page ≡ take at before ++ take i text
+    → take (at + (i + 1)) (set page (at + i) (getD text i 0)) ≡ take at before ++ take (i + 1) text
+one-more at i text before page h k e =
+    ap (λ (n : ℕ). take n (set page (at + i) (getD text i 0))) (let z : at + (i + 1) ≡ suc (at + i) = omega arith in z) ∙ stored (at + i) (getD text i 0) page k ∙ ap (_++ (getD text i 0 ∷ [])) e ∙ append-assoc (take at before) (take i text) (getD text i 0 ∷ []) ∙
+    ap (take at before ++_) (sym (take-suc text i 0 h) ∙ ap (λ (n : ℕ). take n text) (let z : suc i ≡ i + 1 = omega arith in z))
+  where
+    stored : (j a : ℕ) (l : List ℕ) → j < length l → take (suc j) (set l j a) ≡ take j l ++ (a ∷ [])
+    stored j a l q = take-suc (set l j a) j 0 (subst (j <_) (sym (length-set l j a)) q) ∙ ap (λ (x : ℕ). take j (set l j a) ++ (x ∷ [])) (getD-set-same l j a 0 q) ∙ ap (_++ (a ∷ [])) (take-set-le j l j a (omega arith))
+
+-- a byte of a text stored at the front of an output, and the whole of it
+pub stored : (i : ℕ) (out text : List ℕ) → i < length out → i < length text → set (paste out 0 text i) i (getD text i 0) ≡ paste out 0 text (i + 1)
+stored i out text h k =
+    ap (λ (n : ℕ). set (paste out 0 text i) n (getD text i 0)) (let z : i ≡ 0 + i = omega arith in z) ∙ paste-suc out 0 text i 0 (omega (arith, h)) k ∙ ap (paste out 0 text) (let z : suc i ≡ i + 1 = omega arith in z)
+
+pub pasted : (out text : List ℕ) → paste out 0 text (length text) ≡ onto text out
+pasted out text = ap (λ (l : List ℕ). l ++ drop (0 + length text) out) (take-length text) ∙ ap (λ (n : ℕ). text ++ drop n out) (let z : 0 + length text ≡ length text = omega arith in z)
+
+-- at most so many digits
+digits-short : (most n : ℕ) → length (digits most n) ≤ most
+unfolding digits
+digits-short zero n = omega arith
+digits-short (suc most) n = by-test (digits-short most (n / 10)) (ltb n 10)
+  where
+    by-test : length (digits most (n / 10)) ≤ most → (t : Bool) → length (cond t ((48 + n) ∷ []) (digits most (n / 10) ++ ((48 + n % 10) ∷ []))) ≤ suc most
+    by-test h true = omega arith
+    by-test h false = let l : length (digits most (n / 10) ++ ((48 + n % 10) ∷ [])) ≡ length (digits most (n / 10)) + 1 = length-append (digits most (n / 10)) ((48 + n % 10) ∷ []) in omega (arith, h, l)
+
+pub decimal-short : (n : ℕ) → length (decimal n) ≤ 20
+unfolding decimal
+decimal-short n = digits-short 20 n
+
+pub integer-short : (n : ℤ) → length (integer n) ≤ 21
+unfolding integer
+integer-short (pos n) = omega (arith, decimal-short n)
+integer-short (negsuc n) = omega (arith, decimal-short (suc n))
+
+-- a digit below 10
+glyph-is : (d : ℕ) → d < 10 → io.glyph d ≡ 48 + d
+glyph-is d h = rw (lt-ltb d 10 h)
+
+-- a power of ten, and ten of the next
+ten : (k : ℕ) → 10 ^ suc k ≡ 10 ^ k * 10
+ten k = pow-suc 10 k
+
+at-least : (k n : ℕ) → 10 ^ suc k ≤ n → 10 ≤ n
+at-least k n q = let e : 10 ^ suc k ≡ 10 ^ k * 10 = ten k in let o : 1 ≤ 10 ^ k = one-le-pow k 10 (lit< tt) in omega (arith, q, e, o)
+
+tenth-below : (k n : ℕ) → n < 10 ^ suc (suc k) → n / 10 < 10 ^ suc k
+tenth-below k n q = let e : 10 ^ suc (suc k) ≡ 10 ^ suc k * 10 = ten (suc k) in omega (arith, q, e)
+
+tenth-above : (k n : ℕ) → 10 ^ suc k ≤ n → 10 ^ k ≤ n / 10
+tenth-above k n q = let e : 10 ^ suc k ≡ 10 ^ k * 10 = ten k in omega (arith, q, e)
+
+-- the fewest digits that hold a number are its digits
+spelt : (k most n : ℕ) → suc k ≤ most → n < 10 ^ suc k → (1 ≤ k → 10 ^ k ≤ n) → io.digits 10 (suc k) n ≡ digits most n
+unfolding digits
+spelt k zero n h u l = absurd (omega (arith, h))
+spelt zero (suc most) n h u l =
+    let s : n < 10 = omega (arith, u) in
+    let z : n % 10 ≡ n = omega (arith, s) in
+    rw (lt-ltb n 10 s) (ap (_∷ []) (glyph-is (n % 10) (omega arith) ∙ ap (48 +_) z))
+spelt (suc k) (suc most) n h u l =
+    let b : 10 ≤ n = at-least k n (l (omega arith)) in
+    let r : io.digits 10 (suc k) (n / 10) ≡ digits most (n / 10) = spelt k most (n / 10) (omega (arith, h)) (tenth-below k n u) (λ q. tenth-above k n (l (omega arith))) in
+    rw (le-ltb n 10 b) (ap (_++ (io.glyph (n % 10) ∷ [])) r ∙ ap (λ (d : ℕ). digits most (n / 10) ++ (d ∷ [])) (glyph-is (n % 10) (omega arith)))
+
+-- 20 hold every number of 64 bits
+few : (n k : ℕ) → n < 2 ^ 64 → io.Fewest 10 1 n k → k ≤ 20
+few n k s f = by-test (ltb 20 k) refl
+  where
+    by-test : (t : Bool) → ltb 20 k ≡ t → k ≤ 20
+    by-test false e = ltb-false 20 k e
+    by-test true e =
+        let h : 20 < k = ltb-true 20 k e in
+        let q : 10 ^ (k - 1) ≤ n = f .2 (omega (arith, h)) in
+        let p : 10 ^ 20 ≤ 10 ^ (k - 1) = pow-le-pow-right {n = 10} (lit< tt) {i = 20} {j = k - 1} (omega (arith, h)) in
+        absurd (omega (arith, q, p, s))
+
+pub decimal-digits : (n k : ℕ) → n < 2 ^ 64 → io.Fewest 10 1 n k → io.digits 10 k n ≡ decimal n
+unfolding decimal
+decimal-digits n zero s f = absurd (omega (arith, f .0))
+decimal-digits n (suc k) s f = spelt k 20 n (few n (suc k) s f) (f .1) (λ q. subst (λ (j : ℕ). 10 ^ j ≤ n) (let z : suc k - 1 ≡ k = omega arith in z) (f .2 (omega (arith, q))))

@@ -1,0 +1,3 @@
+-- What the run program prints.
+pub mod InnerPage
+pub mod Listed
