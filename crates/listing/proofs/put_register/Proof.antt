@@ -45,9 +45,10 @@ same-length c = search needs
 -- src/lib.rt:133:1
 returns-2 : tie.Need-returns-2
 unfolding ascii
-returns-2 c =
-    (put-same (register-line (c .before .before .before .before .before .before .before .before .before .before .before .before .args .v) (c .before .before .before .before .before .before .before .before .before .before .before .before .args .n) (not-zero (c .before .before .before .before .before .before .before .before .before .before .before .before .args .n) (λ (e : c .before .before .before .before .before .before .before .before .before .before .before .before .args .n ≡ pos 0). c .before .before .before .before .before .before .before .before .before .before .if1 .left (ap (ofZ w32) e)))) (put-put (c .before .before .before .before .before .before .before .put-number .ensures .0) (put-same (ap (λ (z : ℤ). ascii " " ++ (integer z ++ ascii "\n")) (toZ-ofZ (c .before .before .before .before .before .before .before .before .before .before .before .before .fits .n))) (c .before .before .put-integer .ensures .0))),
-    omega (arith, c .before .before .before .before .before .before .before .put-number .ensures .1, c .before .before .put-integer .ensures .1))
+returns-2 c = (
+  put-same (register-line (c .before .before .before .before .before .before .before .before .before .before .before .before .args .v) (c .before .before .before .before .before .before .before .before .before .before .before .before .args .n) (not-zero (c .before .before .before .before .before .before .before .before .before .before .before .before .args .n) (λ (e : c .before .before .before .before .before .before .before .before .before .before .before .before .args .n ≡ pos 0). c .before .before .before .before .before .before .before .before .before .before .if1 .left (ap (ofZ w32) e)))) (put-put (c .before .before .before .before .before .before .before .put-number .ensures .0) (put-same (ap (λ (z : ℤ). ascii " " ++ (integer z ++ ascii "\n")) (toZ-ofZ (c .before .before .before .before .before .before .before .before .before .before .before .before .fits .n))) (c .before .before .put-integer .ensures .0))),
+  omega (arith, c .before .before .before .before .before .before .before .put-number .ensures .1, c .before .before .put-integer .ensures .1),
+)
 
 pub put-register-spec : {M : Type 1} → statement M
 put-register-spec =

@@ -45,9 +45,10 @@ same-length c = search needs
 -- src/lib.rt:100:9
 returns : tie.Need-returns
 unfolding ascii
-returns c =
-    (put-same (done-line (c .before .before .before .before .before .before .before .before .before .before .before .before .before .before .before .args .i) (c .before .before .before .before .before .before .before .before .before .before .before .before .before .before .before .args .t) (c .before .before .before .before .before .before .before .if1 .taken)) (put-put (c .before .before .before .before .before .before .before .before .before .before .before .put-number .ensures .0) (put-same (ap (λ (z : ℤ). ascii " done " ++ (integer z ++ ascii "\n")) (toZ-ofZ (sfits-of (c .before .before .before .before .before .result .given)))) (c .before .before .put-integer .ensures .0))),
-    omega (arith, c .before .before .before .before .before .before .before .before .before .before .before .put-number .ensures .1, c .before .before .put-integer .ensures .1))
+returns c = (
+  put-same (done-line (c .before .before .before .before .before .before .before .before .before .before .before .before .before .before .before .args .i) (c .before .before .before .before .before .before .before .before .before .before .before .before .before .before .before .args .t) (c .before .before .before .before .before .before .before .if1 .taken)) (put-put (c .before .before .before .before .before .before .before .before .before .before .before .put-number .ensures .0) (put-same (ap (λ (z : ℤ). ascii " done " ++ (integer z ++ ascii "\n")) (toZ-ofZ (sfits-of (c .before .before .before .before .before .result .given)))) (c .before .before .put-integer .ensures .0))),
+  omega (arith, c .before .before .before .before .before .before .before .before .before .before .before .put-number .ensures .1, c .before .before .put-integer .ensures .1),
+)
 
 -- src/lib.rt:102:21
 slice-aggregate-put : tie.Need-slice-aggregate-put
@@ -64,9 +65,10 @@ same-length-2 c = search needs
 -- src/lib.rt:90:1
 returns-2 : tie.Need-returns-2
 unfolding ascii
-returns-2 c =
-    (put-same (open-line (c .before .before .before .before .before .before .before .before .before .before .before .before .before .args .i) (c .before .before .before .before .before .before .before .before .before .before .before .before .before .args .t) (c .before .before .before .before .before .if1 .left)) (put-put (c .before .before .before .before .before .before .before .before .before .put-number .ensures .0) (c .before .before .put .ensures)),
-    omega (arith, c .before .before .before .before .before .before .before .before .before .put-number .ensures .1, c .before .before .put .ensures .end))
+returns-2 c = (
+  put-same (open-line (c .before .before .before .before .before .before .before .before .before .before .before .before .before .args .i) (c .before .before .before .before .before .before .before .before .before .before .before .before .before .args .t) (c .before .before .before .before .before .if1 .left)) (put-put (c .before .before .before .before .before .before .before .before .before .put-number .ensures .0) (c .before .before .put .ensures)),
+  omega (arith, c .before .before .before .before .before .before .before .before .before .put-number .ensures .1, c .before .before .put .ensures .end),
+)
 
 pub put-thread-spec : {M : Type 1} → statement M
 put-thread-spec =
