@@ -1,4 +1,4 @@
--- For the proof of `gather`, `lay`, `clear` only: what each leaves. Nobody has to believe it: `laid-all`, `laid-none`, `cleared-all` and
+-- For the proofs of the functions over lent records only: what each leaves. Nobody has to believe it: `laid-all`, `laid-none`, `cleared-all` and
 -- `cleared-none` (proofs/Laying) say what comes of the last two, and `Gathered` speaks of `surveyOf` alone, which `survey-fits` ties to `fits`.
 use Prim.Native.Nat.{ℕ, zero, suc}
 use mathlib.Core.Path.{_≡_}

@@ -181,14 +181,14 @@ fn drive(
     q
 }
 
-// The progress with which a call begins; that the code is of bytes is earned here.
+// The progress with which a call begins. Its contract also hands on that the code is of bytes, which the slice has by its type.
 fn admit(code: &[u8], survey: survey::Survey, registers: usize, picks: usize) -> progress::Progress
     ensures { λ r. ⌜ Admitted (now (code .entry)) survey registers picks r ⌝ }
 {
     progress::admitted(code, survey, registers, picks)
 }
 
-// A fresh state for the code, laid down over whatever the registers and records held.
+// A fresh state for the code, laid down over whatever the registers and records held. Refused with 11, then 12; nothing is altered then.
 #[no_mangle]
 pub extern "C" fn kuspigo_fresh(
     code: &[u8],
@@ -205,7 +205,7 @@ pub extern "C" fn kuspigo_fresh(
     progress::fresh_reply(refusal)
 }
 
-// One pick.
+// One pick. Refused with 11, then 12; nothing is altered then.
 #[no_mangle]
 pub extern "C" fn kuspigo_step(
     code: &[u8],
@@ -222,7 +222,7 @@ pub extern "C" fn kuspigo_step(
     q.step_reply()
 }
 
-// A list of picks, one after the other.
+// A list of picks, one after the other. Refused with 11, then 12, then 13; nothing is altered then.
 #[no_mangle]
 pub extern "C" fn kuspigo_run(
     code: &[u8],

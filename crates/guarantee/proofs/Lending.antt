@@ -6,26 +6,15 @@ use native.Mathlib.Omega.{arith}
 use lib.Dec.{lit<}
 use lib.IntN.{ℤ, pos}
 use lib.ListN.{length, getD}
-use mir.Val.{Val}
-use denote.RattleType.{RattleType}
-use denote.Laws.{Is}
 use denote.Builtin.{u8, i32}
 use Rattle.engine.proofs.Rows.{ThreadR, Known, known-thread, known-blank, small}
 use Rattle.guarantee.specs.Histories.{Lent, step, run}
+use Rattle.guarantee.specs.Values.{Valued, AllValued}
 use Rattle.machine.specs.Steps.{stateFrom}
 use Rattle.script.specs.Bytes.{Bytes}
 use Rattle.thread.specs.Threads.{blank}
 use Rattle.thread.specs.declared.Thread.{Thread}
 use Rattle.word.specs.Sum.{InRange}
-
--- a value of a type: some machine values spell it
-abbrev pub Valued : (R : RattleType) → R .Denot → Type 0
-Valued R x = (vs : List Val) × Is R x vs
-
--- each entry is one
-unfoldable pub AllValued : (R : RattleType) → List (R .Denot) → Type 0
-AllValued R [] = Unit {0}
-AllValued R (x ∷ xs) = Valued R x × AllValued R xs
 
 byte : (b : ℕ) → Valued u8 b → b < 256
 byte b v = let h : b < 2 ^ 8 = v .1 .1 in h

@@ -39,7 +39,7 @@ use Rattle.word.specs.Sum.{Rule}
 -- The rows say what a call returns, answer and all lent memory: a result, or the number and place with the memory as it was. What a call
 -- comes to is what one row says, and no row says anything else. That the functions end, inside the memory lent, is what the checker proves
 -- of every function. At each field stands the function whose contract is the equation; what is asked of bytes and states, every slice has by
--- its type (`step-by-type`, `run-by-type`, guarantee/proofs/Lending).
+-- its type (`bytes-by-type`, `step-by-type`, `run-by-type`, guarantee/proofs/Lending).
 pub record Demand1 : Type 0 where
   -- `job::read_job`
   pub job-reader : (job : List ℕ) → Bytes job → (r : Reading) → JobAnswer job r ↔ (r ≡ answer (readJob job))

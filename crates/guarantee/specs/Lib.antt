@@ -1,5 +1,6 @@
--- What is promised of the whole. Demands is the front page; Rows, Histories and Agreement have what it speaks of.
+-- What is promised of the whole. Demands is the front page; Rows, Histories and Agreement have what it speaks of, Values what slices have by their types.
 pub mod Demands
 pub mod Rows
 pub mod Histories
 pub mod Agreement
+pub mod Values

@@ -1,27 +1,28 @@
--- An accepted job with at most 32,768 picks is never refused, and what stands behind the first 65,537 bytes of an input is not looked at. Assumes nothing.
-use Prim.Native.Nat.{ℕ, _+_, _-_, _*_, _<_, _≤_}
-use mathlib.Core.Bool.{Bool, true, false, not}
-use mathlib.Core.Path.{_≡_, refl, sym, ap, _∙_}
-use mathlib.Core.List.{List}
+-- An accepted job with at most 32,768 picks is never refused. Assumes nothing.
+use Prim.Native.Nat.{ℕ, suc, _+_, _≤_}
+use mathlib.Core.Bool.{Bool, not}
+use mathlib.Core.Path.{_≡_, ap, _∙_}
+use mathlib.Core.List.{List, _++_}
 use native.Mathlib.Omega.{arith}
 use borrow.Author.Tests.{le-ltb}
 use lib.Dec.{ltb}
-use lib.ListN.{length, take, drop, getD}
+use lib.ListN.{length, take, drop, length-append}
+use lib.Seq.{take-append-seam, drop-append-seam}
 use Rattle.code.proofs.Foreign.{there-and-back}
 use Rattle.code.specs.Bytes.{compiled}
-use Rattle.code.specs.Reader.{readCode}
 use Rattle.machine.proofs.FitTests.{fits-exactly}
 use Rattle.machine.proofs.Fresh.{fresh-typed, fresh-fits}
 use Rattle.machine.specs.Answers.{sumOf, fitting, runOf}
-use Rattle.machine.specs.FitTest.{fits}
 use Rattle.machine.specs.Steps.{Ran, run, fresh}
 use Rattle.script.proofs.Accepts.{accepted-is-job}
-use Rattle.script.specs.Bytes.{Bytes}
+use Rattle.script.proofs.Numbers.{number16-bytes16}
+use Rattle.script.specs.Bytes.{Bytes, bytes16}
 use Rattle.script.specs.Jobs.{Job, number16}
-use Rattle.script.specs.Outcome.{Outcome, refused, done, onward, refuse}
+use Rattle.script.specs.Outcome.{Outcome, done, onward, refuse}
 use Rattle.script.specs.Reader.{readJob}
 use Rattle.stm.specs.Events.{countsOf}
 use Rattle.listing.specs.Listed.{listing, printed, jobRun, listed}
+use Rattle.listing.proofs.FirstBytes.{short-job}
 
 module _ (job picks : List ℕ) (j : Job) (bytes : Bytes job) (accepted : readJob job ≡ done j) (few : length picks ≤ 32768) where
   -- the run of its code from a fresh state
@@ -39,3 +40,23 @@ module _ (job picks : List ℕ) (j : Job) (bytes : Bytes job) (accepted : readJo
   pub accepted-listed : printed (jobRun job picks) ≡ listing (countsOf (ran .events)) (ran .state)
   unfolding jobRun printed
   accepted-listed = ap (λ (o : Outcome Job). printed (onward o (λ (k : Job). runOf (compiled k) (fresh (compiled k)) picks))) accepted ∙ ap printed taken
+
+  -- of an input that has the job and the picks
+  pub accepted-input : listed (bytes16 (length job) ++ (job ++ picks)) ≡ listing (countsOf (ran .events)) (ran .state)
+  unfolding listed bytes16
+  accepted-input =
+      let input = bytes16 (length job) ++ (job ++ picks) in
+      let few : length job ≤ 5007 = short-job job j bytes accepted in
+      let n : number16 input 0 ≡ length job = number16-bytes16 (length job) (omega (arith, few)) (job ++ picks) in
+      let l : length input ≡ 2 + (length job + length picks) = sized in
+      rw (le-ltb (length input) 2 (omega (arith, l)), le-ltb (length input) (2 + number16 input 0) (omega (arith, l, n)))
+      (ap (λ (m : ℕ). printed (jobRun (take m (drop 2 input)) (drop (2 + m) input))) n ∙ ap (λ (b : List ℕ). printed (jobRun b (drop (2 + length job) input))) front ∙ ap (λ (p : List ℕ). printed (jobRun job p)) behind ∙ accepted-listed)
+    where
+      sized : length (bytes16 (length job) ++ (job ++ picks)) ≡ 2 + (length job + length picks)
+      sized = let l : length (job ++ picks) ≡ length job + length picks = length-append job picks in omega (arith, l)
+
+      front : take (length job) (drop 2 (bytes16 (length job) ++ (job ++ picks))) ≡ job
+      front = take-append-seam job picks
+
+      behind : drop (2 + length job) (bytes16 (length job) ++ (job ++ picks)) ≡ picks
+      behind = ap (λ (m : ℕ). drop m (bytes16 (length job) ++ (job ++ picks))) (let z : 2 + length job ≡ suc (suc (length job)) = omega arith in z) ∙ drop-append-seam job picks

@@ -7,7 +7,7 @@ pub struct FreshReply {
     pub place: usize,
 }
 
-// The answer of `step`: the refusal as above, and what the pick did.
+// The answer of `step`: the refusal as above, and what the pick did, 0 throughout if it was refused.
 #[repr(C)]
 pub struct StepReply {
     pub refusal: usize,
@@ -15,13 +15,13 @@ pub struct StepReply {
     // 0 idle, 1 push, 2 sum, 3 fork, 4 begin, 5 read from the write log, 6 read from the read log, 7 read from the table, 8 write,
     // 9 commit, 10 sent back
     pub event: usize,
-    // the first stale register, if it was sent back
+    // the first stale register, if it was sent back, else 0
     pub register: usize,
-    // 1 if the pick took a turn
+    // 1 if the pick took a turn, else 0
     pub turn: usize,
 }
 
-// The answer of `run`: the refusal as above, and the counts of its picks.
+// The answer of `run`: the refusal as above, and the counts of its picks, 0 throughout if it was refused.
 #[repr(C)]
 pub struct RunReply {
     pub refusal: usize,

@@ -1,4 +1,4 @@
-// The calls on a state that is owned: registers and records by value, of which the first so many are lent, all of them handed back. Whoever
+// The calls on a state that is owned: registers and records by value, of which the first so many are lent, as far as there are so many, all of them handed back. Whoever
 // calls these needs no proof over lent records.
 ghost use lib.IntN.{pos};
 ghost use lib.ListN.{replicate};

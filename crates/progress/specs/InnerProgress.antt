@@ -1,5 +1,6 @@
 -- For the proofs of functions over records only: one pick by value, and with what a call begins and ends. Nobody has to believe it:
--- `run-by-value` and `step-by-value` (proofs/Calls) say that `ranBy` and `steppedBy` are `runCall` and `stepCall`.
+-- `run-by-value` and `step-by-value` (proofs/Calls) say that `ranBy` and `steppedBy` are `runCall` and `stepCall`, `plained` (proofs/Performs)
+-- that a plain pick is a pick.
 use Prim.Native.Nat.{ℕ, zero, suc, _+_, _<_}
 use mathlib.Core.Bool.{Bool, cond, not}
 use mathlib.Core.List.{List, [], _∷_}
