@@ -5,3 +5,4 @@ pub mod Lines
 pub mod Pages
 pub mod Printed
 pub mod Runs
+pub mod Spelling
