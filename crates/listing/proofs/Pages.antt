@@ -69,25 +69,6 @@ stored i out text h k =
 pub pasted : (out text : List ℕ) → paste out 0 text (length text) ≡ onto text out
 pasted out text = ap (λ (l : List ℕ). l ++ drop (0 + length text) out) (take-length text) ∙ ap (λ (n : ℕ). text ++ drop n out) (let z : 0 + length text ≡ length text = omega arith in z)
 
--- at most so many digits
-digits-short : (most n : ℕ) → length (digits most n) ≤ most
-unfolding digits
-digits-short zero n = omega arith
-digits-short (suc most) n = by-test (digits-short most (n / 10)) (ltb n 10)
-  where
-    by-test : length (digits most (n / 10)) ≤ most → (t : Bool) → length (cond t ((48 + n) ∷ []) (digits most (n / 10) ++ ((48 + n % 10) ∷ []))) ≤ suc most
-    by-test h true = omega arith
-    by-test h false = let l : length (digits most (n / 10) ++ ((48 + n % 10) ∷ [])) ≡ length (digits most (n / 10)) + 1 = length-append (digits most (n / 10)) ((48 + n % 10) ∷ []) in omega (arith, h, l)
-
-pub decimal-short : (n : ℕ) → length (decimal n) ≤ 20
-unfolding decimal
-decimal-short n = digits-short 20 n
-
-pub integer-short : (n : ℤ) → length (integer n) ≤ 21
-unfolding integer
-integer-short (pos n) = omega (arith, decimal-short n)
-integer-short (negsuc n) = omega (arith, decimal-short (suc n))
-
 -- a digit below 10
 glyph-is : (d : ℕ) → d < 10 → io.glyph d ≡ 48 + d
 glyph-is d h = rw (lt-ltb d 10 h)
@@ -105,6 +86,22 @@ tenth-below k n q = let e : 10 ^ suc (suc k) ≡ 10 ^ suc k * 10 = ten (suc k) i
 tenth-above : (k n : ℕ) → 10 ^ suc k ≤ n → 10 ^ k ≤ n / 10
 tenth-above k n q = let e : 10 ^ suc k ≡ 10 ^ k * 10 = ten k in omega (arith, q, e)
 
+-- a number below a power of ten has no more digits
+digits-short : (most k n : ℕ) → n < 10 ^ suc k → length (digits most n) ≤ suc k
+unfolding digits
+digits-short zero k n h = omega arith
+digits-short (suc most) zero n h = rw (lt-ltb n 10 (omega (arith, h))) (omega arith)
+digits-short (suc most) (suc k) n h = by-test (digits-short most k (n / 10) (tenth-below k n h)) (ltb n 10)
+  where
+    by-test : length (digits most (n / 10)) ≤ suc k → (t : Bool) → length (cond t ((48 + n) ∷ []) (digits most (n / 10) ++ ((48 + n % 10) ∷ []))) ≤ suc (suc k)
+    by-test r true = omega arith
+    by-test r false = let l : length (digits most (n / 10) ++ ((48 + n % 10) ∷ [])) ≡ length (digits most (n / 10)) + 1 = length-append (digits most (n / 10)) ((48 + n % 10) ∷ []) in omega (arith, r, l)
+
+-- 20 hold every number of 64 bits
+pub decimal-short : (n : ℕ) → n < 2 ^ 64 → length (decimal n) ≤ 20
+unfolding decimal
+decimal-short n h = digits-short (suc n) 19 n (omega (arith, h))
+
 -- the fewest digits that hold a number are its digits
 spelt : (k most n : ℕ) → suc k ≤ most → n < 10 ^ suc k → (1 ≤ k → 10 ^ k ≤ n) → io.digits 10 (suc k) n ≡ digits most n
 unfolding digits
@@ -118,19 +115,19 @@ spelt (suc k) (suc most) n h u l =
     let r : io.digits 10 (suc k) (n / 10) ≡ digits most (n / 10) = spelt k most (n / 10) (omega (arith, h)) (tenth-below k n u) (λ q. tenth-above k n (l (omega arith))) in
     rw (le-ltb n 10 b) (ap (_++ (io.glyph (n % 10) ∷ [])) r ∙ ap (λ (d : ℕ). digits most (n / 10) ++ (d ∷ [])) (glyph-is (n % 10) (omega arith)))
 
--- 20 hold every number of 64 bits
-few : (n k : ℕ) → n < 2 ^ 64 → io.Fewest 10 1 n k → k ≤ 20
-few n k s f = by-test (ltb 20 k) refl
-  where
-    by-test : (t : Bool) → ltb 20 k ≡ t → k ≤ 20
-    by-test false e = ltb-false 20 k e
-    by-test true e =
-        let h : 20 < k = ltb-true 20 k e in
-        let q : 10 ^ (k - 1) ≤ n = f .2 (omega (arith, h)) in
-        let p : 10 ^ 20 ≤ 10 ^ (k - 1) = pow-le-pow-right {n = 10} (lit< tt) {i = 20} {j = k - 1} (omega (arith, h)) in
-        absurd (omega (arith, q, p, s))
+-- a power of ten is above its exponent
+pub above : (k : ℕ) → k < 10 ^ k
+above zero = lit< tt
+above (suc k) = let e : 10 ^ suc k ≡ 10 ^ k * 10 = ten k in omega (arith, above k, e)
 
-pub decimal-digits : (n k : ℕ) → n < 2 ^ 64 → io.Fewest 10 1 n k → io.digits 10 k n ≡ decimal n
+few : (n k : ℕ) → (1 ≤ k → 10 ^ k ≤ n) → suc k ≤ suc n
+few n zero l = omega arith
+few n (suc k) l = omega (arith, above (suc k), l (omega arith))
+
+pub decimal-digits : (n k : ℕ) → io.Fewest 10 1 n k → io.digits 10 k n ≡ decimal n
 unfolding decimal
-decimal-digits n zero s f = absurd (omega (arith, f .0))
-decimal-digits n (suc k) s f = spelt k 20 n (few n (suc k) s f) (f .1) (λ q. subst (λ (j : ℕ). 10 ^ j ≤ n) (let z : suc k - 1 ≡ k = omega arith in z) (f .2 (omega (arith, q))))
+decimal-digits n zero f = absurd (omega (arith, f .0))
+decimal-digits n (suc k) f = spelt k (suc n) n (few n k least) (f .1) least
+  where
+    least : 1 ≤ k → 10 ^ k ≤ n
+    least q = subst (λ (j : ℕ). 10 ^ j ≤ n) (let z : suc k - 1 ≡ k = omega arith in z) (f .2 (omega (arith, q)))

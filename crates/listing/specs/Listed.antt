@@ -27,9 +27,9 @@ unfoldable pub digits : (most n : ℕ) → List ℕ
 digits zero n = []
 digits (suc most) n = cond (ltb n 10) ((48 + n) ∷ []) (digits most (n / 10) ++ ((48 + n % 10) ∷ []))
 
--- no number that is printed has more than 20
+-- a number has fewer digits than one more than itself
 unfoldable pub decimal : ℕ → List ℕ
-decimal n = digits 20 n
+decimal n = digits (suc n) n
 
 -- a signed number
 unfoldable pub integer : ℤ → List ℕ

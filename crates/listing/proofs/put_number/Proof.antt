@@ -32,8 +32,8 @@ slice-aggregate-put c = search needs
 -- src/lib.rt:37:5
 put-requires-2 : tie.Need-put-requires-2
 put-requires-2 c κs =
-    let e : take (c .before .before .decimal .result) (c .before .before .decimal .last .1 .0) ≡ decimal (c .before .before .before .before .before .before .before .before .before .before .args .n) = c .before .before .decimal .ensures .1 .1 ∙ decimal-digits _ _ (let h : c .before .before .before .before .before .before .before .before .before .before .args .n < 2 ^ 64 = omega (arith, c .before .before .before .before .before .before .before .before .before .before .fits .n) in h) (c .before .before .decimal .ensures .1 .0) in
-    omega (arith, ap length e, decimal-short (c .before .before .before .before .before .before .before .before .before .before .args .n), c .before .before .before .before .before .before .put .ensures .end, c .before .before .before .before .before .before .before .before .before .before .pre)
+    let e : take (c .before .before .decimal .result) (c .before .before .decimal .last .1 .0) ≡ decimal (c .before .before .before .before .before .before .before .before .before .before .args .n) = c .before .before .decimal .ensures .1 .1 ∙ decimal-digits _ _ (c .before .before .decimal .ensures .1 .0) in
+    omega (arith, ap length e, decimal-short (c .before .before .before .before .before .before .before .before .before .before .args .n) (let h : c .before .before .before .before .before .before .before .before .before .before .args .n < 2 ^ 64 = omega (arith, c .before .before .before .before .before .before .before .before .before .before .fits .n) in h), c .before .before .before .before .before .before .put .ensures .end, c .before .before .before .before .before .before .before .before .before .before .pre)
 
 -- src/lib.rt:29:1
 same-length : tie.Need-same-length
@@ -42,8 +42,8 @@ same-length c = search needs
 -- src/lib.rt:29:1
 returns : tie.Need-returns
 returns c =
-    let p = put-put (c .before .before .before .before .before .before .before .before .before .put .ensures) (put-same (c .before .before .before .before .before .decimal .ensures .1 .1 ∙ decimal-digits _ _ (let h : c .before .before .before .before .before .before .before .before .before .before .before .before .before .args .n < 2 ^ 64 = omega (arith, c .before .before .before .before .before .before .before .before .before .before .before .before .before .fits .n) in h) (c .before .before .before .before .before .decimal .ensures .1 .0)) (c .before .before .put2 .ensures)) in
-    (p, omega (arith, p .end, length-append (c .before .before .before .before .before .before .before .before .before .before .before .before .before .args .word .now) (decimal (c .before .before .before .before .before .before .before .before .before .before .before .before .before .args .n)), decimal-short (c .before .before .before .before .before .before .before .before .before .before .before .before .before .args .n)))
+    let p = put-put (c .before .before .before .before .before .before .before .before .before .put .ensures) (put-same (c .before .before .before .before .before .decimal .ensures .1 .1 ∙ decimal-digits _ _ (c .before .before .before .before .before .decimal .ensures .1 .0)) (c .before .before .put2 .ensures)) in
+    (p, omega (arith, p .end, length-append (c .before .before .before .before .before .before .before .before .before .before .before .before .before .args .word .now) (decimal (c .before .before .before .before .before .before .before .before .before .before .before .before .before .args .n)), decimal-short (c .before .before .before .before .before .before .before .before .before .before .before .before .before .args .n) (let h : c .before .before .before .before .before .before .before .before .before .before .before .before .before .args .n < 2 ^ 64 = omega (arith, c .before .before .before .before .before .before .before .before .before .before .before .before .before .fits .n) in h)))
 
 pub put-number-spec : {M : Type 1} → statement M
 put-number-spec =

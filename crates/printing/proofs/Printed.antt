@@ -21,15 +21,15 @@ use Rattle.script.specs.Jobs.{Job, number16}
 use Rattle.script.specs.Outcome.{Outcome, done, onward, refuse}
 use Rattle.script.specs.Reader.{readJob}
 use Rattle.stm.specs.Events.{countsOf}
 use Rattle.listing.specs.Listed.{listing, printed, jobRun, listed}
-use Rattle.listing.proofs.FirstBytes.{short-job}
+use Rattle.printing.proofs.FirstBytes.{short-job}
 
 module _ (job picks : List ℕ) (j : Job) (bytes : Bytes job) (accepted : readJob job ≡ done j) (few : length picks ≤ 32768) where
   -- the run of its code from a fresh state
   abbrev ran : Ran
   ran = run (sumOf j) (compiled j) (fresh (compiled j)) picks
 
-  taken : runOf (compiled j) (fresh (compiled j)) picks ≡ done ran
+  pub taken : runOf (compiled j) (fresh (compiled j)) picks ≡ done ran
   unfolding runOf
   taken =
       ap (λ (o : Outcome Job). onward o (λ (k : Job). fitting (compiled j) (fresh (compiled j)) (refuse (ltb 32768 (length picks)) 13 0 (done (run (sumOf k) (compiled j) (fresh (compiled j)) picks))))) (there-and-back (accepted-is-job job j bytes accepted))

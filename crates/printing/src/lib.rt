@@ -1,0 +1,1 @@
+// What a listing of the run program tells: theorems. No function.
