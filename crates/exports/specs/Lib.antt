@@ -1,0 +1,2 @@
+-- Answers in numbers.
+pub mod Written

@@ -1,0 +1,60 @@
+// The calls that write to a lent output, for C and Rust: numbers and slices only, answers as structs of numbers.
+ghost use mathlib.Core.Path.{_≡_};
+ghost use mathlib.Core.List.{List};
+ghost use Rattle.exports.specs.Written.{written, writing};
+ghost use Rattle.compiler.specs.CompileTo.{compileTo};
+ghost use Rattle.decompiler.specs.ReadBackTo.{readBackTo};
+ghost use Rattle.delivery.specs.Delivered.{delivered};
+ghost use Rattle.listing.specs.Listed.{listed};
+ghost use Rattle.script.specs.Outcome.{done};
+use delivery::Answer;
+
+// The answer: document 01's number of the refusal, 0 if there is none, and the place; the length of the result, 0 if it was refused.
+#[repr(C)]
+pub struct Written {
+    pub refusal: usize,
+    pub place: usize,
+    pub length: usize,
+}
+
+// An answer in numbers.
+fn numbers(answer: Answer) -> Written
+    ensures { λ r. ⌜ r ≡ writing answer ⌝ }
+{
+    match answer {
+        Answer::Done(length) => Written {
+            refusal: 0,
+            place: 0,
+            length,
+        },
+        Answer::Refused(number, place) => Written {
+            refusal: number as usize,
+            place,
+            length: 0,
+        },
+    }
+}
+
+// `compiler::compile`.
+#[no_mangle]
+pub extern "C" fn kuspigo_compile(job: &[u8], out: &mut [u8]) -> Written
+    ensures { λ r. ⌜ written (compileTo (now (job .entry)) (now (out .entry))) ≡ record { reply = r; output = now (out .exit) } ⌝ }
+{
+    numbers(compiler::compile(job, out))
+}
+
+// `compiler::read_back`.
+#[no_mangle]
+pub extern "C" fn kuspigo_read_back(code: &[u8], out: &mut [u8]) -> Written
+    ensures { λ r. ⌜ written (readBackTo (now (code .entry)) (now (out .entry))) ≡ record { reply = r; output = now (out .exit) } ⌝ }
+{
+    numbers(compiler::read_back(code, out))
+}
+
+// `listing::report`.
+#[no_mangle]
+pub extern "C" fn kuspigo_report(input: &[u8], out: &mut [u8]) -> Written
+    ensures { λ r. ⌜ written (delivered (done (listed (now (input .entry)))) (now (out .entry))) ≡ record { reply = r; output = now (out .exit) } ⌝ }
+{
+    numbers(listing::report(input, out))
+}
