@@ -318,6 +318,16 @@ pub record Cases : Type 0 where
   pub cut-listing : listed (0x00 ∷ 0x0C ∷ header 1 (0x01 ∷ 0x00 ∷ 0x00 ∷ [])) ≡ ascii "refused 1 at 12\n"
   pub cut-job-listing : listed (0x00 ∷ 0x03 ∷ 0x57 ∷ 0x53 ∷ 0x4A ∷ []) ≡ ascii "refused 1 at 3\n"
   pub no-listing : listed [] ≡ ascii "refused 1 at 0\n"
+  -- picks of a thread that has ended and of none; a number below 0 in register 63; eleven threads, each the child of the one before; a mark, a kind
+  pub idle-listing : listed (0x00 ∷ 0x0C ∷ (seven ++ (0 ∷ 0 ∷ 9 ∷ []))) ≡ ascii "steps 1 idle 2 commits 0 back 0\nthread 0 done 7\n"
+  pub held-listing :
+      listed (0x00 ∷ 0x0F ∷ (header 3 (0x03 ∷ 0x08 ∷ 0x3F ∷ 0x05 ∷ 0xFF ∷ 0xFF ∷ 0xFF ∷ 0xFB ∷ []) ++ replicate 4 0)) ≡
+      ascii "steps 4 idle 0 commits 1 back 0\nthread 0 done -5\nregister 63 -5\n"
+  pub eleven-listing :
+      listed (0x00 ∷ 0x16 ∷ (header 11 (replicate 10 0x04 ++ (0x01 ∷ 0x00 ∷ 0x00 ∷ 0x00 ∷ 0x01 ∷ [])) ++ (0 ∷ 1 ∷ 2 ∷ 3 ∷ 4 ∷ 5 ∷ 6 ∷ 7 ∷ 8 ∷ 9 ∷ []))) ≡
+      ascii "steps 10 idle 0 commits 0 back 0\nthread 0 done 0\nthread 1 done 0\nthread 2 done 0\nthread 3 done 0\nthread 4 done 0\nthread 5 done 0\nthread 6 done 0\nthread 7 done 0\nthread 8 done 0\nthread 9 done 0\nthread 10 open\n"
+  pub mark-listing : listed (0x00 ∷ 0x07 ∷ 0x57 ∷ 0x53 ∷ 0x43 ∷ 0x00 ∷ 0x01 ∷ 0x00 ∷ 0x01 ∷ []) ≡ ascii "refused 2 at 0\n"
+  pub kind-listing : listed (0x00 ∷ 0x08 ∷ header 1 (0x09 ∷ [])) ≡ ascii "refused 5 at 7\n"
   pub whole-steps : steps (ran wholeCode wholePicks) ≡ 21
   pub whole-idle : counted isIdle (ran wholeCode wholePicks .events) ≡ 0
   pub whole-commits : counted isCommit (ran wholeCode wholePicks .events) ≡ 2

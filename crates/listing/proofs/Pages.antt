@@ -86,12 +86,21 @@ tenth-below k n q = let e : 10 ^ suc (suc k) ≡ 10 ^ suc k * 10 = ten (suc k) i
 tenth-above : (k n : ℕ) → 10 ^ suc k ≤ n → 10 ^ k ≤ n / 10
 tenth-above k n q = let e : 10 ^ suc k ≡ 10 ^ k * 10 = ten k in omega (arith, q, e)
 
+-- a number's digits, by its size
+pub digits-by : (most n : ℕ) → digits (suc most) n ≡ cond (ltb n 10) ((48 + n) ∷ []) (digits most (n / 10) ++ ((48 + n % 10) ∷ []))
+unfolding digits
+digits-by most n = by-test (ltb n 10) refl
+  where
+    by-test : (t : Bool) → ltb n 10 ≡ t → digits (suc most) n ≡ cond (ltb n 10) ((48 + n) ∷ []) (digits most (n / 10) ++ ((48 + n % 10) ∷ []))
+    by-test true e = rw (digits, e) refl
+    by-test false e = rw (digits, e) refl
+
 -- a number below a power of ten has no more digits
 digits-short : (most k n : ℕ) → n < 10 ^ suc k → length (digits most n) ≤ suc k
 unfolding digits
 digits-short zero k n h = omega arith
-digits-short (suc most) zero n h = rw (lt-ltb n 10 (omega (arith, h))) (omega arith)
-digits-short (suc most) (suc k) n h = by-test (digits-short most k (n / 10) (tenth-below k n h)) (ltb n 10)
+digits-short (suc most) zero n h = rw (digits-by most n, lt-ltb n 10 (omega (arith, h))) (omega arith)
+digits-short (suc most) (suc k) n h = rw (digits-by most n) (by-test (digits-short most k (n / 10) (tenth-below k n h)) (ltb n 10))
   where
     by-test : length (digits most (n / 10)) ≤ suc k → (t : Bool) → length (cond t ((48 + n) ∷ []) (digits most (n / 10) ++ ((48 + n % 10) ∷ []))) ≤ suc (suc k)
     by-test r true = omega arith
@@ -109,11 +118,11 @@ spelt k zero n h u l = absurd (omega (arith, h))
 spelt zero (suc most) n h u l =
     let s : n < 10 = omega (arith, u) in
     let z : n % 10 ≡ n = omega (arith, s) in
-    rw (lt-ltb n 10 s) (ap (_∷ []) (glyph-is (n % 10) (omega arith) ∙ ap (48 +_) z))
+    rw (digits-by most n, lt-ltb n 10 s) (ap (_∷ []) (glyph-is (n % 10) (omega arith) ∙ ap (48 +_) z))
 spelt (suc k) (suc most) n h u l =
     let b : 10 ≤ n = at-least k n (l (omega arith)) in
     let r : io.digits 10 (suc k) (n / 10) ≡ digits most (n / 10) = spelt k most (n / 10) (omega (arith, h)) (tenth-below k n u) (λ q. tenth-above k n (l (omega arith))) in
-    rw (le-ltb n 10 b) (ap (_++ (io.glyph (n % 10) ∷ [])) r ∙ ap (λ (d : ℕ). digits most (n / 10) ++ (d ∷ [])) (glyph-is (n % 10) (omega arith)))
+    rw (digits-by most n, le-ltb n 10 b) (ap (_++ (io.glyph (n % 10) ∷ [])) r ∙ ap (λ (d : ℕ). digits most (n / 10) ++ (d ∷ [])) (glyph-is (n % 10) (omega arith)))
 
 -- a power of ten is above its exponent
 pub above : (k : ℕ) → k < 10 ^ k

@@ -2,7 +2,7 @@
 use Prim.Native.Nat.{ℕ, zero, suc, _+_, _/_, _%_}
 use Prim.Native.Char.{code}
 use Prim.Native.String.{String, [] as none, _∷_ as _then_}
-use mathlib.Core.Bool.{Bool, false, cond, _||_}
+use mathlib.Core.Bool.{Bool, true, false, cond, _||_}
 use mathlib.Core.List.{List, [], _∷_, _++_}
 use lib.Dec.{eqb, ltb}
 use lib.IntN.{ℤ, pos, negsuc}
@@ -25,7 +25,11 @@ ascii (c then s) = code c ∷ ascii s
 -- a number in decimal, of at most so many digits
 unfoldable pub digits : (most n : ℕ) → List ℕ
 digits zero n = []
-digits (suc most) n = cond (ltb n 10) ((48 + n) ∷ []) (digits most (n / 10) ++ ((48 + n % 10) ∷ []))
+digits (suc most) n =
+    elim (ltb n 10) [
+      | true ↦ (48 + n) ∷ []
+      | false ↦ digits most (n / 10) ++ ((48 + n % 10) ∷ [])
+    ]
 
 -- a number has fewer digits than one more than itself
 unfoldable pub decimal : ℕ → List ℕ

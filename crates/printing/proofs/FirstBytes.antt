@@ -49,7 +49,7 @@ short-job job j b e =
     omega (arith, l, short-proc (j .tree), i .within .few)
 
 -- more than 32,768 picks are refused, whatever they are
-refused-13 : (job picks : List ℕ) (j : Job) → Bytes job → readJob job ≡ done j → 32768 < length picks → runOf (compiled j) (fresh (compiled j)) picks ≡ refused 13 0
+pub refused-13 : (job picks : List ℕ) (j : Job) → Bytes job → readJob job ≡ done j → 32768 < length picks → runOf (compiled j) (fresh (compiled j)) picks ≡ refused 13 0
 unfolding runOf
 refused-13 job picks j b e h =
     ap (λ (o : Outcome Job). onward o (λ (k : Job). fitting (compiled j) (fresh (compiled j)) (refuse (ltb 32768 (length picks)) 13 0 (done (run (sumOf k) (compiled j) (fresh (compiled j)) picks))))) (there-and-back (accepted-is-job job j b e))

@@ -1,5 +1,5 @@
--- An accepted job with at most 32,768 picks is never refused. Assumes nothing.
-use Prim.Native.Nat.{ℕ, suc, _+_, _≤_}
+-- What an input prints: the refusal of its job, 13, or the listing of its run. Assumes nothing.
+use Prim.Native.Nat.{ℕ, suc, _+_, _<_, _≤_}
 use mathlib.Core.Bool.{Bool, not}
 use mathlib.Core.Path.{_≡_, ap, _∙_}
 use mathlib.Core.List.{List, _++_}
@@ -18,11 +18,44 @@ use Rattle.script.proofs.Accepts.{accepted-is-job}
 use Rattle.script.proofs.Numbers.{number16-bytes16}
 use Rattle.script.specs.Bytes.{Bytes, bytes16}
 use Rattle.script.specs.Jobs.{Job, number16}
-use Rattle.script.specs.Outcome.{Outcome, done, onward, refuse}
+use Rattle.script.specs.Outcome.{Outcome, refused, done, onward, refuse}
 use Rattle.script.specs.Reader.{readJob}
 use Rattle.stm.specs.Events.{countsOf}
-use Rattle.listing.specs.Listed.{listing, printed, jobRun, listed}
-use Rattle.printing.proofs.FirstBytes.{short-job}
+use Rattle.listing.specs.Listed.{listing, printed, jobRun, listed, refusalLine}
+use Rattle.printing.proofs.FirstBytes.{short-job, refused-13}
+
+-- an input that has a job and picks prints what they do
+abbrev inputOf : (job picks : List ℕ) → List ℕ
+inputOf job picks = bytes16 (length job) ++ (job ++ picks)
+
+pub listed-job : (job picks : List ℕ) → length job < 65536 → listed (inputOf job picks) ≡ printed (jobRun job picks)
+unfolding listed bytes16
+listed-job job picks small =
+    let input = inputOf job picks in
+    let n : number16 input 0 ≡ length job = number16-bytes16 (length job) (omega (arith, small)) (job ++ picks) in
+    let l : length input ≡ 2 + (length job + length picks) = sized in
+    rw (le-ltb (length input) 2 (omega (arith, l)), le-ltb (length input) (2 + number16 input 0) (omega (arith, l, n)))
+    (ap (λ (m : ℕ). printed (jobRun (take m (drop 2 input)) (drop (2 + m) input))) n ∙ ap (λ (b : List ℕ). printed (jobRun b (drop (2 + length job) input))) front ∙ ap (λ (p : List ℕ). printed (jobRun job p)) behind)
+  where
+    sized : length (inputOf job picks) ≡ 2 + (length job + length picks)
+    sized = let l : length (job ++ picks) ≡ length job + length picks = length-append job picks in omega (arith, l)
+
+    front : take (length job) (drop 2 (inputOf job picks)) ≡ job
+    front = take-append-seam job picks
+
+    behind : drop (2 + length job) (inputOf job picks) ≡ picks
+    behind = ap (λ (m : ℕ). drop m (inputOf job picks)) (let z : 2 + length job ≡ suc (suc (length job)) = omega arith in z) ∙ drop-append-seam job picks
+
+-- a job that is refused, with any picks: "`refused N at P`"
+pub refused-listed : (job picks : List ℕ) (number place : ℕ) → length job < 65536 → readJob job ≡ refused number place → listed (inputOf job picks) ≡ refusalLine number place
+unfolding jobRun printed
+refused-listed job picks number place small e = listed-job job picks small ∙ ap (λ (o : Outcome Job). printed (onward o (λ (k : Job). runOf (compiled k) (fresh (compiled k)) picks))) e
+
+-- an accepted job with more than 32,768 picks
+pub long-listed : (job picks : List ℕ) (j : Job) → Bytes job → readJob job ≡ done j → 32768 < length picks → listed (inputOf job picks) ≡ refusalLine 13 0
+unfolding jobRun printed
+long-listed job picks j b e long =
+    listed-job job picks (omega (arith, short-job job j b e)) ∙ ap (λ (o : Outcome Job). printed (onward o (λ (k : Job). runOf (compiled k) (fresh (compiled k)) picks))) e ∙ ap printed (refused-13 job picks j b e long)
 
 module _ (job picks : List ℕ) (j : Job) (bytes : Bytes job) (accepted : readJob job ≡ done j) (few : length picks ≤ 32768) where
   -- the run of its code from a fresh state
@@ -42,21 +75,5 @@ module _ (job picks : List ℕ) (j : Job) (bytes : Bytes job) (accepted : readJo
   accepted-listed = ap (λ (o : Outcome Job). printed (onward o (λ (k : Job). runOf (compiled k) (fresh (compiled k)) picks))) accepted ∙ ap printed taken
 
   -- of an input that has the job and the picks
-  pub accepted-input : listed (bytes16 (length job) ++ (job ++ picks)) ≡ listing (countsOf (ran .events)) (ran .state)
-  unfolding listed bytes16
-  accepted-input =
-      let input = bytes16 (length job) ++ (job ++ picks) in
-      let few : length job ≤ 5007 = short-job job j bytes accepted in
-      let n : number16 input 0 ≡ length job = number16-bytes16 (length job) (omega (arith, few)) (job ++ picks) in
-      let l : length input ≡ 2 + (length job + length picks) = sized in
-      rw (le-ltb (length input) 2 (omega (arith, l)), le-ltb (length input) (2 + number16 input 0) (omega (arith, l, n)))
-      (ap (λ (m : ℕ). printed (jobRun (take m (drop 2 input)) (drop (2 + m) input))) n ∙ ap (λ (b : List ℕ). printed (jobRun b (drop (2 + length job) input))) front ∙ ap (λ (p : List ℕ). printed (jobRun job p)) behind ∙ accepted-listed)
-    where
-      sized : length (bytes16 (length job) ++ (job ++ picks)) ≡ 2 + (length job + length picks)
-      sized = let l : length (job ++ picks) ≡ length job + length picks = length-append job picks in omega (arith, l)
-
-      front : take (length job) (drop 2 (bytes16 (length job) ++ (job ++ picks))) ≡ job
-      front = take-append-seam job picks
-
-      behind : drop (2 + length job) (bytes16 (length job) ++ (job ++ picks)) ≡ picks
-      behind = ap (λ (m : ℕ). drop m (bytes16 (length job) ++ (job ++ picks))) (let z : 2 + length job ≡ suc (suc (length job)) = omega arith in z) ∙ drop-append-seam job picks
+  pub accepted-input : listed (inputOf job picks) ≡ listing (countsOf (ran .events)) (ran .state)
+  accepted-input = listed-job job picks (omega (arith, short-job job j bytes accepted)) ∙ accepted-listed

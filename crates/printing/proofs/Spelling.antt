@@ -10,7 +10,7 @@ use lib.Dec.{eqb, ltb, lit<}
 use lib.IntN.{ℤ, pos, negsuc}
 use lib.ListN.{length, drop, getD, length-append}
 use Rattle.listing.specs.Listed.{digits, decimal, integer}
-use Rattle.listing.proofs.Pages.{above}
+use Rattle.listing.proofs.Pages.{above, digits-by}
 
 -- the number that digits spell, behind a number
 unfoldable valueFrom : ℕ → List ℕ → ℕ
@@ -25,7 +25,7 @@ value-snoc n (x ∷ ds) d = value-snoc (n * 10 + (x - 48)) ds d
 digits-value : (most n : ℕ) → n < 10 ^ most → valueFrom 0 (digits most n) ≡ n
 unfolding valueFrom digits
 digits-value zero n h = omega (arith, h)
-digits-value (suc most) n h = by-test (digits-value most (n / 10) (let e : 10 ^ suc most ≡ 10 ^ most * 10 = pow-suc 10 most in omega (arith, h, e))) (ltb n 10)
+digits-value (suc most) n h = rw (digits-by most n) (by-test (digits-value most (n / 10) (let e : 10 ^ suc most ≡ 10 ^ most * 10 = pow-suc 10 most in omega (arith, h, e))) (ltb n 10))
   where
     by-test : valueFrom 0 (digits most (n / 10)) ≡ n / 10 → (t : Bool) → valueFrom 0 (cond t ((48 + n) ∷ []) (digits most (n / 10) ++ ((48 + n % 10) ∷ []))) ≡ n
     by-test r true = omega arith
@@ -43,7 +43,7 @@ decimal-told a b e = sym (value a) ∙ ap (valueFrom 0) e ∙ value b
 lead : (most n : ℕ) → 48 ≤ getD (digits most n) 0 48
 unfolding digits
 lead zero n = omega arith
-lead (suc most) n = by-test (lead most (n / 10)) (ltb n 10)
+lead (suc most) n = rw (digits-by most n) (by-test (lead most (n / 10)) (ltb n 10))
   where
     snoc : (ds : List ℕ) (d : ℕ) → 48 ≤ d → 48 ≤ getD ds 0 48 → 48 ≤ getD (ds ++ (d ∷ [])) 0 48
     snoc [] d h k = h
@@ -95,7 +95,7 @@ free-snoc z (c ∷ l) d f n = by-test (eqb c z) f (λ e. free-snoc z l d e n)
 digits-free : (z most n : ℕ) → z < 48 → free z (digits most n) ≡ true
 unfolding digits free
 digits-free z zero n h = refl
-digits-free z (suc most) n h = by-test (digits-free z most (n / 10) h) (ltb n 10)
+digits-free z (suc most) n h = rw (digits-by most n) (by-test (digits-free z most (n / 10) h) (ltb n 10))
   where
     by-test : free z (digits most (n / 10)) ≡ true → (t : Bool) → free z (cond t ((48 + n) ∷ []) (digits most (n / 10) ++ ((48 + n % 10) ∷ []))) ≡ true
     by-test k true = rw (ne-eqb (48 + n) z (λ e. omega (arith, e, h))) refl
