@@ -1,5 +1,5 @@
 -- Why the reader's loop follows `readNodes`.
 pub mod Tests
-pub mod Advance
 pub mod Walk
 pub mod Header
+pub mod Advance

@@ -12,9 +12,9 @@ use borrow.Author.Tests.{le-leb, lt-leb, eq-eqb, ne-eqb, le-ltb, ltb-false}
 use Rattle.job.specs.declared.Tested.the-variants.{Kind, Refused}
 use Rattle.job.specs.declared.Reading.{Reading}
 use Rattle.job.specs.declared.Reading.the-variants as reading
-use Rattle.job.specs.declared.Reader.{Reader}
+use Rattle.job.specs.declared.Cursor.{Cursor}
 use Rattle.job.specs.Answer.{answer}
-use Rattle.job.specs.InnerScan.{kindByte, tested, codeOfKind, rootDue, duePushed, partDepth, popped, advanced, CanAdvance, heldPart, dueOf}
+use Rattle.job.specs.InnerScan.{kindByte, tested, codeOfKind, Reader, joined, firstCursor, partDepth, advanced, CanAdvance, heldPart, dueOf}
 use Rattle.script.specs.Tree.{Sort, process, transaction}
 use Rattle.script.specs.Count.{codeT, codeP, codeLength, codeSize}
 use Rattle.script.specs.Bytes.{Bytes, bytes32, Node, VALP, ADDP, ATOMIC, FORK, VALT, ADDT, READ, WRITE, nodeBytes}
@@ -90,8 +90,12 @@ comes version before left forks place ds bs = told version before ds (readNodes 
 pub ahead : (version : ℕ) → List ℕ → Reader → Reading
 ahead version job s = comes version (s .code) (s .left) (s .forks) (s .place) (dueOf (s .due) (s .height)) (drop (s .place) job)
 
+-- before the first node: the root is due, at depth 1
+abbrev pub rootDue : ℕ → Reader
+rootDue count = joined (firstCursor count) (set (replicate 65 0) 0 1)
+
 pub ahead-start : (version : ℕ) (job : List ℕ) (count : ℕ) → ahead version job (rootDue count) ≡ answer (whole version (readNodes count root 0 7 (drop 7 job)))
-unfolding ahead comes rootDue dueOf heldPart
+unfolding ahead comes dueOf heldPart
 ahead-start version job count = told-root version (readNodes count root 0 7 (drop 7 job))
 
 -- ---- one node is read
@@ -105,30 +109,32 @@ top-due a (suc n) h = let e : suc n - 1 ≡ n = omega arith in rw e
 abbrev pub level : Reader → ℕ
 level s = getD (s .due) (s .height - 1) 0 % 128
 
-two-due : (a : List ℕ) (n b : ℕ) → n + 1 < length a → dueOf (set (set a n b) (n + 1) b) (n + 1 + 1) ≡ heldPart b ∷ heldPart b ∷ dueOf a n
-two-due a n b h =
-    due-push (set a n b) (n + 1) b (rw (length-set a n b) h) ∙ ap (λ (l : List Due). heldPart b ∷ l) (due-push a n b (omega arith))
+one-due : (a : List ℕ) (n b : ℕ) → 1 ≤ n → n ≤ length a → dueOf (set a (n - 1) b) n ≡ heldPart b ∷ dueOf a (n - 1)
+one-due a n b some h = ap (dueOf (set a (n - 1) b)) (let z : n ≡ n - 1 + 1 = omega (arith, some) in z) ∙ due-push a (n - 1) b (omega (arith, some, h))
+
+two-due : (a : List ℕ) (n b : ℕ) → 1 ≤ n → n < length a → dueOf (set (set a (n - 1) b) n b) (n + 1) ≡ heldPart b ∷ heldPart b ∷ dueOf a (n - 1)
+two-due a n b some h = due-push (set a (n - 1) b) n b (rw (length-set a (n - 1) b) h) ∙ ap (heldPart b ∷_) (one-due a n b some (omega (arith, h)))
 
 module _ (s : Reader) (some : 1 ≤ s .height) (room : s .height ≤ 64) (long : length (s .due) ≡ 65) (shallow : level s ≤ 64) where
-  advance-due : {t : Sort} (node : Node t) → dueOf (advanced s (kindByte node) .due) (advanced s (kindByte node) .height) ≡ partsThen node (level s) (dueOf (s .due) (s .height - 1))
-  unfolding advanced kindByte duePushed popped
+  advance-due : {t : Sort} (node : Node t) → dueOf (advanced s (kindByte node) (partDepth s) .due) (advanced s (kindByte node) (partDepth s) .height) ≡ partsThen node (level s) (dueOf (s .due) (s .height - 1))
+  unfolding advanced kindByte
   advance-due (VALP z) = refl
   advance-due ADDP =
-      two-due (s .due) (s .height - 1) (partDepth s) (omega arith)
+      two-due (s .due) (s .height) (partDepth s) some (omega (arith, long, room))
       ∙ ap (λ (d : Due). d ∷ d ∷ dueOf (s .due) (s .height - 1)) (part-process (level s) shallow)
   advance-due ATOMIC =
-      due-push (s .due) (s .height - 1) (partDepth s + 128) (omega arith)
+      one-due (s .due) (s .height) (partDepth s + 128) some (omega (arith, long, room))
       ∙ ap (λ (d : Due). d ∷ dueOf (s .due) (s .height - 1)) (part-transaction (level s) shallow)
   advance-due FORK =
-      due-push (s .due) (s .height - 1) (partDepth s) (omega arith)
+      one-due (s .due) (s .height) (partDepth s) some (omega (arith, long, room))
       ∙ ap (λ (d : Due). d ∷ dueOf (s .due) (s .height - 1)) (part-process (level s) shallow)
   advance-due (VALT z) = refl
   advance-due ADDT =
-      two-due (s .due) (s .height - 1) (partDepth s + 128) (omega arith)
+      two-due (s .due) (s .height) (partDepth s + 128) some (omega (arith, long, room))
       ∙ ap (λ (d : Due). d ∷ d ∷ dueOf (s .due) (s .height - 1)) (part-transaction (level s) shallow)
   advance-due (READ v) = refl
   advance-due (WRITE v) =
-      due-push (s .due) (s .height - 1) (partDepth s + 128) (omega arith)
+      one-due (s .due) (s .height) (partDepth s + 128) some (omega (arith, long, room))
       ∙ ap (λ (d : Due). d ∷ dueOf (s .due) (s .height - 1)) (part-transaction (level s) shallow)
 
 size : {t : Sort} (node : Node t) → length (nodeBytes node) ≡ suc (operand (kindByte node))
@@ -142,6 +148,18 @@ size ADDT = refl
 size (READ v) = refl
 size (WRITE v) = refl
 
+-- a node's kind byte is 1 to 8
+kind-known : {t : Sort} (node : Node t) → (1 ≤ kindByte node) × (kindByte node ≤ 8)
+unfolding kindByte
+kind-known (VALP z) = (omega arith, omega arith)
+kind-known ADDP = (omega arith, omega arith)
+kind-known ATOMIC = (omega arith, omega arith)
+kind-known FORK = (omega arith, omega arith)
+kind-known (VALT z) = (omega arith, omega arith)
+kind-known ADDT = (omega arith, omega arith)
+kind-known (READ v) = (omega arith, omega arith)
+kind-known (WRITE v) = (omega arith, omega arith)
+
 -- what else `advanced` changes
 pub record CountsRead (s : Reader) {t : Sort} (node : Node t) (a : Reader) : Type 0 where
   pub left : a .left ≡ s .left - 1
@@ -150,8 +168,8 @@ pub record CountsRead (s : Reader) {t : Sort} (node : Node t) (a : Reader) : Typ
   pub code : a .code ≡ s .code + codeOfKind (kindByte node)
   pub small : codeOfKind (kindByte node) ≤ 5
 
-advance-counts : (s : Reader) {t : Sort} (node : Node t) → CountsRead s node (advanced s (kindByte node))
-unfolding advanced kindByte duePushed popped forkOf nodeBytes bytes32 operand codeOfKind
+advance-counts : (s : Reader) {t : Sort} (node : Node t) → CountsRead s node (advanced s (kindByte node) (partDepth s))
+unfolding advanced kindByte forkOf nodeBytes bytes32 operand codeOfKind
 advance-counts s (VALP z) = record { left = refl; forks = omega arith; place = omega arith; code = refl; small = omega arith }
 advance-counts s ADDP = record { left = refl; forks = omega arith; place = omega arith; code = refl; small = omega arith }
 advance-counts s ATOMIC = record { left = refl; forks = omega arith; place = omega arith; code = refl; small = omega arith }
@@ -180,7 +198,6 @@ pub record ReaderInv (job : List ℕ) (version count : ℕ) (s : Reader) : Type 
   pub same : ahead version job s ≡ answer (whole version (readNodes count root 0 7 (drop 7 job)))
 
 pub inv-start : (job : List ℕ) (version count : ℕ) → 7 ≤ length job → count ≤ 1000 → ReaderInv job version count (rootDue count)
-unfolding rootDue
 inv-start job version count h c =
     record {
       fit = record {
@@ -193,11 +210,11 @@ inv-start job version count h c =
       same = ahead-start version job count;
     }
   where
-    first-high : (i : ℕ) → i < 1 → i < getD (1 ∷ replicate 64 0) i 0 % 128
+    first-high : (i : ℕ) → i < 1 → i < getD (set (replicate 65 0) 0 1) i 0 % 128
     first-high zero l = omega arith
     first-high (suc i) l = absurd (omega arith)
 
-    first-low : (i : ℕ) → i < 1 → getD (1 ∷ replicate 64 0) i 0 % 128 ≤ 65
+    first-low : (i : ℕ) → i < 1 → getD (set (replicate 65 0) 0 1) i 0 % 128 ≤ 65
     first-low zero l = omega arith
     first-low (suc i) l = absurd (omega arith)
 
@@ -230,16 +247,17 @@ module _ (job : List ℕ) (s : Reader) (some : 1 ≤ s .height) (f : ReaderFits 
   rest-stairs : Stairs (s .due) (s .height - 1)
   rest-stairs = stairs-less (s .height - 1) (omega arith) (f .stairs)
 
-  one-stair : (v : ℕ) → v % 128 ≡ level s + 1 → Stairs (set (s .due) (s .height - 1) v) (s .height - 1 + 1)
+  one-stair : (v : ℕ) → v % 128 ≡ level s + 1 → Stairs (set (s .due) (s .height - 1) v) (s .height)
   one-stair v e =
-      stairs-push v (omega (arith, f .long, room)) (omega (arith, f .stairs .high (s .height - 1) (omega arith))) (omega arith) rest-stairs
+      subst (Stairs (set (s .due) (s .height - 1) v)) (let z : s .height - 1 + 1 ≡ s .height = omega (arith, some) in z)
+      (stairs-push v (omega (arith, f .long, room)) (omega (arith, f .stairs .high (s .height - 1) (omega arith))) (omega arith) rest-stairs)
 
-  two-stairs : (v : ℕ) → v % 128 ≡ level s + 1 → Stairs (set (set (s .due) (s .height - 1) v) (s .height - 1 + 1) v) (s .height - 1 + 1 + 1)
+  two-stairs : (v : ℕ) → v % 128 ≡ level s + 1 → Stairs (set (set (s .due) (s .height - 1) v) (s .height) v) (s .height + 1)
   two-stairs v e =
       stairs-push v (rw (length-set (s .due) (s .height - 1) v) (omega (arith, f .long, room))) (omega (arith, f .stairs .high (s .height - 1) (omega arith))) (omega arith) (one-stair v e)
 
-  advance-stairs : {t : Sort} (node : Node t) → Stairs (advanced s (kindByte node) .due) (advanced s (kindByte node) .height)
-  unfolding advanced kindByte duePushed popped
+  advance-stairs : {t : Sort} (node : Node t) → Stairs (advanced s (kindByte node) (partDepth s) .due) (advanced s (kindByte node) (partDepth s) .height)
+  unfolding advanced kindByte
   advance-stairs (VALP z) = rest-stairs
   advance-stairs ADDP = two-stairs (partDepth s) (omega arith)
   advance-stairs ATOMIC = one-stair (partDepth s + 128) (omega arith)
@@ -249,8 +267,8 @@ module _ (job : List ℕ) (s : Reader) (some : 1 ≤ s .height) (f : ReaderFits 
   advance-stairs (READ v) = rest-stairs
   advance-stairs (WRITE v) = one-stair (partDepth s + 128) (omega arith)
 
-  advance-long : {t : Sort} (node : Node t) → length (advanced s (kindByte node) .due) ≡ 65
-  unfolding advanced kindByte duePushed popped
+  advance-long : {t : Sort} (node : Node t) → length (advanced s (kindByte node) (partDepth s) .due) ≡ 65
+  unfolding advanced kindByte
   advance-long (VALP z) = f .long
   advance-long ADDP = simp length-set (f .long)
   advance-long ATOMIC = simp length-set (f .long)
@@ -380,36 +398,52 @@ module _ (job : List ℕ) (version count : ℕ) (s : Reader) (b : Bytes job) (in
     unfolding heldPart
     facts node e = passed (top .sort) (level s) (s .forks) (s .place) (drop (s .place) job) node (bytes-drop (s .place) b) (inv .fit .few) e
 
-    follows : 1 ≤ s .left → (node : Node (top .sort)) → due-node job s ≡ done node → level s ≤ 64 → CountsRead s node (advanced s (kindByte node)) → ahead version job (advanced s (kindByte node)) ≡ final
+    follows : 1 ≤ s .left → (node : Node (top .sort)) → due-node job s ≡ done node → level s ≤ 64 → CountsRead s node (advanced s (kindByte node) (partDepth s)) → ahead version job (advanced s (kindByte node) (partDepth s)) ≡ final
     unfolding ahead heldPart
     follows l node o flat c =
         let d : dueOf (s .due) (s .height) ≡ top ∷ others = top-due (s .due) (s .height) some in
         let n : s .left ≡ suc (s .left - 1) = omega arith in
         let a = advance-due s some (room job s some (inv .fit) flat) (inv .fit .long) flat node in
-        let t : drop (advanced s (kindByte node) .place) job ≡ drop (length (nodeBytes node)) (drop (s .place) job) = ap (λ (q : ℕ). drop q job) (c .place) ∙ sym (drop-drop (length (nodeBytes node)) (s .place) job) in
+        let t : drop (advanced s (kindByte node) (partDepth s) .place) job ≡ drop (length (nodeBytes node)) (drop (s .place) job) = ap (λ (q : ℕ). drop q job) (c .place) ∙ sym (drop-drop (length (nodeBytes node)) (s .place) job) in
         cc (still, comes-on version (s .code) (s .left - 1) (s .forks) (s .place) top others (drop (s .place) job) node o)
 
-    pub node-ready : length job < 18446744073709551616 → 1 ≤ s .left → (kind : ℕ) → tested (due-node job s) ≡ Kind kind → CanAdvance s kind
-    node-ready small l kind e =
+    pub node-ready : (c : Cursor) (due : List ℕ) → s ≡ joined c due → length job < 18446744073709551616 → 1 ≤ s .left → (kind : ℕ) → tested (due-node job s) ≡ Kind kind → CanAdvance c kind (partDepth s)
+    node-ready c due is small l kind e =
         let k = found-kind (due-node job s) kind e in
         let p = facts (k .0) (k .1) in
         record {
-          some = some;
-          room = room job s some (inv .fit) (p .flat);
-          uncounted = l;
-          shallow = p .flat;
-          few = inv .fit .few;
-          early = omega (arith, p .fits, length-drop (s .place) job, inv .fit .inside, size (k .0), ap operand (k .2));
-          short = omega (arith, inv .fit .short);
+          some = omega (arith, ap height is, some);
+          room = omega (arith, ap height is, room job s some (inv .fit) (p .flat));
+          uncounted = omega (arith, ap left is, l);
+          few = omega (arith, ap forks is, inv .fit .few);
+          early = omega (arith, ap place is, p .fits, length-drop (s .place) job, inv .fit .inside, size (k .0), ap operand (k .2));
+          short = omega (arith, ap code is, inv .fit .short);
+          known = subst (λ (n : ℕ). (1 ≤ n) × (n ≤ 8)) (k .2) (kind-known (k .0));
+          shallow = omega (arith, p .flat);
         }
+      where
+        height : Reader → ℕ
+        height r = r .height
 
-    pub node-read : 1 ≤ s .left → (kind : ℕ) → tested (due-node job s) ≡ Kind kind → ReaderInv job version count (advanced s kind)
+        left : Reader → ℕ
+        left r = r .left
+
+        forks : Reader → ℕ
+        forks r = r .forks
+
+        place : Reader → ℕ
+        place r = r .place
+
+        code : Reader → ℕ
+        code r = r .code
+
+    pub node-read : 1 ≤ s .left → (kind : ℕ) → tested (due-node job s) ≡ Kind kind → ReaderInv job version count (advanced s kind (partDepth s))
     node-read l kind e =
         let k = found-kind (due-node job s) kind e in
         let p = facts (k .0) (k .1) in
-        subst (λ (n : ℕ). ReaderInv job version count (advanced s n)) (k .2) (read (k .0) (k .1) p (advance-counts s (k .0)))
+        subst (λ (n : ℕ). ReaderInv job version count (advanced s n (partDepth s))) (k .2) (read (k .0) (k .1) p (advance-counts s (k .0)))
       where
-        read : (node : Node (top .sort)) → due-node job s ≡ done node → PassedTests (level s) (s .forks) (drop (s .place) job) node → CountsRead s node (advanced s (kindByte node)) → ReaderInv job version count (advanced s (kindByte node))
+        read : (node : Node (top .sort)) → due-node job s ≡ done node → PassedTests (level s) (s .forks) (drop (s .place) job) node → CountsRead s node (advanced s (kindByte node) (partDepth s)) → ReaderInv job version count (advanced s (kindByte node) (partDepth s))
         read node o p c =
             record {
               fit = record {

@@ -3,10 +3,10 @@ use Prim.Native.Nat.{ℕ, zero, suc, _+_, _-_, _%_, _≤_, _<_}
 use mathlib.Core.Bool.{Bool, true, false, cond, _||_}
 use mathlib.Core.List.{List, [], _∷_}
 use lib.Dec.{eqb, leb}
-use lib.ListN.{getD, set, replicate}
+use lib.ListN.{getD, set}
 use Rattle.job.specs.declared.Tested.{Tested}
 use Rattle.job.specs.declared.Tested.the-variants.{Kind, Refused}
-use Rattle.job.specs.declared.Reader.{Reader}
+use Rattle.job.specs.declared.Cursor.{Cursor}
 use Rattle.script.specs.Tree.{Sort, process, transaction}
 use Rattle.script.specs.Bytes.{Node, VALP, ADDP, ATOMIC, FORK, VALT, ADDT, READ, WRITE}
 use Rattle.script.specs.Outcome.{Outcome, refused, done}
@@ -36,64 +36,97 @@ tested (done node) = Kind (kindByte node)
 unfoldable pub codeOfKind : ℕ → ℕ
 codeOfKind kind = cond (eqb kind 1 || eqb kind 5) 5 (cond (eqb kind 2 || eqb kind 6) 1 (cond (eqb kind 4) 3 2))
 
--- before the first node: the root is due, at depth 1
-unfoldable pub rootDue : ℕ → Reader
-rootDue count = record { due = 1 ∷ replicate 64 0; height = 1; left = count; forks = 0; place = 7; code = 5 }
+-- how far the reader has come: its cursor, and the array of what is due
+pub record Reader : Type 0 where
+  pub due : List ℕ
+  pub height : ℕ
+  pub left : ℕ
+  pub forks : ℕ
+  pub place : ℕ
+  pub code : ℕ
 
--- one part more is due
-unfoldable pub duePushed : Reader → ℕ → Reader
-duePushed s part =
+abbrev pub joined : Cursor → List ℕ → Reader
+joined c due = record { due = due; height = c .height; left = c .left; forks = c .forks; place = c .place; code = c .code }
+
+-- before the first node: the root is due, at depth 1
+abbrev pub firstCursor : ℕ → Cursor
+firstCursor count = record { height = 1; left = count; forks = 0; place = 7; code = 5 }
+
+-- the node on top, of so many bytes and bytes of code, is read: it has no parts, one or two, which become due
+abbrev pub withNone : Reader → (size code : ℕ) → Reader
+withNone s size code =
     record {
-      due = set (s .due) (s .height) part;
-      height = s .height + 1;
-      left = s .left;
+      due = s .due;
+      height = s .height - 1;
+      left = s .left - 1;
       forks = s .forks;
-      place = s .place;
-      code = s .code;
+      place = s .place + size;
+      code = s .code + code;
+    }
+
+abbrev pub withOne : Reader → (part forks size code : ℕ) → Reader
+withOne s part forks size code =
+    record {
+      due = set (s .due) (s .height - 1) part;
+      height = s .height;
+      left = s .left - 1;
+      forks = s .forks + forks;
+      place = s .place + size;
+      code = s .code + code;
+    }
+
+abbrev pub withTwo : Reader → (part : ℕ) → Reader
+withTwo s part =
+    record {
+      due = set (set (s .due) (s .height - 1) part) (s .height) part;
+      height = s .height + 1;
+      left = s .left - 1;
+      forks = s .forks;
+      place = s .place + 1;
+      code = s .code + 1;
     }
 
 -- the depth of the parts of the node on top
 abbrev pub partDepth : Reader → ℕ
 partDepth s = getD (s .due) (s .height - 1) 0 % 128 + 1
 
--- the node on top is read
-unfoldable pub popped : Reader → ℕ → ℕ → Reader
-popped s kind forks =
-    record {
-      due = s .due;
-      height = s .height - 1;
-      left = s .left - 1;
-      forks = forks;
-      place = s .place + 1 + operand kind;
-      code = s .code + codeOfKind kind;
-    }
-
--- and its parts become due
-unfoldable pub advanced : Reader → ℕ → Reader
-advanced s kind =
+-- the node on top is read, and its parts become due at this depth
+unfoldable pub advanced : Reader → (kind depth : ℕ) → Reader
+advanced s kind depth =
     cond
     (eqb kind 2)
-    (duePushed (duePushed (popped s kind (s .forks)) (partDepth s)) (partDepth s))
+    (withTwo s depth)
     (cond
     (eqb kind 3)
-    (duePushed (popped s kind (s .forks)) (partDepth s + 128))
+    (withOne s (depth + 128) 0 1 2)
     (cond
     (eqb kind 4)
-    (duePushed (popped s kind (s .forks + 1)) (partDepth s))
+    (withOne s depth 1 1 3)
     (cond
     (eqb kind 6)
-    (duePushed (duePushed (popped s kind (s .forks)) (partDepth s + 128)) (partDepth s + 128))
-    (cond (eqb kind 8) (duePushed (popped s kind (s .forks)) (partDepth s + 128)) (popped s kind (s .forks))))))
+    (withTwo s (depth + 128))
+    (cond (eqb kind 7) (withNone s 2 2) (cond (eqb kind 8) (withOne s (depth + 128) 0 2 2) (withNone s 5 5))))))
 
--- what `advance` needs of the state
-pub record CanAdvance (s : Reader) (kind : ℕ) : Type 0 where
-  pub some : 1 ≤ s .height
-  pub room : s .height ≤ 64
-  pub uncounted : 1 ≤ s .left
-  pub shallow : getD (s .due) (s .height - 1) 0 % 128 ≤ 64
-  pub few : s .forks ≤ 15
-  pub early : s .place + 1 + operand kind < 18446744073709551616
-  pub short : s .code ≤ 6000
+-- what reading a node of so many bytes and bytes of code needs of the cursor
+pub record CanRead (c : Cursor) (size code : ℕ) : Type 0 where
+  pub some : 1 ≤ c .height
+  pub room : c .height ≤ 64
+  pub uncounted : 1 ≤ c .left
+  pub few : c .forks ≤ 15
+  pub early : c .place + size < 18446744073709551616
+  pub short : c .code ≤ 6000
+  pub small : code ≤ 5
+
+-- what `advance` needs of it
+pub record CanAdvance (c : Cursor) (kind depth : ℕ) : Type 0 where
+  pub some : 1 ≤ c .height
+  pub room : c .height ≤ 64
+  pub uncounted : 1 ≤ c .left
+  pub few : c .forks ≤ 15
+  pub early : c .place + 1 + operand kind < 18446744073709551616
+  pub short : c .code ≤ 6000
+  pub known : (1 ≤ kind) × (kind ≤ 8)
+  pub shallow : depth ≤ 65
 
 -- the parts that are due, the topmost first: the depth of each, and 128 more for a transaction
 unfoldable pub heldPart : ℕ → Due

@@ -1,11 +1,12 @@
 // The job reader: which bytes are a job, and what is refused with which number at which place.
-ghost use Prim.Native.Nat.{_+_, _<_, _≤_};
+ghost use Prim.Native.Nat.{ℕ, _+_, _<_, _≤_};
 ghost use lib.Dec.{eqb, leb, ltb};
 ghost use lib.ListN.{drop, length};
 ghost use mathlib.Core.Bool.{_&&_, _||_};
+ghost use mathlib.Core.List.{List};
 ghost use mathlib.Core.Path.{_≡_};
 ghost use Rattle.job.specs.Answer.{answer};
-ghost use Rattle.job.specs.InnerScan.{CanAdvance, advanced, codeOfKind, tested, duePushed, sortOf, rootDue};
+ghost use Rattle.job.specs.InnerScan.{CanAdvance, CanRead, advanced, firstCursor, joined, sortOf, tested, withNone, withOne, withTwo};
 ghost use Rattle.script.specs.Jobs.{root, operand as size};
 ghost use Rattle.script.specs.Reader.{nodeAt, readJob, readNodes, whole, permitted as may};
 
@@ -23,12 +24,13 @@ enum Tested {
     Refused(u8, usize),
 }
 
-// How far the reader has come. A part that is due is held as the depth of its node, and 128 more for a transaction.
-struct Reader {
-    due: [u8; 65],
+// How far the reader has come: how many parts are due, how many nodes are left of the count, how many FORKs there were, where the next
+// node is due, and how many bytes of code there are so far. The parts that are due stand beside it, each as the depth of its node, and 128 more for a
+// transaction.
+struct Cursor {
     height: usize,
     left: usize,
-    forks: u8,
+    forks: usize,
     place: usize,
     code: usize,
 }
@@ -55,20 +57,8 @@ fn operand(kind: u8) -> usize
     }
 }
 
-// How many bytes of code a node of this kind adds.
-fn code_bytes(kind: u8) -> usize
-    ensures { λ r. ⌜ r ≡ codeOfKind kind ⌝ }
-{
-    match kind {
-        1 | 5 => 5,
-        2 | 6 => 1,
-        4 => 3,
-        _ => 2,
-    }
-}
-
 // The tests of a node that is due, in document 01's order.
-fn node(job: &[u8], place: usize, transaction: bool, depth: u8, forks: u8) -> Tested
+fn node(job: &[u8], place: usize, transaction: bool, depth: u8, forks: usize) -> Tested
     ensures { λ r. ⌜ r ≡ tested (nodeAt (record { sort = sortOf transaction; depth = depth }) forks place (drop place (now (job .entry)))) ⌝ }
 {
     let length = job.len();
@@ -100,15 +90,12 @@ fn node(job: &[u8], place: usize, transaction: bool, depth: u8, forks: u8) -> Te
     Tested::Kind(kind)
 }
 
-impl Reader {
-    // The root is due, at depth 1, behind the header of 7 bytes; its code has a header of 5.
-    fn start(count: usize) -> Reader
-        ensures { λ r. ⌜ r ≡ rootDue count ⌝ }
+impl Cursor {
+    // The root is due, behind the header of 7 bytes; its code has a header of 5.
+    fn start(count: usize) -> Cursor
+        ensures { λ r. ⌜ r ≡ firstCursor count ⌝ }
     {
-        let mut due = [0u8; 65];
-        due[0] = 1;
-        Reader {
-            due,
+        Cursor {
             height: 1,
             left: count,
             forks: 0,
@@ -117,42 +104,67 @@ impl Reader {
         }
     }
 
-    // One part of a node becomes due.
-    fn push(mut self, part: u8) -> Reader
-        requires { ⌜ self .height < 65 ⌝ }
-        ensures { λ r. ⌜ r ≡ duePushed self part ⌝ }
+    // The node on top, of so many bytes and bytes of code, is read, and has no parts.
+    fn leaf(self, size: usize, code: usize) -> Cursor
+        requires { ⌜ CanRead self size code ⌝ }
+        ensures { λ r. ⌜ ((due : List ℕ) → joined r due ≡ withNone (joined self due) size code) ⌝ }
     {
-        let height = self.height;
-        self.due[height] = part;
-        self.height = height + 1;
-        self
+        Cursor {
+            height: self.height - 1,
+            left: self.left - 1,
+            forks: self.forks,
+            place: self.place + size,
+            code: self.code + code,
+        }
     }
 
-    // The node on top is read, and its parts become due.
-    fn advance(mut self, kind: u8) -> Reader
-        requires { ⌜ CanAdvance self kind ⌝ }
-        ensures { λ r. ⌜ r ≡ advanced self kind ⌝ }
+    // It has one part, which becomes due in its stead.
+    fn one(self, due: &mut [u8; 65], part: u8, forks: usize, size: usize, code: usize) -> Cursor
+        requires { ⌜ CanRead self size code × (forks ≤ 1) ⌝ }
+        ensures { λ r. ⌜ joined r (now (due .exit)) ≡ withOne (joined self (now (due .entry))) part forks size code ⌝ }
     {
         let top = self.height - 1;
-        let depth = self.due[top] % 128 + 1;
-        let left = self.left - 1;
-        let place = self.place + 1 + operand(kind);
-        let code = self.code + code_bytes(kind);
-        self.height = top;
-        self.left = left;
-        self.place = place;
-        self.code = code;
+        due[top] = part;
+        Cursor {
+            height: self.height,
+            left: self.left - 1,
+            forks: self.forks + forks,
+            place: self.place + size,
+            code: self.code + code,
+        }
+    }
+
+    // It has two parts of the same kind.
+    fn two(self, due: &mut [u8; 65], part: u8) -> Cursor
+        requires { ⌜ CanRead self 1 1 ⌝ }
+        ensures { λ r. ⌜ joined r (now (due .exit)) ≡ withTwo (joined self (now (due .entry))) part ⌝ }
+    {
+        let height = self.height;
+        let top = height - 1;
+        due[top] = part;
+        due[height] = part;
+        Cursor {
+            height: height + 1,
+            left: self.left - 1,
+            forks: self.forks,
+            place: self.place + 1,
+            code: self.code + 1,
+        }
+    }
+
+    // The node on top is read, and its parts become due at this depth.
+    fn advance(self, due: &mut [u8; 65], kind: u8, depth: u8) -> Cursor
+        requires { ⌜ CanAdvance self kind depth ⌝ }
+        ensures { λ r. ⌜ joined r (now (due .exit)) ≡ advanced (joined self (now (due .entry))) kind depth ⌝ }
+    {
         match kind {
-            2 => self.push(depth).push(depth),
-            3 => self.push(depth + 128),
-            4 => {
-                let forks = self.forks + 1;
-                self.forks = forks;
-                self.push(depth)
-            }
-            6 => self.push(depth + 128).push(depth + 128),
-            8 => self.push(depth + 128),
-            _ => self,
+            2 => self.two(due, depth),
+            3 => self.one(due, depth + 128, 0, 1, 2),
+            4 => self.one(due, depth, 1, 1, 3),
+            6 => self.two(due, depth + 128),
+            7 => self.leaf(2, 2),
+            8 => self.one(due, depth + 128, 0, 2, 2),
+            _ => self.leaf(5, 5),
         }
     }
 }
@@ -172,18 +184,20 @@ fn nodes(job: &[u8], version: u16, count: usize) -> Reading
     requires { ⌜ (7 ≤ length (now job)) × (count ≤ 1000) ⌝ }
     ensures { λ r. ⌜ r ≡ answer (whole version (readNodes count root 0 7 (drop 7 (now (job .entry))))) ⌝ }
 {
-    let mut s = Reader::start(count);
+    let mut due = [0u8; 65];
+    due[0] = 1;
+    let mut s = Cursor::start(count);
     while s.height > 0 {
         let place = s.place;
         if s.left == 0 {
             return Reading::Refused(9, place);
         }
         let top = s.height - 1;
-        let part = s.due[top];
+        let part = due[top];
         let found = node(job, place, part >= 128, part % 128, s.forks);
         match found {
             Tested::Kind(kind) => {
-                s = s.advance(kind);
+                s = s.advance(&mut due, kind, part % 128 + 1);
             }
             Tested::Refused(number, at) => {
                 return Reading::Refused(number, at);

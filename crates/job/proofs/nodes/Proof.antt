@@ -1,10 +1,12 @@
 -- `job::nodes` meets its contract: the loop follows `readNodes`, and what is left of the count falls. Assumes nothing.
 use Prim.Native.Nat.{ℕ}
-use mathlib.Core.Path.{sym, ap, subst, _∙_}
+use mathlib.Core.Path.{refl, sym, ap, subst, _∙_}
 use native.Mathlib.Omega.{arith}
+use lib.ListN.{set, replicate}
+use borrow.Author.Needs.{needs}
 use Rattle.script.proofs.Numbers.{bytes-of}
-use Rattle.job.specs.declared.Reader.{Reader}
-use Rattle.job.specs.InnerScan.{heldPart}
+use Rattle.job.specs.declared.Cursor.{Cursor}
+use Rattle.job.specs.InnerScan.{Reader, joined, heldPart}
 use Rattle.job.proofs.Advance.{one-less}
 use Rattle.job.proofs.Walk.{ReaderInv, inv-start, height-most, used-up, node-refused, node-ready, node-read, over, complete}
 use Rattle.job.proofs.nodes.Statement.{statement}
@@ -14,25 +16,28 @@ abbrev left-of : Reader → ℕ
 left-of s = s .left
 
 abbrev Inv-loop : tie.InvT-loop
-Inv-loop job version count s₀ s = ReaderInv job version count s
+Inv-loop job version count due₀ s₀ due s = ReaderInv job version count (joined s due)
 
 abbrev μ-loop : tie.MeasureT-loop
-μ-loop job version count s₀ s = s .left
+μ-loop job version count due₀ s₀ due s = s .left
+
+array-write-due : tie.Need-array-write-due Inv-loop μ-loop
+array-write-due c = search needs
 
 start-requires : tie.Need-start-requires Inv-loop μ-loop
 start-requires c κs = tt
 
 loop-holds : tie.Need-loop-holds Inv-loop μ-loop
-loop-holds c = let a = c .before .before .args in subst (ReaderInv (a .job .now) (a .version) (a .count)) (sym (c .start .ensures)) (inv-start (a .job .now) (a .version) (a .count) (c .before .before .pre .0) (c .before .before .pre .1))
+loop-holds c = subst (λ (s : Cursor). ReaderInv (c .before .before .args .job .now) (c .before .before .args .version) (c .before .before .args .count) (joined s (set (replicate 65 0) 0 1))) (sym (c .start .ensures)) (inv-start (c .before .before .args .job .now) (c .before .before .args .version) (c .before .before .args .count) (c .before .before .pre .0) (c .before .before .pre .1))
 
 returns : tie.Need-returns Inv-loop μ-loop
-returns c = used-up (c .before .before .before .before .before .args .job .now) (c .before .before .before .before .before .args .version) (c .before .before .before .before .before .args .count) (c .before .before .loop .s) (bytes-of (c .before .before .before .before .before .args .job .now) (c .before .before .before .before .shared-slice-known .given)) (c .before .before .loop .inv) (c .before .loop-test .taken) (c .if1 .taken)
+returns c = used-up (c .before .before .before .before .before .before .before .args .job .now) (c .before .before .before .before .before .before .before .args .version) (c .before .before .before .before .before .before .before .args .count) (joined (c .before .before .before .before .loop .s) (c .before .before .before .before .loop .due)) (bytes-of (c .before .before .before .before .before .before .before .args .job .now) (c .before .before .before .before .before .before .shared-slice-known .given)) (c .before .before .before .before .loop .inv) (c .before .before .if1 .taken) (c .if2 .taken)
 
 sub-top : tie.Need-sub-top Inv-loop μ-loop
-sub-top c = c .before .loop-test .taken
+sub-top c = c .before .before .before .if1 .taken
 
-element-copy-out-part : tie.Need-element-copy-out-part Inv-loop μ-loop
-element-copy-out-part c = omega (arith, height-most (c .before .before .loop .inv .fit))
+array-read-part : tie.Need-array-read-part Inv-loop μ-loop
+array-read-part c = omega (arith, height-most (c .before .before .before .before .before .loop .inv .fit))
 
 node-requires : tie.Need-node-requires Inv-loop μ-loop
 node-requires c κs = tt
@@ -40,32 +45,35 @@ node-requires c κs = tt
 enum-known-found : tie.Need-enum-known-found Inv-loop μ-loop
 enum-known-found c = c .match .keys1
 
+add-advance : tie.Need-add-advance Inv-loop μ-loop
+add-advance c = search needs
+
 advance-requires : tie.Need-advance-requires Inv-loop μ-loop
 unfolding heldPart
-advance-requires c κs = node-ready (c .before .before .before .before .before .before .before .before .before .before .args .job .now) (c .before .before .before .before .before .before .before .before .before .before .args .version) (c .before .before .before .before .before .before .before .before .before .before .args .count) (c .before .before .before .before .before .before .before .loop .s) (bytes-of (c .before .before .before .before .before .before .before .before .before .before .args .job .now) (c .before .before .before .before .before .before .before .before .before .shared-slice-known .given)) (c .before .before .before .before .before .before .before .loop .inv) (c .before .before .before .before .before .before .loop-test .taken) (omega arith) (omega arith) _ (sym (c .before .before .before .node .ensures) ∙ c .before .found .given .1)
+advance-requires c κs = node-ready (c .before .before .before .before .before .before .before .before .before .before .before .before .before .args .job .now) (c .before .before .before .before .before .before .before .before .before .before .before .before .before .args .version) (c .before .before .before .before .before .before .before .before .before .before .before .before .before .args .count) (joined (c .before .before .before .before .before .before .before .before .before .before .loop .s) (c .before .before .before .before .before .before .before .before .before .before .loop .due)) (bytes-of (c .before .before .before .before .before .before .before .before .before .before .before .before .before .args .job .now) (c .before .before .before .before .before .before .before .before .before .before .before .before .shared-slice-known .given)) (c .before .before .before .before .before .before .before .before .before .before .loop .inv) (c .before .before .before .before .before .before .before .before .if1 .taken) (c .before .before .before .before .before .before .before .before .before .before .loop .s) (c .before .before .before .before .before .before .before .before .before .before .loop .due) refl (omega arith) (omega arith) _ (sym (c .before .before .before .before .node .ensures) ∙ c .before .before .found .given .1)
 
 loop-less : tie.Need-loop-less Inv-loop μ-loop
-loop-less c = rw (ap left-of (c .advance .ensures) ∙ one-less _ _) (omega arith)
+loop-less c = rw (ap left-of (c .advance .ensures) ∙ one-less _ _ _) (omega arith)
 
 loop-again : tie.Need-loop-again Inv-loop μ-loop
 unfolding heldPart
-loop-again c = subst (ReaderInv _ _ _) (sym (c .advance .ensures)) (node-read (c .before .before .before .before .before .before .before .before .before .before .before .args .job .now) (c .before .before .before .before .before .before .before .before .before .before .before .args .version) (c .before .before .before .before .before .before .before .before .before .before .before .args .count) (c .before .before .before .before .before .before .before .before .loop .s) (bytes-of (c .before .before .before .before .before .before .before .before .before .before .before .args .job .now) (c .before .before .before .before .before .before .before .before .before .before .shared-slice-known .given)) (c .before .before .before .before .before .before .before .before .loop .inv) (c .before .before .before .before .before .before .before .loop-test .taken) (omega arith) _ (sym (c .before .before .before .before .node .ensures) ∙ c .before .before .found .given .1))
+loop-again c = subst (ReaderInv _ _ _) (sym (c .advance .ensures)) (node-read (c .before .before .before .before .before .before .before .before .before .before .before .before .before .before .args .job .now) (c .before .before .before .before .before .before .before .before .before .before .before .before .before .before .args .version) (c .before .before .before .before .before .before .before .before .before .before .before .before .before .before .args .count) (joined (c .before .before .before .before .before .before .before .before .before .before .before .loop .s) (c .before .before .before .before .before .before .before .before .before .before .before .loop .due)) (bytes-of (c .before .before .before .before .before .before .before .before .before .before .before .before .before .before .args .job .now) (c .before .before .before .before .before .before .before .before .before .before .before .before .before .shared-slice-known .given)) (c .before .before .before .before .before .before .before .before .before .before .before .loop .inv) (c .before .before .before .before .before .before .before .before .before .if1 .taken) (omega arith) _ (sym (c .before .before .before .before .before .node .ensures) ∙ c .before .before .before .found .given .1))
 
 enum-known-found-2 : tie.Need-enum-known-found-2 Inv-loop μ-loop
 enum-known-found-2 c = c .match .keys2
 
 returns-2 : tie.Need-returns-2 Inv-loop μ-loop
 unfolding heldPart
-returns-2 c = node-refused (c .before .before .before .before .before .before .before .before .before .before .args .job .now) (c .before .before .before .before .before .before .before .before .before .before .args .version) (c .before .before .before .before .before .before .before .before .before .before .args .count) (c .before .before .before .before .before .before .before .loop .s) (bytes-of (c .before .before .before .before .before .before .before .before .before .before .args .job .now) (c .before .before .before .before .before .before .before .before .before .shared-slice-known .given)) (c .before .before .before .before .before .before .before .loop .inv) (c .before .before .before .before .before .before .loop-test .taken) (omega arith) _ _ (sym (c .before .before .before .node .ensures) ∙ c .before .found2 .given .1)
+returns-2 c = node-refused (c .before .before .before .before .before .before .before .before .before .before .before .before .args .job .now) (c .before .before .before .before .before .before .before .before .before .before .before .before .args .version) (c .before .before .before .before .before .before .before .before .before .before .before .before .args .count) (joined (c .before .before .before .before .before .before .before .before .before .loop .s) (c .before .before .before .before .before .before .before .before .before .loop .due)) (bytes-of (c .before .before .before .before .before .before .before .before .before .before .before .before .args .job .now) (c .before .before .before .before .before .before .before .before .before .before .before .shared-slice-known .given)) (c .before .before .before .before .before .before .before .before .before .loop .inv) (c .before .before .before .before .before .before .before .if1 .taken) (omega arith) _ _ (sym (c .before .before .before .node .ensures) ∙ c .before .found2 .given .1)
 
 left-over-requires : tie.Need-left-over-requires Inv-loop μ-loop
 left-over-requires c κs = tt
 
 returns-3 : tie.Need-returns-3 Inv-loop μ-loop
-returns-3 c = over (c .before .before .before .before .before .before .args .job .now) (c .before .before .before .before .before .before .args .version) (c .before .before .before .before .before .before .args .count) (c .before .before .before .loop .s) (bytes-of (c .before .before .before .before .before .before .args .job .now) (c .before .before .before .before .before .shared-slice-known .given)) (c .before .before .before .loop .inv) (omega arith) (sym (c .before .left-over .ensures) ∙ c .if2 .taken)
+returns-3 c = over (c .before .before .before .before .before .before .before .args .job .now) (c .before .before .before .before .before .before .before .args .version) (c .before .before .before .before .before .before .before .args .count) (joined (c .before .before .before .before .loop .s) (c .before .before .before .before .loop .due)) (bytes-of (c .before .before .before .before .before .before .before .args .job .now) (c .before .before .before .before .before .before .shared-slice-known .given)) (c .before .before .before .before .loop .inv) (omega arith) (sym (c .before .left-over .ensures) ∙ c .if3 .taken)
 
 returns-4 : tie.Need-returns-4 Inv-loop μ-loop
-returns-4 c = complete (c .before .before .before .before .before .before .args .job .now) (c .before .before .before .before .before .before .args .version) (c .before .before .before .before .before .before .args .count) (c .before .before .before .loop .s) (bytes-of (c .before .before .before .before .before .before .args .job .now) (c .before .before .before .before .before .shared-slice-known .given)) (c .before .before .before .loop .inv) (omega arith) (sym (c .before .left-over .ensures) ∙ c .if2 .left)
+returns-4 c = complete (c .before .before .before .before .before .before .before .args .job .now) (c .before .before .before .before .before .before .before .args .version) (c .before .before .before .before .before .before .before .args .count) (joined (c .before .before .before .before .loop .s) (c .before .before .before .before .loop .due)) (bytes-of (c .before .before .before .before .before .before .before .args .job .now) (c .before .before .before .before .before .before .shared-slice-known .given)) (c .before .before .before .before .loop .inv) (omega arith) (sym (c .before .left-over .ensures) ∙ c .if3 .left)
 
 pub nodes-spec : {M : Type 1} → statement M
 nodes-spec =
@@ -73,13 +81,15 @@ nodes-spec =
     (tie.spec
     Inv-loop
     μ-loop
+    array-write-due
     start-requires
     loop-holds
     returns
     sub-top
-    element-copy-out-part
+    array-read-part
     node-requires
     enum-known-found
+    add-advance
     advance-requires
     loop-less
     loop-again
