@@ -1,4 +1,5 @@
--- Whatever slices the types of the calls allow meet `Lent`: each entry of a slice is a value of the slice's type, and no more is asked. Assumes nothing.
+-- Whatever slices the types of the calls allow meet `Lent`, and are answered by a row of document 01's table: each entry of a slice is a value of the slice's type, and
+-- no more is asked. Assumes nothing.
 use Prim.Native.Nat.{ℕ, zero, suc, _<_, _^_}
 use mathlib.Core.Path.{refl}
 use mathlib.Core.List.{List, [], _∷_}
@@ -10,6 +11,8 @@ use denote.Builtin.{u8, i32}
 use Rattle.engine.proofs.Rows.{ThreadR, Known, known-thread, known-blank, small}
 use Rattle.guarantee.specs.Histories.{Lent, step, run}
 use Rattle.guarantee.specs.Values.{Valued, AllValued}
+use Rattle.machine.proofs.Calls.{fresh-answers, step-answers, run-answers}
+use Rattle.machine.specs.Answers.{freshCall, stepCall, runCall, FreshAnswer, StepAnswer, RunAnswer}
 use Rattle.machine.specs.Steps.{stateFrom}
 use Rattle.script.specs.Bytes.{Bytes}
 use Rattle.thread.specs.Threads.{blank}
@@ -62,3 +65,13 @@ module _ (code : List ℕ) (rs : List ℤ) (ts : List Thread) (c : AllValued u8 
         ranges = record { registers = registers-by-type rs r; threads = λ i. threads-by-type ts t i .ranged };
         picks = bytes-by-type picks v;
       }
+
+  -- so that what each call returns is what one row of document 01's table says
+  pub fresh-row : FreshAnswer code (stateFrom rs ts) (freshCall code (stateFrom rs ts))
+  fresh-row = fresh-answers code (stateFrom rs ts) (bytes-by-type code c) (freshCall code (stateFrom rs ts)) .1 refl
+
+  pub step-row : (pick : ℕ) → StepAnswer code (stateFrom rs ts) pick (stepCall code (stateFrom rs ts) pick)
+  step-row pick = step-answers code (stateFrom rs ts) pick (bytes-by-type code c) (λ i. threads-by-type ts t i .typed) (stepCall code (stateFrom rs ts) pick) .1 refl
+
+  pub run-row : (picks : List ℕ) → RunAnswer code (stateFrom rs ts) picks (runCall code (stateFrom rs ts) picks)
+  run-row picks = run-answers code (stateFrom rs ts) picks (bytes-by-type code c) (λ i. threads-by-type ts t i .typed) (runCall code (stateFrom rs ts) picks) .1 refl
