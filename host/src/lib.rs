@@ -11,7 +11,9 @@
 
 mod answers;
 pub mod ffi;
+pub mod plain;
 pub mod raw;
+pub mod samples;
 
 pub use answers::{Counts, Event, Refusal, Step};
 pub use ffi::Thread;
