@@ -1,0 +1,130 @@
+//! Refusals, and what steps and runs answer.
+
+use std::fmt;
+
+/// Why a call was turned down. Nothing that was lent to it is altered.
+#[derive(Clone, Copy, PartialEq, Eq, Hash, Debug)]
+pub struct Refusal {
+    /// 1 to 13.
+    pub number: u8,
+    /// A byte offset in the job for 1 to 9, else 0.
+    pub place: usize,
+}
+
+impl Refusal {
+    /// The trade's word.
+    pub fn word(self) -> &'static str {
+        self.texts().0
+    }
+
+    /// A plain sentence.
+    pub fn sentence(self) -> &'static str {
+        self.texts().1
+    }
+
+    fn texts(self) -> (&'static str, &'static str) {
+        match self.number {
+            1 => ("cut", "The bytes end too early."),
+            2 => ("mark", "The job does not begin with its mark."),
+            3 => ("version", "The job's version is not 1."),
+            4 => ("count", "The node count is 0 or above 1,000."),
+            5 => ("kind", "The node's kind is unknown or not permitted there."),
+            6 => ("register", "The register's number is 64 or more."),
+            7 => ("depth", "The node is at depth 65."),
+            8 => ("forks", "This is the sixteenth FORK."),
+            9 => ("length", "The nodes or the bytes do not match the count."),
+            10 => ("short tray", "The output is shorter than the result."),
+            11 => ("foreign code", "No accepted job compiles to this code."),
+            12 => ("foreign state", "The state does not fit the code."),
+            13 => ("long list", "There are more than 32,768 picks."),
+            _ => ("unknown", "The library gave a number that is not known here."),
+        }
+    }
+}
+
+impl fmt::Display for Refusal {
+    fn fmt(&self, f: &mut fmt::Formatter<'_>) -> fmt::Result {
+        write!(f, "refused {} ({}) at {}: {}", self.number, self.word(), self.place, self.sentence())
+    }
+}
+
+impl std::error::Error for Refusal {}
+
+/// What a pick did.
+#[derive(Clone, Copy, PartialEq, Eq, Hash, Debug)]
+pub enum Event {
+    /// Its thread does not exist or has ended.
+    Idle = 0,
+    Push = 1,
+    Sum = 2,
+    Fork = 3,
+    Begin = 4,
+    ReadWriteLog = 5,
+    ReadReadLog = 6,
+    /// The value entered the read log.
+    ReadTable = 7,
+    Write = 8,
+    /// A COMMIT that took effect.
+    Commit = 9,
+    /// A COMMIT that found a stale register.
+    SentBack = 10,
+}
+
+impl Event {
+    pub const ALL: [Event; 11] = [
+        Event::Idle,
+        Event::Push,
+        Event::Sum,
+        Event::Fork,
+        Event::Begin,
+        Event::ReadWriteLog,
+        Event::ReadReadLog,
+        Event::ReadTable,
+        Event::Write,
+        Event::Commit,
+        Event::SentBack,
+    ];
+
+    pub fn from_number(number: usize) -> Option<Event> {
+        Event::ALL.get(number).copied()
+    }
+}
+
+/// What one pick did.
+#[derive(Clone, Copy, PartialEq, Eq, Hash, Debug)]
+pub struct Step {
+    pub event: Event,
+    /// The first stale register, if the thread was sent back.
+    pub stale: Option<u8>,
+    /// Whether it took a turn: a sum outside a transaction, a FORK or a commit.
+    pub turn: bool,
+}
+
+impl Step {
+    pub(crate) const IDLE: Step = Step::of(Event::Idle);
+
+    /// One that took no turn and was not sent back.
+    pub(crate) const fn of(event: Event) -> Step {
+        Step { event, stale: None, turn: false }
+    }
+}
+
+/// The counts of one call's picks.
+#[derive(Clone, Copy, PartialEq, Eq, Hash, Debug, Default)]
+pub struct Counts {
+    /// Picks that were not idle.
+    pub steps: usize,
+    pub idle: usize,
+    pub commits: usize,
+    /// Commits that were sent back.
+    pub back: usize,
+}
+
+impl Counts {
+    pub(crate) fn add(&mut self, event: Event) {
+        self.idle += usize::from(event == Event::Idle);
+        self.steps += usize::from(event != Event::Idle);
+        self.commits += usize::from(event == Event::Commit);
+        self.back += usize::from(event == Event::SentBack);
+    }
+}

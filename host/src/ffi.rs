@@ -1,0 +1,104 @@
+//! The library's functions as C sees them: a slice is a pointer and a count.
+//!
+//! Nothing checks these declarations against the library's source. The tests hold them against what it does.
+
+/// A thread's record. Places count from the code's first byte, so 0 is no place; a record whose `start` is 0 is of no
+/// thread.
+#[repr(C)]
+#[derive(Clone, Copy, PartialEq, Eq, Debug)]
+pub struct Thread {
+    /// Its own code: from `start` up to `end`, less the child code of the FORKs in it.
+    pub start: usize,
+    pub end: usize,
+    /// The next instruction.
+    pub place: usize,
+    /// The stack: `height` of its cells are in use.
+    pub height: usize,
+    pub cells: [i32; 64],
+    /// The open transaction's notes: its BEGIN's place and the stack height there. 0 if none is open.
+    pub begin: usize,
+    pub base: usize,
+    /// The read log: the registers that it marks, and their values.
+    pub reads: u64,
+    pub readlog: [i32; 64],
+    /// The write log, likewise.
+    pub writes: u64,
+    pub writelog: [i32; 64],
+}
+
+/// The answer of compile, read back and report. `refusal` 0: none, and the first `length` bytes of the output are
+/// written. On a refusal `length` is 0.
+#[repr(C)]
+#[derive(Clone, Copy, PartialEq, Eq, Debug)]
+pub struct Written {
+    pub refusal: usize,
+    pub place: usize,
+    pub length: usize,
+}
+
+/// The answer of fresh.
+#[repr(C)]
+#[derive(Clone, Copy, PartialEq, Eq, Debug)]
+pub struct FreshReply {
+    pub refusal: usize,
+    pub place: usize,
+}
+
+/// The answer of step; on a refusal the last three are 0.
+#[repr(C)]
+#[derive(Clone, Copy, PartialEq, Eq, Debug)]
+pub struct StepReply {
+    pub refusal: usize,
+    pub place: usize,
+    /// An [`Event`](crate::Event) by its number.
+    pub event: usize,
+    /// The first stale register of a send-back, else 0.
+    pub register: usize,
+    /// 1 if the pick took a turn, else 0.
+    pub turn: usize,
+}
+
+/// The answer of run; on a refusal the counts are 0.
+#[repr(C)]
+#[derive(Clone, Copy, PartialEq, Eq, Debug)]
+pub struct RunReply {
+    pub refusal: usize,
+    pub place: usize,
+    pub steps: usize,
+    pub idle: usize,
+    pub commits: usize,
+    pub back: usize,
+}
+
+extern "C" {
+    pub fn kuspigo_compile(job: *const u8, job_count: usize, out: *mut u8, out_count: usize) -> Written;
+    pub fn kuspigo_read_back(code: *const u8, code_count: usize, out: *mut u8, out_count: usize) -> Written;
+    pub fn kuspigo_report(input: *const u8, input_count: usize, out: *mut u8, out_count: usize) -> Written;
+    pub fn kuspigo_fresh(
+        code: *const u8,
+        code_count: usize,
+        registers: *mut i32,
+        register_count: usize,
+        threads: *mut Thread,
+        thread_count: usize,
+    ) -> FreshReply;
+    pub fn kuspigo_step(
+        code: *const u8,
+        code_count: usize,
+        registers: *mut i32,
+        register_count: usize,
+        threads: *mut Thread,
+        thread_count: usize,
+        pick: u8,
+    ) -> StepReply;
+    pub fn kuspigo_run(
+        code: *const u8,
+        code_count: usize,
+        registers: *mut i32,
+        register_count: usize,
+        threads: *mut Thread,
+        thread_count: usize,
+        picks: *const u8,
+        pick_count: usize,
+    ) -> RunReply;
+}

@@ -1,0 +1,148 @@
+//! Kuspigo's library, called from Rust. Nothing in this package is proved; what it calls is.
+//!
+//! ```
+//! let job = [0x57, 0x53, 0x4A, 0, 1, 0, 1, 1, 0, 0, 0, 7];
+//! let code = kuspigo::compile(&job)?;
+//! let mut state = kuspigo::State::fresh(&code)?;
+//! let counts = state.run(&code, &[0])?;
+//! assert_eq!((counts.steps, state.threads[0].result()), (1, Some(7)));
+//! # Ok::<(), kuspigo::Refusal>(())
+//! ```
+
+mod answers;
+pub mod ffi;
+pub mod plain;
+pub mod raw;
+pub mod samples;
+
+pub use answers::{Counts, Event, Refusal, Step};
+pub use ffi::Thread;
+
+use ffi::Written;
+
+/// No accepted job's code is longer, and no job that is read back.
+const LONGEST_CODE: usize = 3_007;
+/// No listing is longer: 16 threads with results and 64 registers, each number of eleven characters.
+const LONGEST_LISTING: usize = 2_048;
+
+/// The job's stack code.
+pub fn compile(job: &[u8]) -> Result<Vec<u8>, Refusal> {
+    into_vec(LONGEST_CODE, |out| compile_into(job, out))
+}
+
+/// Writes the job's stack code to the front of `out` and gives its length. Nothing behind it is altered.
+pub fn compile_into(job: &[u8], out: &mut [u8]) -> Result<usize, Refusal> {
+    written(raw::compile(job, out))
+}
+
+/// The job that compiles to the code.
+pub fn read_back(code: &[u8]) -> Result<Vec<u8>, Refusal> {
+    into_vec(LONGEST_CODE, |out| read_back_into(code, out))
+}
+
+/// Writes the job that compiles to the code to the front of `out` and gives its length. Nothing behind it is altered.
+pub fn read_back_into(code: &[u8], out: &mut [u8]) -> Result<usize, Refusal> {
+    written(raw::read_back(code, out))
+}
+
+/// What the run program prints for an input: the job's length in two bytes, the job, the picks.
+pub fn report(input: &[u8]) -> Result<Vec<u8>, Refusal> {
+    into_vec(LONGEST_LISTING, |out| report_into(input, out))
+}
+
+/// As [`report`], to the front of `out`.
+pub fn report_into(input: &[u8], out: &mut [u8]) -> Result<usize, Refusal> {
+    written(raw::report(input, out))
+}
+
+/// Lays a fresh state down. There have to be 64 registers and 16 records, else it is refused with 12.
+pub fn fresh(code: &[u8], registers: &mut [i32], threads: &mut [Thread]) -> Result<(), Refusal> {
+    let reply = raw::fresh(code, registers, threads);
+    taken(reply.refusal, reply.place)
+}
+
+/// One pick.
+pub fn step(code: &[u8], registers: &mut [i32], threads: &mut [Thread], pick: u8) -> Result<Step, Refusal> {
+    let reply = raw::step(code, registers, threads, pick);
+    taken(reply.refusal, reply.place)?;
+    let event = Event::from_number(reply.event).expect("the library names an event");
+    Ok(Step { event, stale: (event == Event::SentBack).then_some(reply.register as u8), turn: reply.turn == 1 })
+}
+
+/// A list of picks, one after the other.
+pub fn run(code: &[u8], registers: &mut [i32], threads: &mut [Thread], picks: &[u8]) -> Result<Counts, Refusal> {
+    let reply = raw::run(code, registers, threads, picks);
+    taken(reply.refusal, reply.place)?;
+    Ok(Counts { steps: reply.steps, idle: reply.idle, commits: reply.commits, back: reply.back })
+}
+
+/// A state: the registers and the thread records.
+#[derive(Clone, PartialEq, Eq, Debug)]
+pub struct State {
+    pub registers: [i32; 64],
+    pub threads: [Thread; 16],
+}
+
+impl State {
+    /// Thread 0 alone, at the start of the code, and every register 0.
+    pub fn fresh(code: &[u8]) -> Result<State, Refusal> {
+        let mut state = State { registers: [0; 64], threads: [Thread::ABSENT; 16] };
+        fresh(code, &mut state.registers, &mut state.threads)?;
+        Ok(state)
+    }
+
+    /// One pick.
+    pub fn step(&mut self, code: &[u8], pick: u8) -> Result<Step, Refusal> {
+        step(code, &mut self.registers, &mut self.threads, pick)
+    }
+
+    /// A list of picks, one after the other.
+    pub fn run(&mut self, code: &[u8], picks: &[u8]) -> Result<Counts, Refusal> {
+        run(code, &mut self.registers, &mut self.threads, picks)
+    }
+}
+
+impl Thread {
+    /// The record of a thread that does not exist.
+    pub const ABSENT: Thread = Thread {
+        start: 0,
+        end: 0,
+        place: 0,
+        height: 0,
+        cells: [0; 64],
+        begin: 0,
+        base: 0,
+        reads: 0,
+        readlog: [0; 64],
+        writes: 0,
+        writelog: [0; 64],
+    };
+
+    pub fn exists(&self) -> bool {
+        self.start != 0
+    }
+
+    /// Its result, if it has ended.
+    pub fn result(&self) -> Option<i32> {
+        (self.exists() && self.place == self.end).then_some(self.cells[0])
+    }
+}
+
+fn taken(refusal: usize, place: usize) -> Result<(), Refusal> {
+    match refusal {
+        0 => Ok(()),
+        number => Err(Refusal { number: number as u8, place }),
+    }
+}
+
+fn written(answer: Written) -> Result<usize, Refusal> {
+    taken(answer.refusal, answer.place)?;
+    Ok(answer.length)
+}
+
+fn into_vec(longest: usize, write: impl FnOnce(&mut [u8]) -> Result<usize, Refusal>) -> Result<Vec<u8>, Refusal> {
+    let mut out = vec![0; longest];
+    let length = write(&mut out)?;
+    out.truncate(length);
+    Ok(out)
+}

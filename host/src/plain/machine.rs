@@ -1,0 +1,166 @@
+//! The machine, its records changed in place.
+
+use super::code::{self, Op};
+use super::state::fits;
+use super::{too_many_picks, unfit_state, INSTRUCTIONS, MOST_PICKS, RECORDS, REGISTERS};
+use crate::{Counts, Event, Refusal, Step, Thread};
+
+/// Lays a fresh state down over whatever was there.
+pub fn fresh(code: &[u8], registers: &mut [i32], threads: &mut [Thread]) -> Result<(), Refusal> {
+    code::outline(code)?;
+    if registers.len() != REGISTERS || threads.len() != RECORDS {
+        return unfit_state();
+    }
+    registers.fill(0);
+    threads.fill(Thread::ABSENT);
+    threads[0] = starting(INSTRUCTIONS, code.len());
+    Ok(())
+}
+
+/// One pick.
+pub fn step(code: &[u8], registers: &mut [i32], threads: &mut [Thread], pick: u8) -> Result<Step, Refusal> {
+    let (registers, threads) = admit(code, registers, threads)?;
+    Ok(act(code, registers, threads, pick))
+}
+
+/// A list of picks, one after the other.
+pub fn run(code: &[u8], registers: &mut [i32], threads: &mut [Thread], picks: &[u8]) -> Result<Counts, Refusal> {
+    let (registers, threads) = admit(code, registers, threads)?;
+    if picks.len() > MOST_PICKS {
+        return too_many_picks();
+    }
+    let mut counts = Counts::default();
+    for &pick in picks {
+        counts.add(act(code, registers, threads, pick).event);
+    }
+    Ok(counts)
+}
+
+/// A state that was tested.
+pub type Admitted<'a> = (&'a mut [i32; REGISTERS], &'a mut [Thread; RECORDS]);
+
+/// The tests of a call on a state: 11, then 12.
+pub fn admit<'a>(code: &[u8], registers: &'a mut [i32], threads: &'a mut [Thread]) -> Result<Admitted<'a>, Refusal> {
+    let outline = code::outline(code)?;
+    if !fits(code, &outline, registers.len(), threads) {
+        return unfit_state();
+    }
+    match (registers.try_into(), threads.try_into()) {
+        (Ok(registers), Ok(threads)) => Ok((registers, threads)),
+        _ => unfit_state(),
+    }
+}
+
+/// A thread at the start of its code.
+pub fn starting(start: usize, end: usize) -> Thread {
+    Thread { start, end, place: start, ..Thread::ABSENT }
+}
+
+/// One pick in a state that fits.
+fn act(code: &[u8], registers: &mut [i32; REGISTERS], threads: &mut [Thread; RECORDS], pick: u8) -> Step {
+    let Some(thread) = threads.get_mut(usize::from(pick)) else {
+        return Step::IDLE;
+    };
+    // a record of no thread has 0 for both
+    if thread.place == thread.end {
+        return Step::IDLE;
+    }
+    let Some((op, next)) = code::decode(code, thread.place) else { unreachable!("the state fits the code") };
+    let place = thread.place;
+    thread.place = next;
+    match op {
+        Op::Push(n) => {
+            push(thread, n);
+            Step::of(Event::Push)
+        }
+        Op::Add => {
+            let top = thread.height - 1;
+            let right = thread.cells[top];
+            thread.cells[top] = 0;
+            thread.cells[top - 1] = thread.cells[top - 1].wrapping_add(right);
+            thread.height = top;
+            Step { turn: thread.begin == 0, ..Step::of(Event::Sum) }
+        }
+        Op::Fork(length) => {
+            push(thread, 0);
+            thread.place = next + length;
+            if let Some(child) = threads.iter_mut().find(|thread| thread.start == 0) {
+                *child = starting(next, next + length);
+            }
+            Step { turn: true, ..Step::of(Event::Fork) }
+        }
+        Op::Begin => {
+            thread.begin = place;
+            thread.base = thread.height;
+            Step::of(Event::Begin)
+        }
+        Op::Read(register) => {
+            let register = usize::from(register);
+            let (value, event) = if thread.writes >> register & 1 == 1 {
+                (thread.writelog[register], Event::ReadWriteLog)
+            } else if thread.reads >> register & 1 == 1 {
+                (thread.readlog[register], Event::ReadReadLog)
+            } else {
+                thread.reads |= 1 << register;
+                thread.readlog[register] = registers[register];
+                (registers[register], Event::ReadTable)
+            };
+            push(thread, value);
+            Step::of(event)
+        }
+        Op::Write(register) => {
+            thread.writes |= 1 << register;
+            thread.writelog[usize::from(register)] = thread.cells[thread.height - 1];
+            Step::of(Event::Write)
+        }
+        Op::Commit => match first_stale(thread, registers) {
+            Some(register) => {
+                thread.cells[thread.base..thread.height].fill(0);
+                thread.place = thread.begin;
+                thread.height = thread.base;
+                close(thread);
+                Step { stale: Some(register as u8), ..Step::of(Event::SentBack) }
+            }
+            None => {
+                for register in marked(thread.writes) {
+                    registers[register] = thread.writelog[register];
+                }
+                close(thread);
+                Step { turn: true, ..Step::of(Event::Commit) }
+            }
+        },
+    }
+}
+
+fn push(thread: &mut Thread, n: i32) {
+    thread.cells[thread.height] = n;
+    thread.height += 1;
+}
+
+/// The registers of a set, ascending.
+pub fn marked(mut set: u64) -> impl Iterator<Item = usize> {
+    std::iter::from_fn(move || {
+        let register = set.trailing_zeros() as usize;
+        set &= set.checked_sub(1)?;
+        Some(register)
+    })
+}
+
+/// The first register whose logged value is no longer the table's.
+pub fn first_stale(thread: &Thread, registers: &[i32; REGISTERS]) -> Option<usize> {
+    marked(thread.reads).find(|&register| thread.readlog[register] != registers[register])
+}
+
+/// Empties logs and notes.
+fn close(thread: &mut Thread) {
+    for register in marked(thread.reads) {
+        thread.readlog[register] = 0;
+    }
+    for register in marked(thread.writes) {
+        thread.writelog[register] = 0;
+    }
+    thread.reads = 0;
+    thread.writes = 0;
+    thread.begin = 0;
+    thread.base = 0;
+}

@@ -1,0 +1,62 @@
+//! A second implementation, in plain Rust. Unproved; written from document 01 alone, for comparison with the library.
+//!
+//! It works on the library's record ([`Thread`](crate::Thread)), so that whole memory can be compared. Two calls have
+//! two forms, for the benchmark: compiling and reading back without a tree (the ones named here) or by a tree
+//! ([`tree`]); running with the records changed in place (the one named here) or by value ([`by_value`]).
+
+pub mod by_value;
+mod code;
+mod compile;
+mod job;
+mod machine;
+mod read_back;
+mod report;
+mod state;
+pub mod tree;
+
+pub use compile::compile;
+pub use machine::{fresh, run, step};
+pub use read_back::read_back;
+pub use report::{listing, report};
+
+use crate::Refusal;
+
+const REGISTERS: usize = 64;
+const RECORDS: usize = 16;
+const MOST_NODES: usize = 1_000;
+const DEEPEST: u8 = 64;
+const MOST_FORKS: usize = 15;
+const MOST_PICKS: usize = 32_768;
+
+/// Mark and version of a job; the node count follows.
+const JOB_HEAD: [u8; 5] = *b"WSJ\x00\x01";
+/// Mark and version of stack code; the instructions follow.
+const CODE_HEAD: [u8; 5] = *b"WSC\x00\x01";
+/// Where a job's nodes start.
+const NODES: usize = 7;
+/// Where code's instructions start.
+const INSTRUCTIONS: usize = 5;
+
+fn refuse<T>(number: u8, place: usize) -> Result<T, Refusal> {
+    Err(Refusal { number, place })
+}
+
+fn short_output<T>() -> Result<T, Refusal> {
+    refuse(10, 0)
+}
+
+fn unknown_code<T>() -> Result<T, Refusal> {
+    refuse(11, 0)
+}
+
+fn unfit_state<T>() -> Result<T, Refusal> {
+    refuse(12, 0)
+}
+
+fn too_many_picks<T>() -> Result<T, Refusal> {
+    refuse(13, 0)
+}
+
+fn number16(high: u8, low: u8) -> usize {
+    usize::from(u16::from_be_bytes([high, low]))
+}

@@ -1,0 +1,93 @@
+//! Whether a state fits its code.
+
+use super::code::{self, Op, Outline};
+use super::{INSTRUCTIONS, MOST_FORKS, RECORDS, REGISTERS};
+use crate::Thread;
+
+/// Where a thread stands, by its code.
+struct Standing {
+    height: usize,
+    /// BEGIN's place and the height there, while a transaction is open.
+    notes: Option<(usize, usize)>,
+}
+
+/// Tests a state against a tested code.
+pub fn fits(code: &[u8], outline: &Outline, registers: usize, threads: &[Thread]) -> bool {
+    if registers != REGISTERS || threads.len() != RECORDS {
+        return false;
+    }
+    let existing = threads.iter().take_while(|thread| thread.start != 0).count();
+    let (threads, absent) = threads.split_at(existing);
+    let Some((root, others)) = threads.split_first() else {
+        return false;
+    };
+    if (root.start, root.end) != (INSTRUCTIONS, code.len()) || absent.iter().any(|thread| *thread != Thread::ABSENT) {
+        return false;
+    }
+    // One thread for each FORK that was passed, and no other.
+    let children = outline.children();
+    let mut started = [false; MOST_FORKS];
+    for thread in others {
+        match children.iter().position(|child| (child.start, child.end) == (thread.start, thread.end)) {
+            Some(fork) if !started[fork] => started[fork] = true,
+            _ => return false,
+        }
+    }
+    let mut passed = [false; MOST_FORKS];
+    for thread in threads {
+        let Some(standing) = walk(code, thread, |child| {
+            if let Some(fork) = children.iter().position(|c| c.start == child) {
+                passed[fork] = true;
+            }
+        }) else {
+            return false;
+        };
+        if !holds(thread, &standing) {
+            return false;
+        }
+    }
+    started == passed
+}
+
+/// Goes through a thread's own code up to its place, if that is one; each FORK on the way is told by its child's start.
+fn walk(code: &[u8], thread: &Thread, mut passing: impl FnMut(usize)) -> Option<Standing> {
+    let mut at = thread.start;
+    let mut height = 0;
+    let mut notes = None;
+    while at < thread.place && at < thread.end {
+        let (op, next) = code::decode(code, at)?;
+        match op {
+            Op::Push(_) | Op::Read(_) => height += 1,
+            Op::Add => height -= 1,
+            Op::Write(_) => {}
+            Op::Begin => notes = Some((at, height)),
+            Op::Commit => notes = None,
+            Op::Fork(length) => {
+                passing(next);
+                height += 1;
+                at = next + length;
+                continue;
+            }
+        }
+        at = next;
+    }
+    (at == thread.place).then_some(Standing { height, notes })
+}
+
+/// Whether the record's stack, notes and logs are those of where it stands.
+fn holds(thread: &Thread, standing: &Standing) -> bool {
+    if thread.height != standing.height || thread.cells[standing.height..].iter().any(|&cell| cell != 0) {
+        return false;
+    }
+    let notes_and_marks = match standing.notes {
+        Some(notes) => (thread.begin, thread.base) == notes,
+        None => (thread.begin, thread.base, thread.reads, thread.writes) == (0, 0, 0, 0),
+    };
+    notes_and_marks
+        && unmarked_are_zero(thread.reads, &thread.readlog)
+        && unmarked_are_zero(thread.writes, &thread.writelog)
+}
+
+fn unmarked_are_zero(marks: u64, log: &[i32; REGISTERS]) -> bool {
+    log.iter().enumerate().all(|(register, &value)| value == 0 || marks >> register & 1 == 1)
+}

@@ -1,0 +1,70 @@
+//! The C header and the C example, built and run with the system's C compiler.
+
+use core::mem::{offset_of, size_of};
+use kuspigo::ffi::{FreshReply, RunReply, StepReply, Written};
+use kuspigo::Thread;
+use std::path::{Path, PathBuf};
+use std::process::Command;
+
+/// What the program of a C file of this package prints; nothing if there is no C compiler.
+fn output_of(source: &str) -> Option<String> {
+    if Command::new("cc").arg("--version").output().is_err() {
+        println!("There is no C compiler `cc` here: {source} is not built.");
+        return None;
+    }
+    let package = Path::new(env!("CARGO_MANIFEST_DIR"));
+    let program: PathBuf = Path::new(env!("CARGO_TARGET_TMPDIR")).join(source.replace(['/', '.'], "_"));
+    let built = Command::new("cc")
+        .args(["-std=c99", "-O1", "-Wall", "-Wextra", "-Wpedantic", "-Werror"])
+        .arg("-I")
+        .arg(package.join("../include"))
+        .arg(package.join(source))
+        .arg("-o")
+        .arg(&program)
+        .arg("-L")
+        .arg(package.join("../target/staticlib"))
+        .args(env!("KUSPIGO_ARCHIVES").split(' ').map(|name| format!("-l{name}")))
+        .output()
+        .expect("the C compiler starts");
+    assert!(built.status.success(), "{source} is not built:\n{}", String::from_utf8_lossy(&built.stderr));
+    let ran = Command::new(&program).output().expect("the program starts");
+    assert!(ran.status.success(), "{source} ends with {}", ran.status);
+    Some(String::from_utf8(ran.stdout).expect("the program prints text"))
+}
+
+#[test]
+fn the_example_prints_the_whole_case() {
+    let Some(printed) = output_of("examples/run.c") else { return };
+    let expected =
+        "steps 21 idle 0 commits 2 back 1\nthread 0 done 0\nthread 1 done 2\nthread 2 done 1\nregister 0 2\n";
+    assert_eq!(printed, expected);
+}
+
+macro_rules! layout {
+    ($($name:literal $type:ty { $($c:literal $field:ident),* })*) => {
+        [$(
+            format!("{} {}\n", $name, size_of::<$type>()),
+            $(format!("{}.{} {}\n", $name, $c, offset_of!($type, $field)),)*
+        )*].concat()
+    };
+}
+
+#[test]
+fn the_header_has_the_same_layout() {
+    let Some(printed) = output_of("tests/layout.c") else { return };
+    let expected = layout! {
+        "kuspigo_thread" Thread {
+            "start" start, "end" end, "place" place, "height" height, "cells" cells, "begin" begin, "base" base,
+            "reads" reads, "readlog" readlog, "writes" writes, "writelog" writelog
+        }
+        "kuspigo_written" Written { "refusal" refusal, "place" place, "length" length }
+        "kuspigo_fresh_reply" FreshReply { "refusal" refusal, "place" place }
+        "kuspigo_step_reply" StepReply {
+            "refusal" refusal, "place" place, "event" event, "stale_register" register, "turn" turn
+        }
+        "kuspigo_run_reply" RunReply {
+            "refusal" refusal, "place" place, "steps" steps, "idle" idle, "commits" commits, "back" back
+        }
+    };
+    assert_eq!(printed, expected);
+}

@@ -1,0 +1,1232 @@
+//! The library beside the plain implementation, on random cases of each call: answers and all memory must be equal.
+//!
+//! KUSPIGO_SEED and KUSPIGO_CASES (for each call) choose the cases. An argument runs only the calls whose name has it.
+
+use kuspigo::ffi::{FreshReply, RunReply, StepReply, Written};
+use kuspigo::plain::{self, by_value, tree};
+use kuspigo::samples::{chain, many_small, sum, Lean, Rng, Shape};
+use kuspigo::{raw, Counts, Event, Refusal, Step, Thread};
+use std::collections::BTreeMap;
+use std::fmt::{Debug, Write};
+use std::time::Instant;
+use tree::{Process, Transaction};
+
+const SEED: u64 = 1;
+const CASES: u64 = 20_000;
+/// From so many cases on, each refusal and each event has to come.
+const ENOUGH: u64 = 5_000;
+/// So many differences of a call are shown.
+const SHOWN: u64 = 5;
+
+struct Call {
+    name: &'static str,
+    /// One case: what differs, if anything does.
+    case: fn(&mut Rng, &mut Tally) -> Result<(), String>,
+    /// What has to come, as [`Tally`] names it.
+    reaches: &'static [&'static str],
+}
+
+const CALLS: [Call; 6] = [
+    Call {
+        name: "compile",
+        case: compile,
+        reaches: &[
+            "accepted",
+            "refused 01",
+            "refused 02",
+            "refused 03",
+            "refused 04",
+            "refused 05",
+            "refused 06",
+            "refused 07",
+            "refused 08",
+            "refused 09",
+            "refused 10",
+            "taken: 1,000 nodes",
+            "taken: depth 64",
+            "taken: 15 FORKs",
+            "taken: register 63",
+            "taken: 3,007 bytes",
+        ],
+    },
+    Call { name: "read_back", case: read_back, reaches: &["accepted", "refused 10", "refused 11"] },
+    Call { name: "fresh", case: fresh, reaches: &["accepted", "refused 11", "refused 12"] },
+    Call {
+        name: "step",
+        case: step,
+        reaches: &[
+            "accepted",
+            "refused 11",
+            "refused 12",
+            "event Idle",
+            "event Push",
+            "event Sum",
+            "event Fork",
+            "event Begin",
+            "event ReadWriteLog",
+            "event ReadReadLog",
+            "event ReadTable",
+            "event Write",
+            "event Commit",
+            "event SentBack",
+            "turn of Sum",
+            "turn of Fork",
+            "turn of Commit",
+        ],
+    },
+    Call {
+        name: "run",
+        case: run,
+        reaches: &[
+            "accepted",
+            "refused 11",
+            "refused 12",
+            "refused 13",
+            "picks: idle",
+            "picks: steps",
+            "picks: commits",
+            "picks: back",
+            "lists of 32,768",
+        ],
+    },
+    Call {
+        name: "report",
+        case: report,
+        reaches: &[
+            "accepted",
+            "refused 10",
+            "prints a listing",
+            "prints a thread done",
+            "prints a thread open",
+            "prints a register",
+            "prints threads sent back",
+            "prints refused 01",
+            "prints refused 02",
+            "prints refused 03",
+            "prints refused 04",
+            "prints refused 05",
+            "prints refused 06",
+            "prints refused 07",
+            "prints refused 08",
+            "prints refused 09",
+            "prints refused 13",
+        ],
+    },
+];
+
+/// How often each thing came.
+#[derive(Default)]
+struct Tally(BTreeMap<String, u64>);
+
+impl Tally {
+    fn add(&mut self, what: &str, times: usize) {
+        match self.0.get_mut(what) {
+            Some(count) => *count += times as u64,
+            None => {
+                self.0.insert(what.to_string(), times as u64);
+            }
+        }
+    }
+
+    fn of(&self, what: &str) -> u64 {
+        self.0.get(what).copied().unwrap_or(0)
+    }
+
+    fn add_if(&mut self, met: bool, what: &str) {
+        if met {
+            self.add(what, 1);
+        }
+    }
+
+    fn refusal(&mut self, number: usize) {
+        match number {
+            0 => self.add("accepted", 1),
+            _ => self.add(&format!("refused {number:02}"), 1),
+        }
+    }
+
+    /// What became of a state; some are made so that they fit.
+    fn scene(&mut self, what: &str, refusal: usize) -> Result<(), String> {
+        if FITTING.contains(&what) && refusal != 0 {
+            return Err(format!("a state is refused with {refusal} that was made to fit: {what}"));
+        }
+        match refusal {
+            0 => self.add(&format!("state {what}: fits"), 1),
+            _ => self.add(&format!("state {what}: {refusal}"), 1),
+        }
+        Ok(())
+    }
+}
+
+fn main() {
+    let seed = setting("KUSPIGO_SEED", SEED);
+    let cases = setting("KUSPIGO_CASES", CASES);
+    let named: Vec<String> = std::env::args().skip(1).filter(|argument| !argument.starts_with('-')).collect();
+    println!("\ncomparison of the library with the plain implementation: seed {seed}, {cases} cases a call");
+    println!("(KUSPIGO_SEED and KUSPIGO_CASES choose others)\n");
+    let mut differences = 0;
+    let mut missing = 0;
+    for (number, call) in CALLS.iter().enumerate() {
+        if !named.is_empty() && !named.iter().any(|name| call.name.contains(name.as_str())) {
+            continue;
+        }
+        let started = Instant::now();
+        let mut tally = Tally::default();
+        let mut differing = 0;
+        for case in 0..cases {
+            if let Err(difference) = (call.case)(&mut Rng::new(seed, number as u64, case), &mut tally) {
+                differing += 1;
+                if differing <= SHOWN {
+                    println!("DIFFERENCE in {}, case {case}:\n{difference}", call.name);
+                }
+            }
+        }
+        println!("{}: {cases} cases, {differing} differences, {:.1} s", call.name, started.elapsed().as_secs_f64());
+        for (what, count) in &tally.0 {
+            println!("    {what:<32} {count:>10}");
+        }
+        for what in call.reaches.iter().filter(|&&what| cases >= ENOUGH && tally.of(what) == 0) {
+            println!("    NOT REACHED: {what}");
+            missing += 1;
+        }
+        differences += differing;
+    }
+    println!("{differences} differences, {missing} not reached\n");
+    if differences + missing > 0 {
+        std::process::exit(1);
+    }
+}
+
+fn setting(name: &str, default: u64) -> u64 {
+    match std::env::var(name) {
+        Ok(text) => text.parse().unwrap_or_else(|_| panic!("{name} has to be a number")),
+        Err(_) => default,
+    }
+}
+
+// The calls that write bytes.
+
+type Writes<'a> = (&'a str, &'a dyn Fn(&[u8], &mut [u8]) -> Written);
+
+fn compile(rng: &mut Rng, tally: &mut Tally) -> Result<(), String> {
+    let job = any_job(rng);
+    let answer = outputs(
+        rng,
+        &job,
+        &[
+            ("plain", &|job, out| written(plain::compile(job, out))),
+            ("plain by a tree", &|job, out| written(tree::compile(job, out))),
+            ("library", &|job, out| raw::compile(job, out)),
+        ],
+    )?;
+    tally.refusal(answer.refusal);
+    if answer.refusal == 0 {
+        let tree = Process::read(&job).map_err(|_| "a job that only some accept")?;
+        let limits = [
+            ("taken: 1,000 nodes", tree.nodes() == 1_000),
+            ("taken: depth 64", tree.depth() == 64),
+            ("taken: 15 FORKs", tree.forks() == 15),
+            ("taken: register 63", instructions(&tree.code()).iter().any(|&at| names(&tree.code()[at..], 63))),
+            ("taken: 3,007 bytes", answer.length == 3_007),
+        ];
+        for (limit, met) in limits {
+            tally.add_if(met, limit);
+        }
+    }
+    Ok(())
+}
+
+/// Whether it is READ or WRITE of the register.
+fn names(instruction: &[u8], register: u8) -> bool {
+    matches!(instruction, &[3 | 4, named, ..] if named == register)
+}
+
+fn read_back(rng: &mut Rng, tally: &mut Tally) -> Result<(), String> {
+    let code = any_code(rng);
+    let answer = outputs(
+        rng,
+        &code,
+        &[
+            ("plain", &|code, out| written(plain::read_back(code, out))),
+            ("plain by a tree", &|code, out| written(tree::read_back(code, out))),
+            ("library", &|code, out| raw::read_back(code, out)),
+        ],
+    )?;
+    tally.refusal(answer.refusal);
+    Ok(())
+}
+
+fn report(rng: &mut Rng, tally: &mut Tally) -> Result<(), String> {
+    let input = any_input(rng);
+    let answer = outputs(
+        rng,
+        &input,
+        &[
+            ("plain", &|input, out| written(plain::report(input, out))),
+            ("library", &|input, out| raw::report(input, out)),
+        ],
+    )?;
+    tally.refusal(answer.refusal);
+    if answer.refusal == 0 {
+        let text = plain::listing(&input);
+        match text.strip_prefix("refused ") {
+            Some(rest) => {
+                let number: u8 = rest.split(' ').next().unwrap().parse().unwrap();
+                tally.add(&format!("prints refused {number:02}"), 1);
+            }
+            None => {
+                tally.add("prints a listing", 1);
+                tally.add_if(text.contains(" done "), "prints a thread done");
+                tally.add_if(text.contains(" open"), "prints a thread open");
+                tally.add_if(text.contains("register "), "prints a register");
+                tally.add_if(!text.contains(" back 0\n"), "prints threads sent back");
+            }
+        }
+    }
+    Ok(())
+}
+
+/// Lends each call the same part of the same bytes as its output, and compares what is answered and left.
+fn outputs(rng: &mut Rng, input: &[u8], calls: &[Writes]) -> Result<Written, String> {
+    let mut trial = vec![0; 3_100];
+    let needed = calls[0].1(input, &mut trial).length;
+    let lent = match rng.below(8) {
+        0 if needed > 0 => needed - 1,
+        1 => rng.below(needed + 1),
+        2 => needed + 1 + rng.below(40),
+        3 => needed + 1,
+        _ => needed,
+    };
+    // the lent part starts at any alignment
+    let from = rng.below(9);
+    let pattern = bytes(rng, from + lent + 9);
+    let mut first: Option<(Written, Vec<u8>)> = None;
+    for (name, call) in calls {
+        let mut memory = pattern.clone();
+        let answer = call(input, &mut memory[from..from + lent]);
+        let done = if answer.refusal == 0 { answer.length } else { 0 };
+        if memory[..from] != pattern[..from] || memory[from + done..] != pattern[from + done..] {
+            return Err(format!(
+                "{name}: bytes outside the result are altered\ninput {}\noutput of {lent} bytes",
+                hex(input)
+            ));
+        }
+        match &first {
+            None => first = Some((answer, memory)),
+            Some((expected, left)) if (expected, left) == (&answer, &memory) => {}
+            Some((expected, left)) => {
+                return Err(format!(
+                    "input {}\noutput of {lent} bytes\n{}: {expected:?} {}\n{name}: {answer:?} {}",
+                    hex(input),
+                    calls[0].0,
+                    hex(&left[from..from + lent]),
+                    hex(&memory[from..from + lent])
+                ))
+            }
+        }
+    }
+    Ok(first.unwrap().0)
+}
+
+fn written(result: Result<usize, Refusal>) -> Written {
+    match result {
+        Ok(length) => Written { refusal: 0, place: 0, length },
+        Err(refusal) => Written { refusal: refusal.number.into(), place: refusal.place, length: 0 },
+    }
+}
+
+// The calls on a state.
+
+/// The memory of which a part is lent.
+#[derive(Clone, PartialEq)]
+struct Memory {
+    registers: Vec<i32>,
+    threads: Vec<Thread>,
+}
+
+/// What lies in front of the lent parts and behind them.
+const AROUND: usize = 2;
+
+impl Memory {
+    /// A state with other values around it, and more of them if more are to be lent.
+    fn around(rng: &mut Rng, state: &State, counts: (usize, usize)) -> Memory {
+        let mut registers: Vec<i32> = (0..counts.0.max(64) + 2 * AROUND).map(|_| rng.draw() as i32).collect();
+        let mut threads = vec![garbage(rng); counts.1.max(16) + 2 * AROUND];
+        registers[AROUND..AROUND + 64].copy_from_slice(&state.registers);
+        threads[AROUND..AROUND + 16].copy_from_slice(&state.threads);
+        Memory { registers, threads }
+    }
+
+    fn lend(&mut self, (registers, threads): (usize, usize)) -> (&mut [i32], &mut [Thread]) {
+        (&mut self.registers[AROUND..AROUND + registers], &mut self.threads[AROUND..AROUND + threads])
+    }
+}
+
+/// How many registers and records are lent.
+type Lent = (usize, usize);
+
+fn fresh(rng: &mut Rng, tally: &mut Tally) -> Result<(), String> {
+    let code = any_code(rng);
+    let garbage = State { registers: [0; 64].map(|_: i32| rng.draw() as i32), threads: [garbage(rng); 16] };
+    let lent = if rng.one_in(4) { wrong_counts(rng) } else { (64, 16) };
+    let answer = states(
+        rng,
+        &garbage,
+        lent,
+        &[
+            ("plain", &|registers, threads| fresh_reply(plain::fresh(&code, registers, threads))),
+            ("library", &|registers, threads| raw::fresh(&code, registers, threads)),
+        ],
+        |reply| reply.refusal,
+        || format!("code {}", hex(&code)),
+    )?;
+    tally.refusal(answer.refusal);
+    Ok(())
+}
+
+fn step(rng: &mut Rng, tally: &mut Tally) -> Result<(), String> {
+    let Scene { what, code, state, lent } = any_scene(rng);
+    let pick = one_pick(rng, &state);
+    let answer = states(
+        rng,
+        &state,
+        lent,
+        &[
+            ("plain", &|registers, threads| step_reply(plain::step(&code, registers, threads, pick))),
+            ("plain by value", &|registers, threads| step_reply(by_value::step(&code, registers, threads, pick))),
+            ("library", &|registers, threads| raw::step(&code, registers, threads, pick)),
+        ],
+        |reply| reply.refusal,
+        || format!("code {}\npick {pick}", hex(&code)),
+    )?;
+    tally.refusal(answer.refusal);
+    tally.scene(what, answer.refusal)?;
+    if answer.refusal == 0 {
+        let event = Event::from_number(answer.event).ok_or("an unknown event")?;
+        tally.add(&format!("event {event:?}"), 1);
+        tally.add_if(answer.turn == 1, &format!("turn of {event:?}"));
+    }
+    Ok(())
+}
+
+fn run(rng: &mut Rng, tally: &mut Tally) -> Result<(), String> {
+    let Scene { what, code, state, lent } = if rng.one_in(100) { busy_scene(rng) } else { any_scene(rng) };
+    let count = match rng.below(300) {
+        _ if what == BUSY => rng.choose(&[3_000, 10_000, 32_768]),
+        0 => 32_768,
+        1..=3 => 32_769,
+        4 => 32_769 + rng.below(3_000),
+        5..=20 => 0,
+        21..=60 => rng.between(100, 600),
+        _ => rng.below(40),
+    };
+    let threads = if what == BUSY { 16 } else { state.existing() + rng.between(1, 3) };
+    let picks = picks(rng, count, threads);
+    let answer = states(
+        rng,
+        &state,
+        lent,
+        &[
+            ("plain", &|registers, threads| run_reply(plain::run(&code, registers, threads, &picks))),
+            ("plain by value", &|registers, threads| run_reply(by_value::run(&code, registers, threads, &picks))),
+            ("library", &|registers, threads| raw::run(&code, registers, threads, &picks)),
+        ],
+        |reply| reply.refusal,
+        || format!("code {}\n{} picks {}", hex(&code), picks.len(), hex(&picks)),
+    )?;
+    tally.refusal(answer.refusal);
+    if answer.refusal != 13 {
+        tally.scene(what, answer.refusal)?;
+    }
+    if answer.refusal == 0 {
+        tally.add("picks: steps", answer.steps);
+        tally.add("picks: idle", answer.idle);
+        tally.add("picks: commits", answer.commits);
+        tally.add("picks: back", answer.back);
+        tally.add_if(count == 32_768, "lists of 32,768");
+    }
+    Ok(())
+}
+
+type Acts<'a, R> = (&'a str, &'a dyn Fn(&mut [i32], &mut [Thread]) -> R);
+
+/// Lends each call the same part of the same memory, and compares what is answered and left.
+fn states<R: Copy + PartialEq + Debug>(
+    rng: &mut Rng,
+    state: &State,
+    lent: Lent,
+    calls: &[Acts<R>],
+    refusal: impl Fn(&R) -> usize,
+    input: impl Fn() -> String,
+) -> Result<R, String> {
+    let before = Memory::around(rng, state, lent);
+    let mut first: Option<(R, Memory)> = None;
+    for (name, call) in calls {
+        let mut memory = before.clone();
+        let (registers, threads) = memory.lend(lent);
+        let answer = call(registers, threads);
+        if refusal(&answer) != 0 && memory != before {
+            return Err(format!("{name}: memory is altered by a refused call\n{}", shown(&before, lent, input())));
+        }
+        match &first {
+            None => first = Some((answer, memory)),
+            Some((expected, left)) if (expected, left) == (&answer, &memory) => {}
+            Some((expected, left)) => {
+                return Err(format!(
+                    "{}\n{}: {expected:?}\n{name}: {answer:?}\n{}",
+                    shown(&before, lent, input()),
+                    calls[0].0,
+                    contrast(left, &memory)
+                ))
+            }
+        }
+    }
+    Ok(first.unwrap().0)
+}
+
+/// The input of a call on a state, for a reader; records and registers with 0 throughout are left out.
+fn shown(memory: &Memory, lent: Lent, input: String) -> String {
+    let mut text = format!("{input}\nlent {} registers, {} records", lent.0, lent.1);
+    for i in AROUND..AROUND + lent.1 {
+        if memory.threads[i] != Thread::ABSENT {
+            write!(text, "\nrecord {}: {:?}", i - AROUND, memory.threads[i]).unwrap();
+        }
+    }
+    for i in AROUND..AROUND + lent.0 {
+        if memory.registers[i] != 0 {
+            write!(text, "\nregister {}: {}", i - AROUND, memory.registers[i]).unwrap();
+        }
+    }
+    text
+}
+
+fn contrast(first: &Memory, second: &Memory) -> String {
+    let mut text = String::from("what is left differs in (2 is the first that is lent):");
+    for (i, pair) in first.threads.iter().zip(&second.threads).enumerate().filter(|(_, pair)| pair.0 != pair.1) {
+        write!(text, "\nrecord {i}: {:?}\n    beside: {:?}", pair.0, pair.1).unwrap();
+    }
+    for (i, pair) in first.registers.iter().zip(&second.registers).enumerate().filter(|(_, pair)| pair.0 != pair.1) {
+        write!(text, "\nregister {i}: {} beside {}", pair.0, pair.1).unwrap();
+    }
+    text
+}
+
+fn fresh_reply(result: Result<(), Refusal>) -> FreshReply {
+    match result {
+        Ok(()) => FreshReply { refusal: 0, place: 0 },
+        Err(refusal) => FreshReply { refusal: refusal.number.into(), place: refusal.place },
+    }
+}
+
+fn step_reply(result: Result<Step, Refusal>) -> StepReply {
+    match result {
+        Ok(step) => StepReply {
+            refusal: 0,
+            place: 0,
+            event: step.event as usize,
+            register: step.stale.unwrap_or(0).into(),
+            turn: step.turn.into(),
+        },
+        Err(refusal) => {
+            StepReply { refusal: refusal.number.into(), place: refusal.place, event: 0, register: 0, turn: 0 }
+        }
+    }
+}
+
+fn run_reply(result: Result<Counts, Refusal>) -> RunReply {
+    match result {
+        Ok(Counts { steps, idle, commits, back }) => RunReply { refusal: 0, place: 0, steps, idle, commits, back },
+        Err(refusal) => {
+            RunReply { refusal: refusal.number.into(), place: refusal.place, steps: 0, idle: 0, commits: 0, back: 0 }
+        }
+    }
+}
+
+// Jobs, codes and inputs.
+
+fn any_tree(rng: &mut Rng) -> Process {
+    let nodes = match rng.below(200) {
+        0 | 1 => rng.between(300, 1_000),
+        2..=15 => rng.between(41, 300),
+        16..=99 => rng.between(13, 40),
+        _ => rng.between(1, 12),
+    };
+    Shape {
+        nodes,
+        room: rng.choose(&[11, 20, 64, 64]),
+        forks: rng.choose(&[0, 2, 4, 15]),
+        transaction: rng.choose(&[12, 1_000]),
+        registers: rng.between(1, 4),
+        lean: rng.choose(&[Lean::Even, Lean::Left, Lean::Right, Lean::Any]),
+    }
+    .tree(rng)
+}
+
+/// A tree at one of the limits: on either side of it, or on the last step before it.
+fn limit_tree(rng: &mut Rng) -> Process {
+    match rng.below(17) {
+        0 if rng.one_in(2) => {
+            // 1,000 nodes with the longest code
+            let forks = rng.choose(&[1, 3, 15]);
+            let mut parts: Vec<Process> = (0..(1_001 - forks) / 2).map(|_| Process::Val(rng.number())).collect();
+            for _ in 0..forks {
+                let part = &mut parts[rng.below(400)];
+                *part = Process::Fork(Box::new(part.clone()));
+            }
+            sum(parts)
+        }
+        0 => {
+            let nodes = rng.between(999, 1_001);
+            let lean = rng.choose(&[Lean::Even, Lean::Left, Lean::Right, Lean::Any]);
+            let forks = rng.choose(&[0, 15]);
+            Shape { nodes, room: 64, forks, transaction: 1_000, registers: 3, lean }.tree(rng)
+        }
+        1..=7 => {
+            let depth = rng.between(63, 66);
+            let forks = rng.choose(&[0, 10, 15, 16, 40]);
+            chain(rng, depth, forks)
+        }
+        8..=11 => {
+            let mut tree = Process::Val(rng.number());
+            for _ in 0..rng.between(14, 17) {
+                let beside = Box::new(Process::Fork(Box::new(Process::Val(rng.number()))));
+                tree = match rng.below(3) {
+                    0 => Process::Fork(Box::new(tree)),
+                    1 => Process::Add(Box::new(tree), beside),
+                    _ => Process::Add(beside, Box::new(tree)),
+                };
+            }
+            tree
+        }
+        _ => {
+            let far = rng.choose(&[62, 63, 64, 65, 127, 128, 255]);
+            let near = rng.choose(&[0, 63]);
+            let t = match rng.below(3) {
+                0 => Transaction::Read(far),
+                1 => Transaction::Write(far, Box::new(Transaction::Read(near))),
+                _ => Transaction::Write(near, Box::new(Transaction::Read(far))),
+            };
+            let beside = any_tree(rng);
+            Process::Add(Box::new(Process::Atomic(Box::new(t))), Box::new(beside))
+        }
+    }
+}
+
+fn any_job(rng: &mut Rng) -> Vec<u8> {
+    let mut job = match rng.below(40) {
+        0..=3 => random_nodes(rng),
+        4 => {
+            let count = rng.below(40);
+            bytes(rng, count)
+        }
+        5..=16 => limit_tree(rng).job(),
+        _ => any_tree(rng).job(),
+    };
+    if rng.one_in(3) {
+        return job;
+    }
+    for _ in 0..rng.choose(&[1, 1, 1, 2, 3]) {
+        damage(rng, &mut job, 5);
+    }
+    // once more where it is refused, so that two reasons meet
+    if rng.one_in(3) {
+        if let Err(refusal) = plain::compile(&job, &mut [0; 3_100]) {
+            match rng.below(4) {
+                0 => job.truncate(refusal.place + rng.below(6)),
+                1 if refusal.place < job.len() => job[refusal.place] = rng.below(10) as u8,
+                2 if job.len() > 6 => set_count(rng, &mut job),
+                _ => damage(rng, &mut job, 5),
+            }
+        }
+    }
+    job
+}
+
+/// A good head, then kinds that are mostly permitted, each with its operand.
+fn random_nodes(rng: &mut Rng) -> Vec<u8> {
+    let count = rng.between(1, 12);
+    let mut job = b"WSJ\x00\x01\x00".to_vec();
+    job.push(count as u8);
+    for _ in 0..count {
+        let kind = rng.between(0, 9) as u8;
+        job.push(kind);
+        match kind {
+            1 | 5 => job.extend(rng.number().to_be_bytes()),
+            7 | 8 => job.push(rng.below(70) as u8),
+            _ => {}
+        }
+    }
+    job
+}
+
+fn set_count(rng: &mut Rng, job: &mut [u8]) {
+    let count = u16::from_be_bytes([job[5], job[6]]);
+    let count = match rng.below(6) {
+        0 => count.wrapping_sub(1),
+        1 => count.wrapping_add(1),
+        2 => rng.below(20) as u16,
+        3 => rng.choose(&[0, 1, 999, 1_000, 1_001, 65_535]),
+        4 => rng.below(count as usize + 1) as u16,
+        _ => rng.draw() as u16,
+    };
+    job[5..7].copy_from_slice(&count.to_be_bytes());
+}
+
+/// Changes some bytes; `count` is where a number of two bytes stands.
+fn damage(rng: &mut Rng, bytes: &mut Vec<u8>, count: usize) {
+    if bytes.is_empty() {
+        bytes.push(rng.byte());
+        return;
+    }
+    let at = rng.below(bytes.len());
+    match rng.below(12) {
+        0 => bytes[at] ^= 1 << rng.below(8),
+        1 => bytes[at] = rng.byte(),
+        2 | 3 => bytes[at] = rng.below(10) as u8,
+        4 => bytes.truncate(at),
+        5 => bytes.truncate(bytes.len().saturating_sub(rng.between(1, 6))),
+        6 => {
+            for _ in 0..rng.between(1, 3) {
+                bytes.insert(at, rng.below(9) as u8);
+            }
+        }
+        7 => {
+            let end = (at + rng.between(1, 5)).min(bytes.len());
+            bytes.drain(at..end);
+        }
+        8 => {
+            let at = rng.below(bytes.len().min(7));
+            bytes[at] = rng.choose(&[0, 1, 2, 0x43, 0x4A, 0x53, 0x57, 0xFF]);
+        }
+        9 if bytes.len() >= count + 2 => match count {
+            5 => set_count(rng, bytes),
+            _ => bytes[count + 1] = bytes[count + 1].wrapping_add(1),
+        },
+        10 => {
+            let end = (at + rng.between(1, 12)).min(bytes.len());
+            let again = bytes[at..end].to_vec();
+            let to = rng.between(at, bytes.len());
+            bytes.splice(to..to, again);
+        }
+        _ => bytes.extend([1, 0, 0, 0, 7].iter().take(rng.between(1, 5))),
+    }
+}
+
+fn any_code(rng: &mut Rng) -> Vec<u8> {
+    let mut code = match rng.below(12) {
+        0 => random_instructions(rng),
+        1 | 2 => {
+            let mut code = b"WSC\x00\x01".to_vec();
+            loose(rng, &mut code, 4);
+            code
+        }
+        3..=5 => limit_tree(rng).code(),
+        _ => any_tree(rng).code(),
+    };
+    match rng.below(6) {
+        0 | 1 => {
+            for _ in 0..rng.choose(&[1, 1, 2]) {
+                let fork = instructions(&code).into_iter().find(|&at| code[at] == 7);
+                damage(rng, &mut code, fork.map_or(3, |at| at + 1));
+            }
+        }
+        2 => shuffle_instructions(rng, &mut code),
+        _ => {}
+    }
+    code
+}
+
+fn random_instructions(rng: &mut Rng) -> Vec<u8> {
+    let mut code = b"WSC\x00\x01".to_vec();
+    for _ in 0..rng.between(0, 10) {
+        let op = rng.choose(&[1, 1, 1, 2, 2, 3, 4, 5, 6, 7, 0, 8]);
+        code.push(op);
+        match op {
+            1 => code.extend(rng.number().to_be_bytes()),
+            3 | 4 => code.push(rng.below(70) as u8),
+            7 => code.extend([0, rng.below(12) as u8]),
+            _ => {}
+        }
+    }
+    code
+}
+
+/// Code that leaves one number, with its parts mostly of the right sort.
+fn loose(rng: &mut Rng, code: &mut Vec<u8>, room: usize) {
+    match if room == 0 { rng.below(3) } else { rng.below(10) } {
+        0 => code.extend([3, rng.below(3) as u8]),
+        1 | 2 => {
+            code.push(1);
+            code.extend(rng.number().to_be_bytes());
+        }
+        3 | 4 => {
+            loose(rng, code, room - 1);
+            loose(rng, code, room - 1);
+            code.push(2);
+        }
+        5 => {
+            loose(rng, code, room - 1);
+            code.extend([4, rng.below(3) as u8]);
+        }
+        6 | 7 => {
+            code.push(5);
+            loose(rng, code, room - 1);
+            code.push(6);
+        }
+        _ => {
+            code.extend([7, 0, 0]);
+            let start = code.len();
+            if !rng.one_in(20) {
+                loose(rng, code, room - 1);
+            }
+            let length = (code.len() - start) as u16;
+            let length = if rng.one_in(10) { rng.below(2 * code.len()) as u16 } else { length };
+            code[start - 2..start].copy_from_slice(&length.to_be_bytes());
+        }
+    }
+}
+
+/// Where instructions start, as far as the code can be read.
+fn instructions(code: &[u8]) -> Vec<usize> {
+    let mut starts = Vec::new();
+    let mut at = 5;
+    while at < code.len() {
+        let length = match code[at] {
+            1 => 5,
+            2 | 5 | 6 => 1,
+            3 | 4 => 2,
+            7 => 3,
+            _ => break,
+        };
+        if at + length > code.len() {
+            break;
+        }
+        starts.push(at);
+        at += length;
+    }
+    starts
+}
+
+/// Leaves an instruction out, doubles it or moves it.
+fn shuffle_instructions(rng: &mut Rng, code: &mut Vec<u8>) {
+    let starts = instructions(code);
+    if starts.len() < 2 {
+        return;
+    }
+    let i = rng.below(starts.len() - 1);
+    let one = code[starts[i]..starts[i + 1]].to_vec();
+    let to = rng.choose(&starts);
+    match rng.below(3) {
+        0 => {
+            code.drain(starts[i]..starts[i + 1]);
+        }
+        1 => {
+            code.splice(to..to, one);
+        }
+        _ => {
+            code.drain(starts[i]..starts[i + 1]);
+            let to = if to > starts[i] { to - one.len() } else { to };
+            code.splice(to..to, one);
+        }
+    }
+}
+
+/// An input of the run program.
+fn any_input(rng: &mut Rng) -> Vec<u8> {
+    let job = match rng.below(8) {
+        0 | 1 => any_job(rng),
+        2 => limit_tree(rng).job(),
+        3 => {
+            let threads = rng.between(1, 5);
+            many_small(rng.between(12, 60) * threads, threads).job()
+        }
+        _ => any_tree(rng).job(),
+    };
+    let length = match rng.below(24) {
+        0 => rng.below(job.len() + 1),
+        1 => job.len() + rng.below(20),
+        _ => job.len(),
+    };
+    let count = match rng.below(400) {
+        0 => 32_768,
+        1 => 32_769,
+        2 => 70_000,
+        3..=200 => rng.between(40, 400),
+        _ => rng.below(40),
+    };
+    let threads = rng.between(1, 5);
+    let mut input = (length as u16).to_be_bytes().to_vec();
+    input.extend(&job);
+    input.extend(picks(rng, count, threads));
+    match rng.below(40) {
+        0 => input.truncate(rng.below(input.len() + 1)),
+        1 => input.truncate(rng.below(3)),
+        2 => input.truncate((2 + length).saturating_sub(rng.below(2))),
+        3 => damage(rng, &mut input, 5),
+        4 if rng.one_in(8) => {
+            // a job longer than any that is accepted
+            let length = rng.between(3_000, 65_535);
+            input = (length as u16).to_be_bytes().to_vec();
+            input.extend(&job);
+            input.resize(2 + length + rng.below(3), 0);
+        }
+        _ => {}
+    }
+    input
+}
+
+// States.
+
+#[derive(Clone)]
+struct State {
+    registers: [i32; 64],
+    threads: [Thread; 16],
+}
+
+impl State {
+    fn existing(&self) -> usize {
+        self.threads.iter().filter(|thread| thread.exists()).count()
+    }
+}
+
+/// What a call on a state is given.
+struct Scene {
+    /// How the state was made.
+    what: &'static str,
+    code: Vec<u8>,
+    state: State,
+    lent: Lent,
+}
+
+const REACHED: &str = "reached";
+const FREE: &str = "with free values";
+const RENUMBERED: &str = "renumbered";
+const MADE: &str = "made up";
+const BUSY: &str = "of a busy job";
+/// States that fit whatever the implementations say.
+const FITTING: [&str; 5] = [REACHED, FREE, RENUMBERED, MADE, BUSY];
+
+/// A state that picks reached, or one made up from the rules, perhaps altered, for its code or another one.
+fn any_scene(rng: &mut Rng) -> Scene {
+    let code = any_accepted(rng);
+    let made = rng.one_in(2);
+    let state = if made { make_up(rng, &code) } else { reach(rng, &code, 400) };
+    let what = if made { MADE } else { REACHED };
+    let mut scene = Scene { what, code, state, lent: (64, 16) };
+    let Scene { what, code, state, lent } = &mut scene;
+    match rng.below(20) {
+        0..=5 => {}
+        6 | 7 => {
+            *what = FREE;
+            free_values(rng, state);
+        }
+        8 => {
+            *what = RENUMBERED;
+            renumber(rng, state);
+        }
+        9..=13 => {
+            *what = "with another field";
+            alter_field(rng, code, state);
+        }
+        14..=16 => {
+            *what = "with other records";
+            alter_records(rng, code, state);
+        }
+        17 => {
+            *what = "of other lengths";
+            *lent = wrong_counts(rng);
+            if rng.one_in(4) {
+                damage(rng, code, 3);
+            }
+        }
+        18 => {
+            *what = "and damaged code";
+            damage(rng, code, 3);
+            if rng.one_in(4) {
+                alter_field(rng, code, state);
+            }
+        }
+        _ => {
+            *what = "and other code";
+            *code = any_code(rng);
+        }
+    }
+    scene
+}
+
+/// The fresh state of a job with much to do at the same registers.
+fn busy_scene(rng: &mut Rng) -> Scene {
+    let nodes = rng.between(200, 1_000);
+    let threads = rng.between(1, 16);
+    let code = many_small(nodes, threads).code();
+    let state = reach(rng, &code, 1);
+    Scene { what: BUSY, code, state, lent: (64, 16) }
+}
+
+fn any_accepted(rng: &mut Rng) -> Vec<u8> {
+    loop {
+        let tree = if rng.one_in(12) { limit_tree(rng) } else { any_tree(rng) };
+        if plain::compile(&tree.job(), &mut [0; 3_100]).is_ok() {
+            return tree.code();
+        }
+    }
+}
+
+/// A state that fewer picks than this reach from the fresh one.
+fn reach(rng: &mut Rng, code: &[u8], most: usize) -> State {
+    let mut state = State { registers: [0; 64], threads: [Thread::ABSENT; 16] };
+    plain::fresh(code, &mut state.registers, &mut state.threads).expect("the code is a job's");
+    let places = instructions(code);
+    let forks = places.iter().filter(|&&at| code[at] == 7).count();
+    let count = rng.below(most.min(2 * places.len()));
+    let list = picks(rng, count, 1 + forks);
+    plain::run(code, &mut state.registers, &mut state.threads, &list).expect("a fresh state fits");
+    state
+}
+
+/// A state that fits, by the rules alone: each thread stands anywhere in its code, each FORK behind it has a thread.
+fn make_up(rng: &mut Rng, code: &[u8]) -> State {
+    let mut threads = vec![(5, code.len())];
+    let mut state = State { registers: [0; 64].map(|_| rng.number()), threads: [Thread::ABSENT; 16] };
+    let mut made = 0;
+    while made < threads.len() {
+        let (start, end) = threads[made];
+        let thread = &mut state.threads[made];
+        (thread.start, thread.end) = (start, end);
+        // its own instructions with the stack height in front of each, then its end
+        let mut own = Vec::new();
+        let (mut at, mut height) = (start, 0);
+        while at < end {
+            own.push((at, height));
+            let (length, change) = match code[at] {
+                1 => (5, 1),
+                2 => (1, -1),
+                3 => (2, 1),
+                4 => (2, 0),
+                7 => (3 + usize::from(u16::from_be_bytes([code[at + 1], code[at + 2]])), 1),
+                _ => (1, 0),
+            };
+            at += length;
+            height += change;
+        }
+        own.push((end, height));
+        let commits: Vec<usize> = (0..own.len() - 1).filter(|&i| code[own[i].0] == 6).collect();
+        let stands = match rng.below(8) {
+            0 => own.len() - 1,
+            1 | 2 if !commits.is_empty() => rng.choose(&commits),
+            _ => rng.below(own.len()),
+        };
+        thread.place = own[stands].0;
+        thread.height = own[stands].1 as usize;
+        for &(at, height) in &own[..stands] {
+            match code[at] {
+                5 => (thread.begin, thread.base) = (at, height as usize),
+                6 => (thread.begin, thread.base) = (0, 0),
+                7 => threads.push((at + 3, at + 3 + usize::from(u16::from_be_bytes([code[at + 1], code[at + 2]])))),
+                _ => {}
+            }
+        }
+        made += 1;
+    }
+    renumber(rng, &mut state);
+    free_values(rng, &mut state);
+    state
+}
+
+/// Picks of the first so many threads, each alone, in turns or mixed, with a few others.
+fn picks(rng: &mut Rng, count: usize, threads: usize) -> Vec<u8> {
+    let burst = rng.choose(&[1, 1, 2, 5, 9]);
+    let mut list = Vec::with_capacity(count + burst);
+    while list.len() < count {
+        let who = match rng.below(32) {
+            0 => rng.byte(),
+            1 => rng.below(17) as u8,
+            _ => rng.below(threads) as u8,
+        };
+        for _ in 0..rng.between(1, burst) {
+            list.push(who);
+        }
+    }
+    list.truncate(count);
+    list
+}
+
+fn one_pick(rng: &mut Rng, state: &State) -> u8 {
+    let open: Vec<u8> = (0..16).filter(|&i| state.threads[i].place != state.threads[i].end).map(|i| i as u8).collect();
+    match rng.below(12) {
+        0 => rng.byte(),
+        1 => rng.below(17) as u8,
+        _ if open.is_empty() => rng.below(3) as u8,
+        _ => rng.choose(&open),
+    }
+}
+
+/// Other values wherever they are free: in registers, on stacks and in the logs of open transactions.
+fn free_values(rng: &mut Rng, state: &mut State) {
+    for _ in 0..rng.below(5) {
+        state.registers[rng.below(4)] = rng.number();
+    }
+    if rng.one_in(4) {
+        state.registers[rng.below(64)] = rng.draw() as i32;
+    }
+    for thread in state.threads.iter_mut().filter(|thread| thread.exists()) {
+        for cell in &mut thread.cells[..thread.height] {
+            if rng.one_in(3) {
+                *cell = rng.number();
+            }
+        }
+        if thread.begin == 0 {
+            continue;
+        }
+        let mut marks = [thread.reads, thread.writes];
+        for marks in &mut marks {
+            match rng.below(4) {
+                0 => *marks ^= 1 << rng.below(64),
+                1 => *marks |= rng.draw() & rng.draw(),
+                2 => *marks &= rng.draw(),
+                _ => {}
+            }
+        }
+        [thread.reads, thread.writes] = marks;
+        for register in 0..64 {
+            // the read log often holds what the table has, so that a COMMIT can take effect
+            let value = if rng.one_in(6) { rng.number() } else { state.registers[register] };
+            thread.readlog[register] = if thread.reads >> register & 1 == 1 { value } else { 0 };
+            thread.writelog[register] = if thread.writes >> register & 1 == 1 { rng.number() } else { 0 };
+        }
+    }
+}
+
+/// Another value in one field of one record.
+fn alter_field(rng: &mut Rng, code: &[u8], state: &mut State) {
+    let existing = state.existing();
+    let i = if existing > 0 && !rng.one_in(6) { rng.below(existing) } else { rng.below(16) };
+    let other = state.threads[rng.below(16)];
+    let other_registers = state.registers;
+    let thread = &mut state.threads[i];
+    let numbers: [fn(&mut Thread) -> &mut usize; 6] =
+        [|t| &mut t.start, |t| &mut t.end, |t| &mut t.place, |t| &mut t.height, |t| &mut t.begin, |t| &mut t.base];
+    match rng.below(14) {
+        field @ 0..=7 => {
+            // `place` more often
+            let field = numbers[if field < 6 { field } else { 2 }];
+            let places = instructions(code);
+            let mut other = other;
+            let old = *field(thread);
+            *field(thread) = match rng.below(9) {
+                0 => old.wrapping_add(1),
+                1 => old.wrapping_sub(1),
+                2 => 0,
+                3 if !places.is_empty() => rng.choose(&places),
+                4 if !places.is_empty() => rng.choose(&places),
+                5 => *field(&mut other),
+                6 => code.len(),
+                7 => thread.end,
+                _ => rng.choose(&[usize::MAX, 1 << 63, 1 << 32, 64, 65, 5, 1, old ^ 1 << 40]),
+            };
+        }
+        8 => {
+            let at = if rng.one_in(2) { thread.height.min(63) } else { rng.below(64) };
+            thread.cells[at] = rng.number();
+        }
+        9 => thread.reads ^= 1 << rng.below(64),
+        10 => thread.writes ^= 1 << rng.below(64),
+        11 => thread.readlog[rng.below(64)] = rng.number(),
+        12 => thread.writelog[rng.below(64)] = rng.number(),
+        _ => {
+            // a log as if its transaction were still open
+            let register = rng.below(4);
+            thread.reads |= 1 << register;
+            thread.readlog[register] = other_registers[register];
+        }
+    }
+}
+
+/// Records moved, left out, doubled or added.
+fn alter_records(rng: &mut Rng, code: &[u8], state: &mut State) {
+    let existing = state.existing();
+    let threads = &mut state.threads;
+    let i = rng.below(existing.max(1));
+    match rng.below(7) {
+        0 => {
+            threads[i..].rotate_left(1);
+            threads[15] = Thread::ABSENT;
+        }
+        1 => threads[i] = Thread::ABSENT,
+        2 => threads[existing.min(15)] = threads[i],
+        3 => {
+            let j = rng.below(16);
+            threads.swap(i, j);
+        }
+        4 => {
+            // a thread for any FORK, passed or not
+            let forks: Vec<usize> = instructions(code).into_iter().filter(|&at| code[at] == 7).collect();
+            if !forks.is_empty() {
+                let start = rng.choose(&forks) + 3;
+                let end = start + usize::from(u16::from_be_bytes([code[start - 2], code[start - 1]]));
+                let place = if rng.one_in(8) { end } else { start };
+                threads[existing.min(15)] = Thread { start, end, place, ..Thread::ABSENT };
+            }
+        }
+        5 => {
+            // a thread set back to its start: it fits unless it has passed a FORK
+            let Thread { start, end, .. } = threads[i];
+            threads[i] = Thread { start, end, place: start, ..Thread::ABSENT };
+        }
+        _ => {
+            // a thread at its end: it fits if the FORKs up to there were passed
+            let Thread { start, end, .. } = threads[i];
+            let mut cells = [0; 64];
+            cells[0] = rng.number();
+            threads[i] = Thread { start, end, place: end, height: 1, cells, ..Thread::ABSENT };
+        }
+    }
+}
+
+/// The children in another order, which fits as well.
+fn renumber(rng: &mut Rng, state: &mut State) {
+    let existing = state.existing();
+    for i in 1..existing {
+        let j = rng.between(i, existing - 1);
+        state.threads.swap(i, j);
+    }
+}
+
+fn wrong_counts(rng: &mut Rng) -> Lent {
+    match rng.below(3) {
+        0 => (rng.choose(&[0, 1, 63, 65]), 16),
+        1 => (64, rng.choose(&[0, 1, 15, 17])),
+        _ => (rng.choose(&[0, 63, 65]), rng.choose(&[0, 15, 17])),
+    }
+}
+
+fn garbage(rng: &mut Rng) -> Thread {
+    let mut thread = Thread::ABSENT;
+    for number in
+        [&mut thread.start, &mut thread.end, &mut thread.place, &mut thread.height, &mut thread.begin, &mut thread.base]
+    {
+        *number = rng.draw() as usize;
+    }
+    thread.reads = rng.draw();
+    thread.writes = rng.draw();
+    for values in [&mut thread.cells, &mut thread.readlog, &mut thread.writelog] {
+        for value in values {
+            *value = rng.draw() as i32;
+        }
+    }
+    thread
+}
+
+fn bytes(rng: &mut Rng, count: usize) -> Vec<u8> {
+    let mut bytes: Vec<u8> = (0..count.div_ceil(8)).flat_map(|_| rng.draw().to_ne_bytes()).collect();
+    bytes.truncate(count);
+    bytes
+}
+
+fn hex(bytes: &[u8]) -> String {
+    let mut text = String::new();
+    for byte in bytes {
+        write!(text, "{byte:02X} ").unwrap();
+    }
+    text
+}

@@ -1,0 +1,165 @@
+//! The records' layout as numbers, and that the library writes its fields there.
+
+use core::mem::{align_of, offset_of, size_of};
+use kuspigo::ffi::{FreshReply, RunReply, StepReply, Written};
+use kuspigo::{raw, Thread};
+
+#[test]
+fn thread_record() {
+    assert_eq!((size_of::<Thread>(), align_of::<Thread>()), (832, 8));
+    assert_eq!(offset_of!(Thread, start), 0);
+    assert_eq!(offset_of!(Thread, end), 8);
+    assert_eq!(offset_of!(Thread, place), 16);
+    assert_eq!(offset_of!(Thread, height), 24);
+    assert_eq!(offset_of!(Thread, cells), 32);
+    assert_eq!(offset_of!(Thread, begin), 288);
+    assert_eq!(offset_of!(Thread, base), 296);
+    assert_eq!(offset_of!(Thread, reads), 304);
+    assert_eq!(offset_of!(Thread, readlog), 312);
+    assert_eq!(offset_of!(Thread, writes), 568);
+    assert_eq!(offset_of!(Thread, writelog), 576);
+}
+
+#[test]
+fn answers() {
+    assert_eq!((size_of::<Written>(), align_of::<Written>()), (24, 8));
+    assert_eq!(offset_of!(Written, refusal), 0);
+    assert_eq!(offset_of!(Written, place), 8);
+    assert_eq!(offset_of!(Written, length), 16);
+
+    assert_eq!((size_of::<FreshReply>(), align_of::<FreshReply>()), (16, 8));
+    assert_eq!(offset_of!(FreshReply, refusal), 0);
+    assert_eq!(offset_of!(FreshReply, place), 8);
+
+    assert_eq!((size_of::<StepReply>(), align_of::<StepReply>()), (40, 8));
+    assert_eq!(offset_of!(StepReply, refusal), 0);
+    assert_eq!(offset_of!(StepReply, place), 8);
+    assert_eq!(offset_of!(StepReply, event), 16);
+    assert_eq!(offset_of!(StepReply, register), 24);
+    assert_eq!(offset_of!(StepReply, turn), 32);
+
+    assert_eq!((size_of::<RunReply>(), align_of::<RunReply>()), (48, 8));
+    assert_eq!(offset_of!(RunReply, refusal), 0);
+    assert_eq!(offset_of!(RunReply, place), 8);
+    assert_eq!(offset_of!(RunReply, steps), 16);
+    assert_eq!(offset_of!(RunReply, idle), 24);
+    assert_eq!(offset_of!(RunReply, commits), 32);
+    assert_eq!(offset_of!(RunReply, back), 40);
+}
+
+/// ADDP (ADDP (VALP 1) (ATOMIC (ADDT (ADDT (VALT 9) (READ 2)) (WRITE 3 (READ 63))))) (FORK (VALP 7))
+const CODE: [u8; 35] = [
+    0x57, 0x53, 0x43, 0, 1, // 0: mark and version
+    1, 0, 0, 0, 1, // 5: PUSH 1
+    5, // 10: BEGIN
+    1, 0, 0, 0, 9, // 11: PUSH 9
+    3, 2, // 16: READ 2
+    2, // 18: ADD
+    3, 63, // 19: READ 63
+    4, 3, // 21: WRITE 3
+    2, // 23: ADD
+    6, // 24: COMMIT
+    2, // 25: ADD
+    7, 0, 5, // 26: FORK
+    1, 0, 0, 0, 7, // 29: PUSH 7
+    2, // 34: ADD
+];
+
+#[test]
+fn the_library_writes_each_field_at_its_place() {
+    let mut registers = [-1; 64];
+    let garbage = Thread { start: 1, end: 2, place: 3, height: 4, begin: 5, base: 6, reads: 7, writes: 8, ..filled(9) };
+    let mut threads = [garbage; 16];
+
+    let reply = raw::fresh(&CODE, &mut registers, &mut threads);
+    assert_eq!(reply, FreshReply { refusal: 0, place: 0 });
+    assert_eq!(registers, [0; 64]);
+    let mut expected = [filled(0); 16];
+    expected[0].start = 5;
+    expected[0].end = 35;
+    expected[0].place = 5;
+    assert_eq!(threads, expected);
+
+    // PUSH, BEGIN, PUSH, READ 2, ADD, READ 63, WRITE 3
+    registers[2] = 20;
+    registers[63] = 630;
+    let reply = raw::run(&CODE, &mut registers, &mut threads, &[0, 0, 0, 0, 0, 0, 0, 99]);
+    assert_eq!(reply, RunReply { refusal: 0, place: 0, steps: 7, idle: 1, commits: 0, back: 0 });
+    expected[0].place = 23;
+    expected[0].height = 3;
+    expected[0].cells[0] = 1;
+    expected[0].cells[1] = 29;
+    expected[0].cells[2] = 630;
+    expected[0].begin = 10;
+    expected[0].base = 1;
+    expected[0].reads = 1 << 2 | 1 << 63;
+    expected[0].readlog[2] = 20;
+    expected[0].readlog[63] = 630;
+    expected[0].writes = 1 << 3;
+    expected[0].writelog[3] = 630;
+    assert_eq!(threads, expected);
+
+    // ADD, then a COMMIT that finds register 63 stale
+    let reply = raw::step(&CODE, &mut registers, &mut threads, 0);
+    assert_eq!(reply, StepReply { refusal: 0, place: 0, event: 2, register: 0, turn: 0 });
+    registers[63] = 631;
+    let reply = raw::step(&CODE, &mut registers, &mut threads, 0);
+    assert_eq!(reply, StepReply { refusal: 0, place: 0, event: 10, register: 63, turn: 0 });
+    expected[0] = filled(0);
+    expected[0].start = 5;
+    expected[0].end = 35;
+    expected[0].place = 10;
+    expected[0].height = 1;
+    expected[0].cells[0] = 1;
+    assert_eq!(threads, expected);
+
+    // the transaction again, COMMIT, ADD, FORK
+    let reply = raw::run(&CODE, &mut registers, &mut threads, &[0; 10]);
+    assert_eq!(reply, RunReply { refusal: 0, place: 0, steps: 10, idle: 0, commits: 1, back: 0 });
+    expected[0].place = 34;
+    expected[0].height = 2;
+    expected[0].cells[0] = 661;
+    expected[1].start = 29;
+    expected[1].end = 34;
+    expected[1].place = 29;
+    assert_eq!(threads, expected);
+    assert_eq!(registers[3], 631);
+}
+
+#[test]
+fn the_answers_tell_refusals() {
+    let mut registers = [0; 64];
+    let mut threads = [filled(0); 16];
+    let refused = StepReply { refusal: 12, place: 0, event: 0, register: 0, turn: 0 };
+    assert_eq!(raw::step(&CODE, &mut registers, &mut threads, 0), refused);
+    assert_eq!(raw::fresh(&CODE, &mut registers, &mut threads).refusal, 0);
+    let refused = RunReply { refusal: 13, place: 0, steps: 0, idle: 0, commits: 0, back: 0 };
+    assert_eq!(raw::run(&CODE, &mut registers, &mut threads, &[0; 32_769]), refused);
+
+    let mut out = [0xAA; 40];
+    let written = Written { refusal: 0, place: 0, length: 35 };
+    let mut job = [0; 40];
+    let length = raw::read_back(&CODE, &mut job).length;
+    assert_eq!(raw::compile(&job[..length], &mut out), written);
+    assert_eq!((&out[..35], &out[35..]), (&CODE[..], &[0xAA; 5][..]));
+    let refused = Written { refusal: 2, place: 0, length: 0 };
+    job[0] = 0;
+    assert_eq!(raw::compile(&job[..length], &mut out), refused);
+}
+
+#[test]
+fn empty_slices_are_taken() {
+    let refused = Written { refusal: 1, place: 0, length: 0 };
+    assert_eq!(raw::compile(&[], &mut []), refused);
+    assert_eq!(raw::read_back(&[], &mut []), Written { refusal: 11, ..refused });
+    assert_eq!(raw::report(&[], &mut []), Written { refusal: 10, ..refused });
+    assert_eq!(raw::fresh(&[], &mut [], &mut []), FreshReply { refusal: 11, place: 0 });
+    assert_eq!(raw::fresh(&CODE, &mut [], &mut []), FreshReply { refusal: 12, place: 0 });
+    assert_eq!(raw::step(&CODE, &mut [], &mut [], 0).refusal, 12);
+    assert_eq!(raw::run(&CODE, &mut [], &mut [], &[]).refusal, 12);
+}
+
+/// A record with one value in all arrays and 0 elsewhere.
+fn filled(n: i32) -> Thread {
+    Thread { cells: [n; 64], readlog: [n; 64], writelog: [n; 64], ..Thread::ABSENT }
+}

@@ -1,0 +1,233 @@
+//! Document 01's own cases, of the library through its wrapper and of the plain implementation.
+
+use kuspigo::plain::{self, tree};
+use kuspigo::samples::{chain, Lean, Rng, Shape};
+use kuspigo::{Counts, Event, Refusal, State, Step};
+use tree::{Process, Transaction};
+
+/// Two threads each add 1 to register 0.
+fn whole_case() -> Vec<u8> {
+    let mut job = b"WSJ\x00\x01\x00\x0D\x02".to_vec();
+    for _ in 0..2 {
+        job.extend([4, 3, 8, 0, 6, 7, 0, 5, 0, 0, 0, 1]);
+    }
+    job
+}
+
+fn whole_picks() -> Vec<u8> {
+    [vec![0; 3], vec![1; 2], vec![2; 6], vec![1; 10]].concat()
+}
+
+const LISTING: &str =
+    "steps 21 idle 0 commits 2 back 1\nthread 0 done 0\nthread 1 done 2\nthread 2 done 1\nregister 0 2\n";
+
+/// The code of a job, the three implementations agreeing, and that it leads back to the job.
+fn compiled(job: &[u8]) -> Result<Vec<u8>, Refusal> {
+    let code = kuspigo::compile(job);
+    let mut out = [0; 3_100];
+    assert_eq!(plain::compile(job, &mut out).map(|length| out[..length].to_vec()), code);
+    assert_eq!(tree::compile(job, &mut out).map(|length| out[..length].to_vec()), code);
+    if let Ok(code) = &code {
+        assert_eq!(kuspigo::read_back(code).as_deref(), Ok(job));
+        let length = plain::read_back(code, &mut out).unwrap();
+        assert_eq!(&out[..length], job);
+        let length = tree::read_back(code, &mut out).unwrap();
+        assert_eq!(&out[..length], job);
+    }
+    code
+}
+
+fn refused(number: u8, place: usize) -> Result<Vec<u8>, Refusal> {
+    Err(Refusal { number, place })
+}
+
+fn result_of(job: &[u8]) -> (usize, Option<i32>, State) {
+    let code = compiled(job).unwrap();
+    let mut state = State::fresh(&code).unwrap();
+    let counts = state.run(&code, &[0; 99]).unwrap();
+    (counts.steps, state.threads[0].result(), state)
+}
+
+fn number(n: i32) -> Box<Process> {
+    Box::new(Process::Val(n))
+}
+
+#[test]
+fn whole_case_runs() {
+    let job = whole_case();
+    assert_eq!(job.len(), 32);
+    let code = compiled(&job).unwrap();
+    assert_eq!(code.len(), 36);
+    let child = [7, 0, 12, 5, 3, 0, 1, 0, 0, 0, 1, 2, 4, 0, 6];
+    assert_eq!(code, [&b"WSC\x00\x01"[..], &child, &child, &[2]].concat());
+
+    let mut state = State::fresh(&code).unwrap();
+    let counts = state.run(&code, &whole_picks()).unwrap();
+    assert_eq!(counts, Counts { steps: 21, idle: 0, commits: 2, back: 1 });
+    assert_eq!(state.threads.map(|thread| thread.result())[..4], [Some(0), Some(2), Some(1), None]);
+    assert_eq!((state.registers[0], state.registers[1..].iter().max()), (2, Some(&0)));
+
+    let input = [&[0, 32][..], &job, &whole_picks()].concat();
+    assert_eq!(kuspigo::report(&input).unwrap(), LISTING.as_bytes());
+    assert_eq!(plain::listing(&input), LISTING);
+}
+
+#[test]
+fn whole_case_by_steps() {
+    let code = kuspigo::compile(&whole_case()).unwrap();
+    let mut state = State::fresh(&code).unwrap();
+    let steps: Vec<Step> = whole_picks().iter().map(|&pick| state.step(&code, pick).unwrap()).collect();
+    let events: Vec<Event> = steps.iter().map(|step| step.event).collect();
+    let attempt = [Event::Begin, Event::ReadTable, Event::Push, Event::Sum, Event::Write];
+    let mut expected = vec![Event::Fork, Event::Fork, Event::Sum];
+    expected.extend(&attempt[..2]);
+    expected.extend(attempt);
+    expected.push(Event::Commit);
+    expected.extend(&attempt[2..]);
+    expected.push(Event::SentBack);
+    expected.extend(attempt);
+    expected.push(Event::Commit);
+    assert_eq!(events, expected);
+    assert_eq!(steps.iter().filter(|step| step.turn).count(), 5);
+    assert_eq!(steps[14].stale, Some(0));
+    assert_eq!(state.step(&code, 0).unwrap().event, Event::Idle);
+}
+
+#[test]
+fn worked_cases() {
+    let seven = b"WSJ\x00\x01\x00\x01\x01\x00\x00\x00\x07";
+    assert_eq!(compiled(seven).unwrap(), b"WSC\x00\x01\x01\x00\x00\x00\x07");
+    let (steps, result, _) = result_of(seven);
+    assert_eq!((steps, result), (1, Some(7)));
+    assert_eq!(
+        kuspigo::report(&[&[0, 12][..], seven].concat()).unwrap(),
+        b"steps 0 idle 0 commits 0 back 0\nthread 0 open\n"
+    );
+
+    assert_eq!(result_of(&Process::Add(number(i32::MIN), number(-1)).job()).1, Some(i32::MAX));
+    assert_eq!(result_of(&Process::Add(number(i32::MAX), number(1)).job()).1, Some(i32::MIN));
+
+    // ATOMIC of ADDT (WRITE 0 (VALT 5)) (READ 0), up to COMMIT and whole
+    let write = Transaction::Write(0, Box::new(Transaction::Val(5)));
+    let tree = Process::Atomic(Box::new(Transaction::Add(Box::new(write), Box::new(Transaction::Read(0)))));
+    let code = compiled(&tree.job()).unwrap();
+    let mut state = State::fresh(&code).unwrap();
+    state.run(&code, &[0; 5]).unwrap();
+    assert_eq!((state.threads[0].reads, state.threads[0].writes, state.registers[0]), (0, 1, 0));
+    state.run(&code, &[0]).unwrap();
+    assert_eq!((state.threads[0].result(), state.registers[0]), (Some(10), 5));
+}
+
+#[test]
+fn refusals_and_places() {
+    assert_eq!(compiled(&[]), refused(1, 0));
+    assert_eq!(compiled(b"WSK\x00\x01\x00"), refused(1, 6));
+    assert_eq!(compiled(b"WSK\x00\x02\x00\x00"), refused(2, 0));
+    assert_eq!(compiled(b"WSJ\x01\x01\x00\x00"), refused(3, 3));
+    assert_eq!(compiled(b"WSJ\x00\x01\x00\x00"), refused(4, 5));
+    assert_eq!(compiled(b"WSJ\x00\x01\x03\xE9"), refused(4, 5));
+    assert_eq!(compiled(b"WSJ\x00\x01\x00\x01\x02"), refused(9, 8));
+    assert_eq!(compiled(b"WSJ\x00\x01\x00\x02\x02"), refused(1, 8));
+    assert_eq!(compiled(b"WSJ\x00\x01\x00\x01\x05"), refused(5, 7));
+    assert_eq!(compiled(b"WSJ\x00\x01\x00\x02\x03\x01"), refused(5, 8));
+    assert_eq!(compiled(b"WSJ\x00\x01\x00\x01\x01\x00\x00\x00"), refused(1, 11));
+    assert_eq!(compiled(b"WSJ\x00\x01\x00\x02\x03\x07\x40"), refused(6, 9));
+    assert!(compiled(b"WSJ\x00\x01\x00\x02\x03\x07\x3F").is_ok());
+    assert_eq!(compiled(b"WSJ\x00\x01\x00\x02\x01\x00\x00\x00\x07"), refused(9, 12));
+    assert_eq!(compiled(b"WSJ\x00\x01\x00\x01\x01\x00\x00\x00\x07\x00"), refused(9, 12));
+    let shorter = |length: usize| kuspigo::compile_into(&whole_case(), &mut vec![0; length]);
+    assert_eq!((shorter(36), shorter(35)), (Ok(36), Err(Refusal { number: 10, place: 0 })));
+}
+
+#[test]
+fn limits() {
+    let mut rng = Rng::new(1, 0, 0);
+    assert!(compiled(&chain(&mut rng, 64, 15).job()).is_ok());
+    assert_eq!(compiled(&chain(&mut rng, 65, 15).job()).unwrap_err().number, 7);
+
+    let nodes = |nodes| Shape { nodes, room: 64, forks: 15, transaction: 200, registers: 3, lean: Lean::Any };
+    let job = nodes(1_000).tree(&mut rng).job();
+    assert!(compiled(&job).is_ok());
+    assert_eq!(compiled(&nodes(1_001).tree(&mut rng).job()), refused(4, 5));
+
+    let mut tree = Process::Val(0);
+    for _ in 0..15 {
+        tree = Process::Add(Box::new(Process::Fork(number(1))), Box::new(tree));
+    }
+    assert!(compiled(&tree.job()).is_ok());
+    // its FORK follows the ADDPs and FORKs, each with a number, of the fifteen before it
+    let sixteen = Process::Add(Box::new(tree), Box::new(Process::Fork(number(1))));
+    assert_eq!(compiled(&sixteen.job()), refused(8, 7 + 1 + 15 * 7 + 5));
+}
+
+#[test]
+fn literal_order_at_depth_65() {
+    // 64 ADDPs down the left, then the node at depth 65
+    let deep = |node: &[u8], count: u16| {
+        let mut job = b"WSJ\x00\x01".to_vec();
+        job.extend(count.to_be_bytes());
+        job.extend([2; 64]);
+        job.extend(node);
+        job
+    };
+    assert_eq!(compiled(&deep(&[1, 0, 0, 0, 7], 129)), refused(7, 71));
+    assert_eq!(compiled(&deep(&[1, 0], 129)), refused(7, 71));
+    assert_eq!(compiled(&deep(&[9], 129)), refused(5, 71));
+    assert_eq!(compiled(&deep(&[5], 129)), refused(5, 71));
+    assert_eq!(compiled(&deep(&[], 129)), refused(1, 71));
+    assert_eq!(compiled(&deep(&[], 64)), refused(9, 71));
+    // the sixteenth FORK there
+    let mut job = deep(&[4], 129);
+    job[20..35].fill(4);
+    assert_eq!(compiled(&job), refused(7, 71));
+    // and one level higher
+    job[7..22].fill(4);
+    job[22..70].fill(2);
+    job[70] = 4;
+    assert_eq!(compiled(&job), refused(8, 70));
+}
+
+#[test]
+fn the_run_programs_refusals() {
+    for (input, printed) in [
+        (&[][..], "refused 1 at 0\n"),
+        (&[0], "refused 1 at 1\n"),
+        (&[0, 12, 1, 2, 3, 4, 5, 6, 7, 8, 9, 10], "refused 1 at 12\n"),
+        (&[0, 3, 0x57, 0x53, 0x4A], "refused 1 at 3\n"),
+    ] {
+        assert_eq!(plain::listing(input), printed);
+        assert_eq!(kuspigo::report(input).unwrap(), printed.as_bytes());
+    }
+    let mut input = [&[0, 32][..], &whole_case(), &[0; 32_768]].concat();
+    assert!(plain::listing(&input).starts_with("steps 3 idle 32765 "));
+    assert!(kuspigo::report(&input).unwrap().starts_with(b"steps 3 idle 32765 "));
+    input.push(0);
+    assert_eq!(kuspigo::report(&input).unwrap(), b"refused 13 at 0\n");
+    input[2] = 0;
+    assert_eq!(kuspigo::report(&input).unwrap(), b"refused 2 at 0\n");
+}
+
+#[test]
+fn refusals_have_words() {
+    let words: Vec<&str> = (1..=13).map(|number| Refusal { number, place: 0 }.word()).collect();
+    assert_eq!(
+        words,
+        [
+            "cut",
+            "mark",
+            "version",
+            "count",
+            "kind",
+            "register",
+            "depth",
+            "forks",
+            "length",
+            "short tray",
+            "foreign code",
+            "foreign state",
+            "long list"
+        ]
+    );
+    let error: Box<dyn std::error::Error> = Box::new(Refusal { number: 10, place: 0 });
+    assert_eq!(error.to_string(), "refused 10 (short tray) at 0: The output is shorter than the result.");
+}

@@ -1,0 +1,128 @@
+/* Kuspigo: jobs, stack code and the machine that runs it. C99.
+ *
+ * The functions are in the archives target/staticlib/libexports.a and libengine.a, which `rt staticlib exports` and
+ * `rt staticlib engine` write. They need nothing else but memcpy and memset.
+ *
+ * Memory is lent as a pointer and a count of elements. A pointer is never null, also with the count 0; what is lent for
+ * writing overlaps nothing else that is lent to the call. Nothing is kept after a call.
+ *
+ * Every answer begins with `refusal`, 0 if the call was taken, and `place`. A refused call alters nothing:
+ *
+ *    1  the bytes end too early
+ *    2  not a job's mark
+ *    3  a version other than 1
+ *    4  a node count of 0 or above 1,000
+ *    5  an unknown kind, or one not permitted there
+ *    6  a register of 64 or more
+ *    7  a node at depth 65
+ *    8  a sixteenth FORK
+ *    9  nodes or bytes that do not match the count
+ *   10  the output is shorter than the result
+ *   11  no accepted job compiles to the code
+ *   12  the state does not fit the code
+ *   13  more than 32,768 picks
+ *
+ * For 1 to 9 the place is a byte offset in the job, else 0.
+ */
+#ifndef KUSPIGO_H
+#define KUSPIGO_H
+
+#include <stddef.h>
+#include <stdint.h>
+
+#ifdef __cplusplus
+extern "C" {
+#endif
+
+/* A state is 64 registers and 16 thread records. */
+#define KUSPIGO_REGISTERS 64
+#define KUSPIGO_THREADS 16
+/* No code of an accepted job is longer than this, and no accepted job. */
+#define KUSPIGO_LONGEST_CODE 3007
+#define KUSPIGO_LONGEST_JOB 3007
+
+/* A thread's record. Places count from the code's first byte, so 0 is no place. */
+typedef struct kuspigo_thread {
+    size_t start;         /* its own code: from start, which is 0 if there is no such thread, */
+    size_t end;           /* up to end, less the child code of the FORKs in it */
+    size_t place;         /* the next instruction; at end the thread has ended, and cells[0] is its result */
+    size_t height;        /* so many cells of the stack are in use */
+    int32_t cells[64];
+    size_t begin;         /* the open transaction's notes: its BEGIN's place, 0 if none is open, */
+    size_t base;          /* and the stack height there */
+    uint64_t reads;       /* the registers that the read log marks, bit 0 being register 0, */
+    int32_t readlog[64];  /* and their values */
+    uint64_t writes;      /* the write log, likewise */
+    int32_t writelog[64];
+} kuspigo_thread;
+
+typedef struct kuspigo_written {
+    size_t refusal;
+    size_t place;
+    size_t length; /* so many bytes of the output are written; 0 on a refusal */
+} kuspigo_written;
+
+typedef struct kuspigo_fresh_reply {
+    size_t refusal;
+    size_t place;
+} kuspigo_fresh_reply;
+
+/* What a pick did. */
+enum kuspigo_event {
+    KUSPIGO_IDLE = 0, /* the thread does not exist or has ended */
+    KUSPIGO_PUSH = 1,
+    KUSPIGO_SUM = 2,
+    KUSPIGO_FORK = 3,
+    KUSPIGO_BEGIN = 4,
+    KUSPIGO_READ_WRITE_LOG = 5,
+    KUSPIGO_READ_READ_LOG = 6,
+    KUSPIGO_READ_TABLE = 7,
+    KUSPIGO_WRITE = 8,
+    KUSPIGO_COMMIT = 9,
+    KUSPIGO_SENT_BACK = 10
+};
+
+typedef struct kuspigo_step_reply {
+    size_t refusal;
+    size_t place;
+    size_t event;          /* an enum kuspigo_event */
+    size_t stale_register; /* the first one, if the thread was sent back, else 0 */
+    size_t turn;           /* 1 if it took a turn (a sum outside a transaction, a FORK, a commit), else 0 */
+} kuspigo_step_reply;
+
+typedef struct kuspigo_run_reply {
+    size_t refusal;
+    size_t place;
+    size_t steps;   /* picks that were not idle */
+    size_t idle;
+    size_t commits; /* commits that took effect */
+    size_t back;    /* commits that were sent back */
+} kuspigo_run_reply;
+
+/* The job's stack code, at the front of out. Refusals 1 to 9, then 10. */
+kuspigo_written kuspigo_compile(const uint8_t *job, size_t job_count, uint8_t *out, size_t out_count);
+
+/* The job that compiles to the code, at the front of out. Refusals 11, then 10. */
+kuspigo_written kuspigo_read_back(const uint8_t *code, size_t code_count, uint8_t *out, size_t out_count);
+
+/* What the run program prints for an input (the job's length in two bytes, the job, picks), at the front of out. A
+ * refusal of the job or the picks is printed; the only refusal of this call is 10. */
+kuspigo_written kuspigo_report(const uint8_t *input, size_t input_count, uint8_t *out, size_t out_count);
+
+/* A fresh state for the code, over whatever was there. Refusals 11, then 12 (not 64 registers or not 16 records). */
+kuspigo_fresh_reply kuspigo_fresh(const uint8_t *code, size_t code_count, int32_t *registers, size_t register_count,
+                                  kuspigo_thread *threads, size_t thread_count);
+
+/* One pick: one instruction of that thread. Refusals 11, then 12. */
+kuspigo_step_reply kuspigo_step(const uint8_t *code, size_t code_count, int32_t *registers, size_t register_count,
+                                kuspigo_thread *threads, size_t thread_count, uint8_t pick);
+
+/* A list of picks, one after the other. Refusals 11, then 12, then 13. */
+kuspigo_run_reply kuspigo_run(const uint8_t *code, size_t code_count, int32_t *registers, size_t register_count,
+                              kuspigo_thread *threads, size_t thread_count, const uint8_t *picks, size_t pick_count);
+
+#ifdef __cplusplus
+}
+#endif
+
+#endif
