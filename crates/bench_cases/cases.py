@@ -321,21 +321,37 @@ def write0(t):
 
 # ---- the cases
 
-lines = []  # of stdin
-answers = []  # lines of stdout
-labels = set()
+
+class Cases:
+    """The lines of a program's standard input, and what it is to write for them."""
+
+    def __init__(self):
+        self.lines = []  # of stdin
+        self.answers = []  # lines of stdout
+        self.labels = set()
+
+    def section(self, title):
+        self.lines.append("")
+        self.lines.append("# " + title)
+
+    def line(self, label, text, answer):
+        assert label and label[0] != "#" and ":" not in label and label not in self.labels, label
+        self.labels.add(label)
+        self.lines.append(label + ":" + (" " + text if text else ""))
+        self.answers.append(label + ": " + answer)
+
+    def save(self, folder, room):
+        """Writes both files; `room` is the program's, for its input."""
+        for name, text in (("stdin", self.lines), ("stdout", self.answers)):
+            text = "\n".join(text) + "\n"
+            assert len(text) <= room, len(text)
+            with open(os.path.join(folder, name), "w", newline="\n") as file:
+                file.write(text)
+        print(len(self.answers), "cases")
 
 
-def section(title):
-    lines.append("")
-    lines.append("# " + title)
-
-
-def line(label, text, answer):
-    assert label and label[0] != "#" and ":" not in label and label not in labels, label
-    labels.add(label)
-    lines.append(label + ":" + (" " + text if text else ""))
-    answers.append(label + ": " + answer)
+cases = Cases()
+lines, answers, labels, section, line = cases.lines, cases.answers, cases.labels, cases.section, cases.line
 
 
 def show(answer):
@@ -861,13 +877,7 @@ def main():
         the_text,
     ):
         part()
-    here = os.path.dirname(os.path.abspath(__file__))
-    for name, text in (("stdin", lines), ("stdout", answers)):
-        text = "\n".join(text) + "\n"
-        assert len(text) <= 131072  # the program's room for stdin
-        with open(os.path.join(here, name), "w", newline="\n") as file:
-            file.write(text)
-    print(len(answers), "cases")
+    cases.save(os.path.dirname(os.path.abspath(__file__)), 131072)
 
 
 if __name__ == "__main__":
