@@ -1,0 +1,5 @@
+// Runs cases of every call.
+
+fn main() {
+    lines::run_input();
+}
