@@ -1,5 +1,5 @@
 #!/usr/bin/env python3
-"""Writes the files stdin and stdout of this program, beside this one.
+"""Cases of the job reader, the compiler and the way back, for vectors/cases.py, which writes them.
 
 The job reader, the compiler and the way back here are a second implementation, written from document
 01 alone. Each case also states its answer by hand, and the two are compared before anything is written.
@@ -854,7 +854,7 @@ def the_text():
     answers.append("a line with no colon: malformed")
 
 
-def main():
+def make():
     lines.append("# Cases of document 01's job reader, compiler and way back, written by cases.py.")
     for part in (
         accepted_jobs,
@@ -877,8 +877,3 @@ def main():
         the_text,
     ):
         part()
-    cases.save(os.path.dirname(os.path.abspath(__file__)), 131072)
-
-
-if __name__ == "__main__":
-    main()

@@ -1,5 +1,5 @@
 #!/usr/bin/env python3
-"""Writes the files stdin and stdout of this program, beside this one.
+"""Cases of fresh, step and run, for vectors/cases.py, which writes them.
 
 The machine here is a second implementation, written from document 01 alone; jobs, their code and what code is foreign come from the
 second implementation in bench_cases/cases.py. Where a case states its answer by hand, the two are compared before anything is written.
@@ -783,12 +783,7 @@ def the_random():
         case("run changed %d" % k, tree, setup, some_change(rng, tree, bytearray(whole(tree)), setup), some_picks(rng, forks(tree), 12))
 
 
-def main():
+def make():
     lines.append("# Calls of fresh, step and run on states, written by cases.py.")
     for part in (the_whole_case, fresh_states, the_order, the_events, the_sizes, the_table, the_cuts, the_lines, the_random):
         part()
-    cases.save(HERE, 131072)
-
-
-if __name__ == "__main__":
-    main()

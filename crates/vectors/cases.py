@@ -2,7 +2,7 @@
 """Writes the files stdin and stdout of this program, beside this one; with a seed and a folder as arguments, other random cases into that
 folder.
 
-Every answer comes from a second implementation, which is written from the papers (document 01) and not from the definitions or the code
+In front stand the cases of bench_cases/cases.py and run_cases/cases.py, whose answers are also stated by hand. Every answer comes from a second implementation, which is written from the papers (document 01) and not from the definitions or the code
 of this repository: the job reader, the compiler and the way back are in bench_cases/cases.py, the machine is in run_cases/cases.py, and
 what the run program prints is here.
 """
@@ -675,7 +675,11 @@ def check():
 
 def main(seed=SEED, folder=HERE):
     rng.seed(int(seed))
-    cases.lines.append("# Cases of every call, written by cases.py.")
+    for stated in (bench, machine):
+        stated.make()
+        cases.lines += stated.cases.lines + [""]
+        cases.answers += stated.cases.answers
+    cases.lines.append("# Random cases of every call.")
     for part in (the_jobs, the_damaged_jobs, the_codes, the_damaged_codes, the_states, the_calls, the_inputs, the_large):
         part()
     check()

@@ -1,9 +1,9 @@
--- `lines::outputs::write_lines` is safe and ends. The measure is what is left of the lines; there is nothing to keep. Assumes nothing.
+-- `vectors::outputs::write_lines` is safe and ends. The measure is what is left of the lines; there is nothing to keep. Assumes nothing.
 use native.Mathlib.Omega.{arith}
 use Prim.Native.Nat.{_≤_}
 use lib.ListN.{length}
-use Rattle.lines.proofs.outputs.write_lines.Statement.{statement}
-use Rattle.lines.proofs.outputs.write_lines.Tie as tie
+use Rattle.vectors.proofs.outputs.write_lines.Statement.{statement}
+use Rattle.vectors.proofs.outputs.write_lines.Tie as tie
 
 abbrev Inv-loop : tie.InvT-loop
 Inv-loop lines left₀ left = 0 ≤ length left

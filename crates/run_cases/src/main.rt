@@ -1,5 +1,0 @@
-// Runs cases of `fresh`, `step` and `run`.
-
-fn main() {
-    lines::run_input();
-}
