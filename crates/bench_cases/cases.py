@@ -1,5 +1,5 @@
 #!/usr/bin/env python3
-"""Writes the files stdin and stdout of this program, beside this one.
+"""Cases of the job reader, the compiler and the way back, for vectors/cases.py, which writes them.
 
 The job reader, the compiler and the way back here are a second implementation, written from document
 01 alone. Each case also states its answer by hand, and the two are compared before anything is written.
@@ -321,21 +321,37 @@ def write0(t):
 
 # ---- the cases
 
-lines = []  # of stdin
-answers = []  # lines of stdout
-labels = set()
+
+class Cases:
+    """The lines of a program's standard input, and what it is to write for them."""
+
+    def __init__(self):
+        self.lines = []  # of stdin
+        self.answers = []  # lines of stdout
+        self.labels = set()
+
+    def section(self, title):
+        self.lines.append("")
+        self.lines.append("# " + title)
+
+    def line(self, label, text, answer):
+        assert label and label[0] != "#" and ":" not in label and label not in self.labels, label
+        self.labels.add(label)
+        self.lines.append(label + ":" + (" " + text if text else ""))
+        self.answers.append(label + ": " + answer)
+
+    def save(self, folder, room):
+        """Writes both files; `room` is the program's, for its input."""
+        for name, text in (("stdin", self.lines), ("stdout", self.answers)):
+            text = "\n".join(text) + "\n"
+            assert len(text) <= room, len(text)
+            with open(os.path.join(folder, name), "w", newline="\n") as file:
+                file.write(text)
+        print(len(self.answers), "cases")
 
 
-def section(title):
-    lines.append("")
-    lines.append("# " + title)
-
-
-def line(label, text, answer):
-    assert label and label[0] != "#" and ":" not in label and label not in labels, label
-    labels.add(label)
-    lines.append(label + ":" + (" " + text if text else ""))
-    answers.append(label + ": " + answer)
+cases = Cases()
+lines, answers, labels, section, line = cases.lines, cases.answers, cases.labels, cases.section, cases.line
 
 
 def show(answer):
@@ -838,7 +854,7 @@ def the_text():
     answers.append("a line with no colon: malformed")
 
 
-def main():
+def make():
     lines.append("# Cases of document 01's job reader, compiler and way back, written by cases.py.")
     for part in (
         accepted_jobs,
@@ -861,14 +877,3 @@ def main():
         the_text,
     ):
         part()
-    here = os.path.dirname(os.path.abspath(__file__))
-    for name, text in (("stdin", lines), ("stdout", answers)):
-        text = "\n".join(text) + "\n"
-        assert len(text) <= 131072  # the program's room for stdin
-        with open(os.path.join(here, name), "w", newline="\n") as file:
-            file.write(text)
-    print(len(answers), "cases")
-
-
-if __name__ == "__main__":
-    main()

@@ -1,5 +1,5 @@
 #!/usr/bin/env python3
-"""Writes the files stdin and stdout of this program, beside this one.
+"""Cases of fresh, step and run, for vectors/cases.py, which writes them.
 
 The machine here is a second implementation, written from document 01 alone; jobs, their code and what code is foreign come from the
 second implementation in bench_cases/cases.py. Where a case states its answer by hand, the two are compared before anything is written.
@@ -59,7 +59,7 @@ def wrap(n):
     return (n + 2**31) % 2**32 - 2**31
 
 
-OPERAND = {1: 4, 2: 0, 3: 1, 4: 1, 5: 0, 6: 0, 7: 2}
+OPERAND = bench.OPERANDS
 
 
 def instruction(code, place):
@@ -324,34 +324,26 @@ def answer(command, code, setup, changes, picks):
 
 # ---- the cases
 
-lines = []  # of stdin
-answers = []  # lines of stdout
-labels = set()
+cases = bench.Cases()
+lines, answers, section, line = cases.lines, cases.answers, cases.section, cases.line
 
 
-def section(title):
-    lines.append("")
-    lines.append("# " + title)
-
-
-def line(label, text, said):
-    assert ":" not in label and label not in labels, label
-    labels.add(label)
-    lines.append(label + ":" + text)
-    answers.append(label + ": " + said)
-
-
-def case(label, what, setup="", changes="", picks="", says=None):
-    """A call on a tree's code, or on code. `says` is the answer stated by hand, the checksum left out."""
-    command = label.split()[0]
+def given(what, setup, changes, picks):
+    """The code of a tree, or code as it is, and a line's text on it."""
     if isinstance(what, tuple):
         code, text = whole(what), job(what).hex()
     else:
         code, text = what, ("code " + what.hex()).strip()
-    said, _ = answer(command, code, setup, changes, picks)
+    return code, "%s; %s; %s; %s" % (text, setup, changes, picks)
+
+
+def case(label, what, setup="", changes="", picks="", says=None):
+    """A call on a tree's code, or on code. `says` is the answer stated by hand, the checksum left out."""
+    code, text = given(what, setup, changes, picks)
+    said, _ = answer(label.split()[0], code, setup, changes, picks)
     if says is not None:
         assert said.rpartition(", sum ")[0] == says or said == says, (label, said, says)
-    line(label, " %s; %s; %s; %s" % (text, setup, changes, picks), said)
+    line(label, text, said)
 
 
 def ran(steps, idle, commits, back, *left):
@@ -676,23 +668,23 @@ def the_lines():
     section("lines that are no case")
     text = job(SEVEN).hex()
     for label, body in (
-        ("jump another command", " %s; ; ; 0" % text),
-        ("run half a byte", " 57 5; ; ; 0"),
-        ("run a job that is refused", " 575343; ; ; 0"),
-        ("run pick 256", " %s; ; ; 256" % text),
-        ("run no number of times", " %s; ; ; 0*" % text),
-        ("run a pick in setup", " %s; x; ; 0" % text),
-        ("run another change", " %s; ; threads 3; 0" % text),
-        ("run another field", " %s; ; thread 0 begins 3; 0" % text),
-        ("run thread 17", " %s; ; thread 17 start 3; 0" % text),
-        ("run cell 64", " %s; ; thread 0 cell 64 3; 0" % text),
-        ("run register 65", " %s; ; register 65 3; 0" % text),
-        ("run 18 records", " %s; ; records 18; 0" % text),
-        ("run 66 registers", " %s; ; registers 66; 0" % text),
-        ("run a byte behind the code", " %s; ; code 10 3; 0" % text),
-        ("run no value", " %s; ; register 0; 0" % text),
-        ("step two picks", " %s; ; ; 0*2" % text),
-        ("step no pick", " %s; ; ; " % text),
+        ("jump another command", "%s; ; ; 0" % text),
+        ("run half a byte", "57 5; ; ; 0"),
+        ("run a job that is refused", "575343; ; ; 0"),
+        ("run pick 256", "%s; ; ; 256" % text),
+        ("run no number of times", "%s; ; ; 0*" % text),
+        ("run a pick in setup", "%s; x; ; 0" % text),
+        ("run another change", "%s; ; threads 3; 0" % text),
+        ("run another field", "%s; ; thread 0 begins 3; 0" % text),
+        ("run thread 17", "%s; ; thread 17 start 3; 0" % text),
+        ("run cell 64", "%s; ; thread 0 cell 64 3; 0" % text),
+        ("run register 65", "%s; ; register 65 3; 0" % text),
+        ("run 18 records", "%s; ; records 18; 0" % text),
+        ("run 66 registers", "%s; ; registers 66; 0" % text),
+        ("run a byte behind the code", "%s; ; code 10 3; 0" % text),
+        ("run no value", "%s; ; register 0; 0" % text),
+        ("step two picks", "%s; ; ; 0*2" % text),
+        ("step no pick", "%s; ; ; " % text),
     ):
         line(label, body, "malformed")
     lines.append("a line with no colon")
@@ -791,17 +783,7 @@ def the_random():
         case("run changed %d" % k, tree, setup, some_change(rng, tree, bytearray(whole(tree)), setup), some_picks(rng, forks(tree), 12))
 
 
-def main():
+def make():
     lines.append("# Calls of fresh, step and run on states, written by cases.py.")
     for part in (the_whole_case, fresh_states, the_order, the_events, the_sizes, the_table, the_cuts, the_lines, the_random):
         part()
-    for name, text in (("stdin", lines), ("stdout", answers)):
-        text = "\n".join(text) + "\n"
-        assert len(text) <= 131072, len(text)  # the program's room for stdin
-        with open(os.path.join(HERE, name), "w", newline="\n") as file:
-            file.write(text)
-    print(len(answers), "cases")
-
-
-if __name__ == "__main__":
-    main()

@@ -144,6 +144,21 @@ pub fn run_run(code: &[u8], m: Memory, picks: &[u8]) {
     write_after(taken);
 }
 
+// Writes the counts of a call, or its refusal.
+fn write_call(m: Memory, taken: Taken) {
+    if refused(m, taken) {
+        return;
+    }
+    text::write_counts(taken.a, taken.b, taken.c, taken.d);
+}
+
+// `run`, what is written of it without the state, and what it leaves.
+pub fn run_next(code: &[u8], m: Memory, picks: &[u8]) -> Memory {
+    let taken = call_run(code, m, picks);
+    write_call(m, taken);
+    taken.after
+}
+
 // ---- calls cut in two
 
 fn sum(a: usize, b: usize) -> usize {

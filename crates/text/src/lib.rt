@@ -1,6 +1,7 @@
 // Text for the test programs: lines, words, numbers and bytes in hex are taken apart, and what a case comes to is written.
 ghost use Prim.Native.Nat.{_-_, _≤_};
 ghost use lib.ListN.{length};
+ghost use mathlib.Core.Path.{_≡_};
 ghost use Rattle.io.specs.Counts.{Counts};
 
 // What a text in hex comes to: how many bytes were put, and whether they are all.
@@ -14,6 +15,22 @@ pub struct Number {
     pub good: bool,
     pub minus: bool,
     pub value: u64,
+}
+
+// ---- room for bytes. The contracts have the length, so that no caller's proof computes it
+
+// Room for the bytes or picks of a line.
+pub fn buffer() -> [u8; 70000]
+    ensures { λ r. ⌜ 70000 ≡ length r ⌝ }
+{
+    [0; 70000]
+}
+
+// Room for a program's input.
+pub fn input() -> [u8; 1000001]
+    ensures { λ r. ⌜ 1000001 ≡ length r ⌝ }
+{
+    [0; 1000001]
 }
 
 // ---- parts of a text

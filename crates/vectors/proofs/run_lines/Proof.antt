@@ -1,9 +1,9 @@
--- `bench_cases::run_lines` is safe and ends. The measure is what is left of the lines; there is nothing to keep. Assumes nothing.
+-- `vectors::run_lines` is safe and ends. The measure is what is left of the lines; there is nothing to keep. Assumes nothing.
 use native.Mathlib.Omega.{arith}
 use Prim.Native.Nat.{_≤_}
 use lib.ListN.{length}
-use Rattle.bench_cases.proofs.run_lines.Statement.{statement}
-use Rattle.bench_cases.proofs.run_lines.Tie as tie
+use Rattle.vectors.proofs.run_lines.Statement.{statement}
+use Rattle.vectors.proofs.run_lines.Tie as tie
 
 abbrev Inv-loop : tie.InvT-loop
 Inv-loop lines left₀ left = 0 ≤ length left

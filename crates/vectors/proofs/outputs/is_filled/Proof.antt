@@ -1,9 +1,9 @@
--- `bench_cases::is_filled` is safe and ends. The loop's invariant: `at` is within out. The measure is what is left of it. Assumes nothing.
+-- `vectors::outputs::is_filled` is safe and ends. The loop's invariant: `at` is within out. The measure is what is left of it. Assumes nothing.
 use native.Mathlib.Omega.{arith}
 use Prim.Native.Nat.{_≤_, _-_}
 use lib.ListN.{length}
-use Rattle.bench_cases.proofs.is_filled.Statement.{statement}
-use Rattle.bench_cases.proofs.is_filled.Tie as tie
+use Rattle.vectors.proofs.outputs.is_filled.Statement.{statement}
+use Rattle.vectors.proofs.outputs.is_filled.Tie as tie
 
 abbrev Inv-loop : tie.InvT-loop
 Inv-loop out at₀ at = at ≤ length out

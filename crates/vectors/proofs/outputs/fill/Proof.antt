@@ -1,12 +1,12 @@
--- `bench_cases::fill` is safe and ends. The loop's invariant: `at` is within out, and out is as long as it came. The measure is what is
+-- `vectors::outputs::fill` is safe and ends. The loop's invariant: `at` is within out, and out is as long as it came. The measure is what is
 -- left of it. Assumes nothing.
 use native.Mathlib.Omega.{arith}
 use borrow.Author.Needs.{needs}
 use mathlib.Core.Path.{_≡_}
 use Prim.Native.Nat.{_≤_, _-_}
 use lib.ListN.{length, length-set}
-use Rattle.bench_cases.proofs.fill.Statement.{statement}
-use Rattle.bench_cases.proofs.fill.Tie as tie
+use Rattle.vectors.proofs.outputs.fill.Statement.{statement}
+use Rattle.vectors.proofs.outputs.fill.Tie as tie
 
 abbrev Inv-loop : tie.InvT-loop
 Inv-loop out₀ at₀ out at = (at ≤ length out) × (length out ≡ length out₀)

@@ -1,9 +1,9 @@
--- `run_cases::change_code` is safe and ends. The loop's invariant: the code is as long as it came. The measure is what is left of the changes. Assumes nothing.
+-- `vectors::states::change_code` is safe and ends. The loop's invariant: the code is as long as it came. The measure is what is left of the changes. Assumes nothing.
 use native.Mathlib.Omega.{arith}
 use mathlib.Core.Path.{_≡_}
 use lib.ListN.{length}
-use Rattle.run_cases.proofs.change_code.Statement.{statement}
-use Rattle.run_cases.proofs.change_code.Tie as tie
+use Rattle.vectors.proofs.states.change_code.Statement.{statement}
+use Rattle.vectors.proofs.states.change_code.Tie as tie
 
 abbrev Inv-loop : tie.InvT-loop
 Inv-loop code₀ changes left₀ code left = length code ≡ length code₀

@@ -1,0 +1,692 @@
+#!/usr/bin/env python3
+"""Writes the files stdin and stdout of this program, beside this one; with a seed and a folder as arguments, other random cases into that
+folder.
+
+In front stand the cases of bench_cases/cases.py and run_cases/cases.py, whose answers are also stated by hand. Every answer comes from a second implementation, which is written from the papers (document 01) and not from the definitions or the code
+of this repository: the job reader, the compiler and the way back are in bench_cases/cases.py, the machine is in run_cases/cases.py, and
+what the run program prints is here.
+"""
+import importlib.util
+import os
+import random
+import sys
+from collections import Counter, defaultdict
+
+HERE = os.path.dirname(os.path.abspath(__file__))
+spec = importlib.util.spec_from_file_location("machine", os.path.join(HERE, "..", "run_cases", "cases.py"))
+machine = importlib.util.module_from_spec(spec)
+spec.loader.exec_module(machine)
+bench = machine.bench
+from_bench = ("valp", "addp", "atomic", "fork", "valt", "addt", "write", "encode", "job", "whole", "nodes", "KINDS")
+valp, addp, atomic, fork, valt, addt, write, encode, job, whole, nodes, KINDS = (getattr(bench, n) for n in from_bench)
+
+SEED = 20260201
+ROOM = 1000000
+LONG = 32769  # picks, one too many
+
+rng = random.Random()
+cases = bench.Cases()
+kinds = Counter()  # cases of each kind
+seen = defaultdict(Counter)  # what occurs in them
+
+
+def add(kind, label, text, said):
+    """A case of a kind, which ends its label; the label's first word is the command."""
+    kinds[kind] += 1
+    cases.line("%s %s %d" % (label, kind, kinds[kind]), text, said)
+
+
+# ---- the run program
+
+
+def printed(data):
+    """What the run program prints for this standard input."""
+    size = int.from_bytes(data[:2], "big")
+    if len(data) < 2 or len(data) < 2 + size:
+        return "refused 1 at %d\n" % len(data)
+    text, picks = data[2 : 2 + size], data[2 + size :]
+    reading = bench.read_job(text)
+    if reading[0] == "refused":
+        return "refused %d at %d\n" % reading[1:]
+    if len(picks) > 32768:
+        return "refused 13 at 0\n"
+    code, memory = whole(bench.tree_at(text, 7)[0]), machine.Memory()
+    machine.call_fresh(code, memory)
+    events = [machine.pick(code, memory, i)[0] for i in picks]
+    idle = events.count(0)
+    out = "steps %d idle %d commits %d back %d\n" % (len(events) - idle, idle, events.count(9), events.count(10))
+    for i in range(16):
+        thread = memory.threads[i]
+        if thread.start and thread.place == thread.end:
+            out += "thread %d done %d\n" % (i, thread.cell[0])
+        elif thread.start:
+            out += "thread %d open\n" % i
+    for v in range(64):
+        if memory.registers[v]:
+            out += "register %d %d\n" % (v, memory.registers[v])
+    return out
+
+
+def report(kind, data, size=None, picks=()):
+    """An input of the run program, the picks behind `data` in decimal. The output's size is what is printed, if none is given."""
+    out = printed(data + bytes(picks))
+    size = len(out) if size is None else size
+    said = "refused 10 at 0" if size < len(out) else "prints " + out.replace("\n", " / ").rstrip()
+    add("input", "report %d %s" % (size, kind), data.hex() + (";" + words(picks) if picks else ""), said + " kept")
+    note = seen["report"]
+    note["short"] += size < len(out)
+    note["longer"] += size > len(out)
+    for row in out.splitlines():
+        word = row.split()
+        if word[0] == "refused":
+            note["refused " + word[1]] += 1
+        elif word[0] == "steps":
+            for name, n in zip(("steps", "idle", "commits", "back"), word[1::2]):
+                note[name] += n != "0"
+        else:
+            note[word[0] + " of two digits"] += len(word[1]) == 2
+            note[word[0] + " open"] += word[2] == "open"
+            note[word[0] + " negative"] += word[-1][0] == "-"
+            note[word[0] + " least"] += word[-1] == "-2147483648"
+
+
+def words(picks):
+    """A list of picks as text, such as ' 0*3 1'."""
+    out, at = "", 0
+    while at < len(picks):
+        times = 1
+        while at + times < len(picks) and picks[at + times] == picks[at]:
+            times += 1
+        while times:
+            n = min(times, 40000)
+            out += " %d" % picks[at] + ("*%d" % n if n > 1 else "")
+            times, at = times - n, at + n
+    return out
+
+
+# ---- trees and lists of picks
+
+
+def scattered(tree):
+    """The tree with other numbers in some of its leaves."""
+    kind, operand, parts = tree
+    if len(operand) == 4 and rng.random() < 0.5:
+        operand = rng.choice((rng.randbytes(4), bytes([rng.randint(1, 8)]) * 4, b"\x80\0\0\0", b"\xff\xff\xff\xff", b"\x7f\xff\xff\xff"))
+    return kind, operand, tuple(scattered(p) for p in parts)
+
+
+def accepted(make):
+    while True:
+        tree = scattered(make())
+        if nodes(tree) <= 1000 and bench.read_job(job(tree))[0] == "accepted":
+            return tree
+
+
+def registers():
+    return rng.choice(((0,), (0, 1), (0, 1, 63), tuple(rng.sample(range(64), 3)), tuple(range(8, 13))))
+
+
+def small(least=1, most=15):
+    return accepted(lambda: machine.some_proc(rng, rng.randint(least, most), registers()))
+
+
+def busy():
+    """Threads that read and write the same registers."""
+    def part():
+        wrap = rng.choice((fork, lambda p: p))
+        return wrap(atomic(machine.some_tran(rng, rng.randint(2, 7), (0, 40)[: rng.randint(1, 2)])))
+
+    return accepted(lambda: joined([part() for _ in range(rng.randint(2, 4))]))
+
+
+def joined(parts):
+    """The processes in sums of some shape."""
+    if len(parts) == 1:
+        return parts[0]
+    at = rng.randrange(1, len(parts))
+    return addp(joined(parts[:at]), joined(parts[at:]))
+
+
+def many():
+    """Ten threads or more."""
+    def part():
+        return fork(rng.choice((valp(-5), atomic(write(rng.randint(9, 63), valt(-9))), machine.some_proc(rng, 2, (0,)))))
+
+    return accepted(lambda: joined([part() for _ in range(rng.randint(10, 15))]))
+
+
+def large(most):
+    """At most so many nodes, in sums of transactions and a few FORKs."""
+    def parts():
+        out, left = [], most - 1
+        while left > 12:
+            part = atomic(machine.some_tran(rng, rng.randint(1, 9), registers())) if rng.random() < 0.7 else valp(7)
+            part = fork(part) if sum(map(machine.forks, out)) < 15 and rng.random() < 0.1 else part
+            out.append(part)
+            left -= nodes(part) + 1
+        return out
+
+    def even(parts):
+        if len(parts) == 1:
+            return parts[0]
+        at = max(1, min(len(parts) - 1, len(parts) // 2 + rng.randint(-3, 3)))
+        return addp(even(parts[:at]), even(parts[at:]))
+
+    return accepted(lambda: even(parts()))
+
+
+def any_tree():
+    return rng.choice((small, small, small, busy, many if rng.random() < 0.15 else small))()
+
+
+def schedule(tree, most=200, idle=0.08):
+    """Picks of threads that are there, in short turns, mostly until all have ended; and each one's event."""
+    code, memory = whole(tree), machine.Memory()
+    machine.call_fresh(code, memory)
+    picks, events = [], []
+    while len(picks) < most:
+        live = [i for i in range(16) if memory.threads[i].start and memory.threads[i].place != memory.threads[i].end]
+        if not live:
+            break
+        i = rng.choice((rng.randrange(16), 16, 255)) if rng.random() < idle else rng.choice(live)
+        for _ in range(rng.choice((1, 1, 2, 3, 6))):
+            picks.append(i)
+            events.append(machine.pick(code, memory, i)[0])
+    return picks, events
+
+
+# ---- damage
+
+
+def put(data, at, *more):
+    return data[:at] + bytes(more) + data[at + len(more) :]
+
+
+def other(byte):
+    return rng.choice([n for n in (rng.randrange(256), (byte + 1) % 256, (byte - 1) % 256, rng.randrange(10)) if n != byte] or [byte ^ 1])
+
+
+def changed(data, at):
+    return put(data, at, other(data[at]))
+
+
+def unlike(data):
+    """Any byte changed, left out or put in."""
+    at = rng.randrange(len(data))
+    return rng.choice((changed(data, at), changed(data, at), data[:at] + data[at + 1 :], data[:at] + rng.randbytes(1) + data[at:]))
+
+
+def node_places(data):
+    out, at = [], 7
+    while at < len(data):
+        out.append(at)
+        at += 1 + KINDS[data[at]][0]
+    return out
+
+
+def deep(layers):
+    """A tree whose deepest node is so many layers below its root."""
+    inside = rng.randint(0, layers)
+    tree = scattered(valp(7)) if not inside else scattered(rng.choice((valt(7), bench.read(9))))
+    for i in range(1, layers + 1):
+        if i == inside:
+            tree = atomic(tree)
+        elif i < inside:
+            tree = rng.choice((lambda t: write(rng.randrange(64), t), lambda t: addt(t, bench.read(1))))(tree)
+        else:
+            tree = addp(tree, valp(7)) if rng.random() < 0.9 else addp(valp(7), tree)
+    return tree
+
+
+def sixteen():
+    """A tree of sixteen FORKs or more, in each other and side by side."""
+    parts = [valp(1)] * rng.randint(1, 4)
+    for _ in range(rng.randint(16, 18)):
+        k = rng.randrange(len(parts))
+        parts[k] = fork(parts[k])
+        if rng.random() < 0.2:
+            parts[k] = addp(parts[k], valp(2)) if rng.random() < 0.5 else addp(valp(2), parts[k])
+    return joined(parts)
+
+
+def ended(data, place):
+    """What stands behind the place is left out, but for a few bytes."""
+    return data[: place + rng.randint(1, 6)]
+
+
+def bad_kind(data):
+    at = rng.choice(node_places(data))
+    return put(data, at, rng.choice((0, 9, 255, *range(1, 9))))
+
+
+def bad_register(data):
+    named = [at + 1 for at in node_places(data) if data[at] in (7, 8)]
+    return put(data, rng.choice(named), rng.choice((64, 255, rng.randint(64, 255)))) if named else data
+
+
+def bad_length(data):
+    count = int.from_bytes(data[5:7], "big")
+    kind = rng.randrange(3)
+    if kind == 0:
+        return data + rng.randbytes(rng.randint(1, 5))
+    count = rng.randint(1, count) if kind == 1 else min(1000, count + rng.choice((1, 2, 300)))
+    return put(data, 5, count >> 8, count & 255)
+
+
+def bad_depth(_):
+    data = job(deep(rng.randint(64, 66)))
+    return ended(data, bench.read_job(data)[2])
+
+
+def bad_forks(_):
+    data = job(sixteen())
+    return ended(data, bench.read_job(data)[2])
+
+
+# of a job: damage that may be turned down with this number
+JOB_DAMAGE = {
+    1: lambda data: data[: rng.randrange(len(data))],
+    2: lambda data: changed(data, rng.randrange(3)),
+    3: lambda data: changed(data, rng.randrange(3, 5)),
+    4: lambda data: put(data, 5, *rng.choice((0, 1001, 65535, rng.randint(1001, 65535))).to_bytes(2, "big")),
+    5: bad_kind,
+    6: bad_register,
+    7: bad_depth,
+    8: bad_forks,
+    9: bad_length,
+}
+
+
+def damaged_job(number):
+    """A damaged job that is turned down with this number."""
+    while True:
+        data = JOB_DAMAGE[number](job(any_tree()))
+        if rng.random() < 0.1 and data:
+            data = unlike(data)
+        if bench.read_job(data)[:2] == ("refused", number):
+            return data
+
+
+def test_of(data):
+    """Which test turns a job down: the number, and of 1 and 9 which of its reasons."""
+    _, number, place = bench.read_job(data)
+    if number == 1:
+        reason = "fewer than 7" if len(data) < 7 else "no byte" if bench.read_job(data + b"\0")[1:] == (5, len(data)) else "operand"
+    elif number == 9:
+        most = put(data, 5, 3, 232)  # the same with count 1,000
+        if bench.read_job(most) != ("refused", 9, place):
+            reason = "count used up"
+        else:
+            reason = "bytes" if nodes(bench.tree_at(data, 7)[0]) == data[5] * 256 + data[6] else "nodes"
+    else:
+        reason = ""
+    return ("%d %s" % (number, reason)).strip()
+
+
+def op_places(code):
+    out, at = [], 5
+    while at < len(code):
+        out.append(at)
+        at += 1 + bench.OPERANDS[code[at]]
+    return out
+
+
+def swapped(code):
+    """Two neighbouring instructions changed over."""
+    at = op_places(code) + [len(code)]
+    if len(at) < 3:
+        return code
+    k = rng.randrange(len(at) - 2)
+    return code[: at[k]] + code[at[k + 1] : at[k + 2]] + code[at[k] : at[k + 1]] + code[at[k + 2] :]
+
+
+def op_changed(code, ops, by):
+    """The operand's last byte of an instruction with one of these opcodes made another."""
+    at = [at for at in op_places(code) if code[at] in ops]
+    if not at:
+        return code
+    at = rng.choice(at)
+    return put(code, at + bench.OPERANDS[code[at]], by(code[at + bench.OPERANDS[code[at]]]))
+
+
+CODE_DAMAGE = {
+    "cut": lambda code: code[: rng.randrange(len(code))],
+    "mark": lambda code: changed(code, rng.randrange(3)),
+    "version": lambda code: changed(code, rng.randrange(3, 5)),
+    "opcode": lambda code: changed(code, rng.choice(op_places(code))),
+    "register": lambda code: op_changed(code, (3, 4), lambda _: rng.choice((64, 255))),
+    "length": lambda code: op_changed(code, (7,), other),
+    "order": swapped,
+    "byte": unlike,
+    "behind": lambda code: code + rng.choice((b"\2", b"\6", b"\0", rng.randbytes(1), code[5:])),
+    "depth": lambda _: whole(deep(64)),
+    "forks": lambda _: whole(sixteen()),
+}
+
+
+def damaged_code(kind):
+    while True:
+        code = CODE_DAMAGE[kind](whole(any_tree()))
+        if bench.job_of(code) is None:
+            return code
+
+
+# ---- states
+
+
+def begun(tree, picks):
+    memory = machine.Memory()
+    machine.call_fresh(whole(tree), memory)
+    machine.call_run(whole(tree), memory, picks)
+    return memory
+
+
+def state(kind, command, what, setup, changes, picks):
+    """A call on a state. Answers what it says."""
+    setup, picks = words(setup).strip(), words(picks).strip()
+    code, text = machine.given(what, setup, changes, picks)
+    said, _ = machine.answer(command, code, setup, changes, picks)
+    add(kind, command, text, said)
+    return said
+
+
+def calls(kind, tree, setup, lists):
+    """Calls one after the other, each on what the one before left."""
+    code, memory, said = whole(tree), begun(tree, setup), []
+    for picks in lists:
+        before = memory.numbers()
+        number, events = machine.call_run(code, memory, picks)
+        if number:
+            assert memory.numbers() == before
+            said.append("refused %d at 0 kept" % number)
+        else:
+            said.append("steps %d idle %d commits %d back %d" % machine.counts(events))
+        seen["calls"]["refused" if number else "taken"] += 1
+        seen["calls"]["sent back"] += any(event == 10 for event, _, _ in events)
+        seen["calls"]["left open"] += any(record.begin for record in memory.threads[:16])
+    seen["calls"]["of %d" % len(lists)] += 1
+    _, text = machine.given(tree, words(setup).strip(), "", " | ".join(words(picks).strip() for picks in lists))
+    add(kind, "calls", text, " | ".join(said) + machine.show_state(memory) + ", sum %d" % machine.checksum(memory))
+
+
+FIELDS = machine.SCALARS + machine.ARRAYS + ("records", "registers")
+
+
+def altered(memory, field):
+    """A change of one field."""
+    if field in ("records", "registers"):
+        n = 16 if field == "records" else 64
+        return "%s %d" % (field, rng.choice((0, 1, n - 1, n + 1, rng.randrange(n))))
+    count = sum(record.start != 0 for record in memory.threads[:16])
+    i = rng.choice((rng.randrange(count), rng.randrange(count), min(count, 15), rng.randrange(16)))
+    now = getattr(memory.threads[i], field)
+    if field in ("reads", "writes"):
+        return "thread %d %s %d" % (i, field, now ^ 1 << rng.choice((0, 1, 63, rng.randrange(64))))
+    if field in machine.SCALARS:
+        value = rng.choice((now + 1, now - 1, now + rng.randint(2, 12), 0, 2**64 - 1, 64, memory.threads[0].end, 5))
+        return "thread %d %s %d" % (i, field, max(0, value))
+    k = rng.choice((memory.threads[i].height - 1, memory.threads[i].height, 63, 0)) if field == "cell" else rng.choice((0, 1, 40, 63))
+    return "thread %d %s %d %d" % (i, field, max(0, min(63, k)), rng.choice((1, -1, 2147483647, -2147483648)))
+
+
+def one_field(fit, field):
+    """A case of a state with one field altered, which fits or does not."""
+    while True:
+        tree = any_tree()
+        picks, _ = schedule(tree, 40)
+        k = rng.randint(0, len(picks))
+        memory = begun(tree, picks[:k])
+        change = altered(memory, field)
+        machine.change(bytearray(), memory, change)
+        if memory.numbers() + [memory.lent_records, memory.lent_registers] == begun(tree, picks[:k]).numbers() + [16, 64]:
+            continue
+        if machine.fits(whole(tree), memory) == fit:
+            break
+    command = rng.choice(("run", "run", "step"))
+    said = state("altered" if fit else "foreign state", command, tree, picks[:k], change, picks[k : k + 1] or [0] if command == "step" else picks[k : k + 9])
+    assert (said == "refused 12 at 0 kept") != fit
+    seen["altered" if fit else "foreign state"][field] += 1
+
+
+# ---- the cases
+
+
+def a_job(data, size=None):
+    """A job is read, or compiled into an output of this size."""
+    if size is None:
+        add("damaged job" if bench.read_job(data)[0] == "refused" else "job", "job", data.hex(), bench.show(bench.read_job(data)))
+        return
+    answer = bench.compile_job(data, size)
+    kind = ("short tray" if answer[1] == 10 else "damaged job") if isinstance(answer, tuple) else "job"
+    add(kind, "compile %d" % size, data.hex(), bench.show_output("code", answer))
+
+
+def a_code(code, size, kind=""):
+    answer = bench.read_back(code, size)
+    said = {10: "short tray", 11: "damaged code"}[answer[1]] if isinstance(answer, tuple) else "code"
+    add(said, ("back %d %s" % (size, kind)).strip(), code.hex(), bench.show_output("job", answer))
+
+
+def room(n):
+    """A size of an output in which n bytes have room."""
+    return n + rng.choice((0, 0, 0, 1, 2, 50))
+
+
+def the_jobs():
+    cases.section("jobs that are accepted, and their code")
+    for k in range(360):
+        data = job(any_tree())
+        a_job(data, None if k % 3 == 0 else room(bench.read_job(data)[2]))
+    cases.section("outputs that are too short")
+    for k in range(40):
+        tree = small()
+        n = len(whole(tree))
+        a_job(job(tree), rng.choice((n - 1, 0, rng.randrange(n))))
+        n = len(job(tree))
+        a_code(whole(tree), rng.choice((n - 1, 0, rng.randrange(n))))
+
+
+def the_damaged_jobs():
+    cases.section("jobs that are turned down")
+    data = job(bench.WHOLE)
+    damaged = [data[:n] for n in range(len(data))] + [changed(data, at) for at in range(7)]
+    damaged += [damaged_job(number) for number in JOB_DAMAGE for _ in range(32)]
+    while len(damaged) < 400:
+        data = unlike(job(any_tree()))
+        if bench.read_job(data)[0] == "refused":
+            damaged.append(data)
+    for data in damaged:
+        seen["test"][test_of(data)] += 1
+        seen["places of %d" % bench.read_job(data)[1]][bench.read_job(data)[2]] += 1
+        a_job(data, rng.choice((None, None, 0, 100)))
+
+
+def the_codes():
+    cases.section("code that is read back")
+    for _ in range(320):
+        tree = any_tree()
+        a_code(whole(tree), room(len(job(tree))))
+    for _ in range(20):  # of another job
+        code = b""
+        while bench.job_of(code) is None:
+            code = unlike(whole(small()))
+        a_code(code, room(len(bench.job_of(code))), "other")
+
+
+def the_damaged_codes():
+    cases.section("foreign code")
+    for k in range(330):
+        kind = rng.choice(("depth", "forks")) if k % 15 == 0 else list(CODE_DAMAGE)[k % 9]
+        seen["damage of code"][kind] += 1
+        a_code(damaged_code(kind), rng.choice((0, 100, 100)), kind)
+    for k in range(66):
+        code = damaged_code(rng.choice(("cut", "opcode", "register", "length", "order", "byte", "behind")))
+        command = ("fresh", "step", "run")[k % 3]
+        said = state("damaged code", command, code, [], rng.choice(("", "", "records 15", "registers 65")), [0] * rng.choice((1, LONG)) if command == "run" else [0])
+        assert said == "refused 11 at 0 kept"
+
+
+def the_states():
+    cases.section("fresh states")
+    for k in range(45):
+        n = rng.randrange(15)
+        changes = ("", "register %d 5, thread %d reads 1" % (n, n), "records %d" % rng.choice((n, 17)), "registers %d" % rng.choice((n, 63, 65)))[min(3, k % 6)]
+        said = state("fresh", "fresh", any_tree(), [], changes, [])
+        seen["fresh"][said.split(",")[0]] += 1
+    cases.section("one step")
+    wanted = Counter({event: 30 for event in range(11)})
+    while +wanted:
+        tree = any_tree()
+        picks, events = schedule(tree)
+        # the rarest event that is still wanted
+        for event in sorted(set(events), key=lambda e: -wanted[e]):
+            if wanted[event] > 0:
+                wanted[event] -= 1
+                k = rng.choice([i for i, e in enumerate(events) if e == event])
+                said = state("step", "step", tree, picks[:k], "", picks[k : k + 1])
+                assert said.startswith("event %d " % event)
+                seen["event"][event] += 1
+                break
+    cases.section("runs in one call")
+    for _ in range(100):
+        tree = any_tree()
+        picks, events = schedule(tree)
+        seen["event in a run"].update(events)
+        state("run", "run", tree, [], "", picks)
+    cases.section("one field altered: states that do not fit")
+    for field in FIELDS:
+        for _ in range(26):
+            one_field(False, field)
+    cases.section("one field altered: states that fit")
+    for field in ("cell", "readlog", "writelog", "reads", "writes", "place"):
+        for _ in range(10):
+            one_field(True, field)
+    cases.section("a foreign state comes before a long list")
+    for _ in range(6):
+        tree = small()
+        said = state("long list", "run", tree, [], rng.choice(("thread 0 height 9", "records 15")), [0] * LONG)
+        assert said == "refused 12 at 0 kept"
+
+
+def the_calls():
+    cases.section("runs in several calls")
+    for k in range(330):
+        tree = rng.choice((busy, busy, any_tree))()
+        picks, _ = schedule(tree)
+        cuts = sorted(rng.randint(0, len(picks)) for _ in range(rng.choice((1, 1, 2, 3, 4))))
+        lists = [picks[a:b] for a, b in zip([0] + cuts, cuts + [len(picks)])]
+        setup = []
+        if k % 10 == 0:
+            lists.insert(rng.randrange(len(lists) + 1), [rng.choice((0, 1, 200))] * LONG)
+        elif k % 10 == 1:
+            setup = lists.pop(0)
+            lists.append([rng.choice(picks) for _ in range(3)])
+        calls("in calls", tree, setup, lists)
+
+
+def an_input(data, picks=b"", length=None):
+    return (len(data) if length is None else length).to_bytes(2, "big") + data + bytes(picks)
+
+
+def the_inputs():
+    cases.section("inputs of the run program")
+    report("whole case", an_input(job(bench.WHOLE), machine.listed(machine.PICKS)))
+    assert cases.answers[-1].endswith("steps 21 idle 0 commits 2 back 1 / thread 0 done 0 / thread 1 done 2 / thread 2 done 1 / register 0 2 / kept")
+    for k in range(170):
+        tree = (small, busy, any_tree, many)[k % 4 if k % 20 else 3]()
+        picks, _ = schedule(tree, rng.choice((10, 60, 200)))
+        data = an_input(job(tree), picks)
+        n = len(printed(data))
+        report("valid", data, rng.choice((n, n, n + 1, 6000)))
+    least = addp(valp(-2147483648), addp(fork(atomic(write(63, valt(-2147483648)))), valp(0)))
+    report("least numbers", an_input(job(least), [0] * 9 + [1] * 4))
+    for v in (9, 10, 63):
+        report("register", an_input(job(atomic(write(v, valt(-v)))), [0] * 4))
+    cases.section("inputs with an output that is too short")
+    for k in range(40):
+        tree = any_tree()
+        data = an_input(job(tree), schedule(tree, 60)[0])
+        n = len(printed(data))
+        report("short", data, rng.choice((n - 1, 0, rng.randrange(n))))
+    report("short refusal", b"", 15)
+    cases.section("inputs that are cut, or whose length is wrong")
+    for n in range(12):
+        report("cut", an_input(job(bench.V))[:n])
+    for _ in range(30):
+        data = an_input(job(small()))
+        report("cut", data[: rng.randrange(len(data))])
+    for _ in range(30):
+        data = job(small())
+        report("length", an_input(data, [0, 1, 0], rng.choice((len(data) - 1, len(data) + 1, rng.randrange(len(data)), len(data) + rng.randint(2, 6), 65535))))
+    cases.section("inputs with damaged jobs")
+    for k in range(63):
+        report("damaged", an_input(damaged_job(k % 9 + 1), [0] * rng.randrange(3)), rng.choice((None, None, 6000)))
+    cases.section("inputs with long lists")
+    for pick in (0, 1, 200):
+        tree = small()
+        report("long", an_input(job(tree)), picks=[pick] * LONG)
+        report("full", an_input(job(tree)), picks=[pick] * (LONG - 1))
+    report("long, cut", an_input(job(bench.V), length=40000), picks=[0] * LONG)
+    for number in range(1, 10):
+        report("long, damaged", an_input(damaged_job(number)), picks=[0] * LONG)
+    report("longest", an_input(job(bench.LONG)), picks=[0] * LONG)
+    report("longest", an_input(job(bench.LONG)), picks=[0] * 16384 + [1] * 16384)
+    report("beyond", an_input(job(bench.V)), picks=[0] * 69000)
+    report("beyond", b"\xff\xff", picks=[7] * 65534)
+    report("beyond", b"\xff\xff", picks=[7] * 65535)
+
+
+def the_large():
+    cases.section("large jobs")
+    for most in (70, 90, 150, 300, 500, 1000):
+        tree = large(most)
+        data, code = job(tree), whole(tree)
+        picks, _ = schedule(tree, 4 * most)
+        a_job(data, len(code))
+        a_code(code, len(data))
+        a_job(unlike(data))
+        a_code(unlike(code), 6000, "large")
+        state("large", "run", tree, picks[:most], "", picks[most:])
+        report("large", an_input(data, picks), 6000)
+        seen["large"][len(data) // 1000] += 1
+
+
+def check():
+    """All that the cases are to have."""
+    for kind in ("job", "damaged job", "code", "damaged code", "in calls", "foreign state", "input"):
+        assert kinds[kind] >= 300, (kind, kinds[kind])
+    tests = ["1 fewer than 7", "1 no byte", "1 operand", *"2345678", "9 count used up", "9 nodes", "9 bytes"]
+    assert sorted(seen["test"]) == sorted(tests) and min(seen["test"].values()) >= 5, seen["test"]
+    assert set(range(32)) <= set(seen["places of 1"])
+    for number, place in ((2, 0), (3, 3), (4, 5)):
+        assert set(seen["places of %d" % number]) == {place}
+    for number, least in ((5, 10), (6, 10), (7, 10), (8, 5), (9, 10)):
+        assert len(seen["places of %d" % number]) >= least, (number, seen["places of %d" % number])
+    assert set(seen["damage of code"]) == set(CODE_DAMAGE) and min(seen["damage of code"].values()) >= 5
+    assert set(seen["event"]) == set(seen["event in a run"]) == set(range(11))
+    assert set(seen["foreign state"]) == set(FIELDS)
+    assert set(seen["fresh"]) == {"laid", "refused 12 at 0 kept"}
+    for name in ("refused", "taken", "sent back", "left open", "of 2", "of 3", "of 4", "of 5"):
+        assert seen["calls"][name] >= 10, (name, seen["calls"])
+    for name in ("short", "longer", "steps", "idle", "commits", "back", "thread open", "thread negative", "thread least", "thread of two digits",
+                 "register negative", "register least", "register of two digits", *("refused %d" % n for n in (1, 2, 3, 4, 5, 6, 7, 8, 9, 13))):
+        assert seen["report"][name] >= 1, (name, seen["report"])
+
+
+def main(seed=SEED, folder=HERE):
+    rng.seed(int(seed))
+    for stated in (bench, machine):
+        stated.make()
+        cases.lines += stated.cases.lines + [""]
+        cases.answers += stated.cases.answers
+    cases.lines.append("# Random cases of every call.")
+    for part in (the_jobs, the_damaged_jobs, the_codes, the_damaged_codes, the_states, the_calls, the_inputs, the_large):
+        part()
+    check()
+    cases.save(folder, ROOM)
+    for name, counted in (("kinds", kinds), *seen.items()):
+        print(name + ":", ", ".join("%s %d" % (key, counted[key]) for key in sorted(counted, key=str)))
+
+
+if __name__ == "__main__":
+    main(*sys.argv[1:])
