@@ -2,30 +2,26 @@
 """Writes the files stdin and stdout of this program, beside this one; with a seed and a folder as arguments, other random cases into that
 folder.
 
-In front stand the cases of bench_cases/cases.py and run_cases/cases.py, whose answers are also stated by hand. Every answer comes from a second implementation, which is written from the papers (document 01) and not from the definitions or the code
-of this repository: the job reader, the compiler and the way back are in bench_cases/cases.py, the machine is in run_cases/cases.py, and
-what the run program prints is here.
+In front stand the cases of jobs.py and machine.py, whose answers are also stated by hand. Every answer comes from a second implementation, which
+is written from the papers (document 01) and not from the definitions or the code of this repository: the job reader, the compiler and the
+way back are in jobs.py, the machine is in machine.py, and what the run program prints is here.
 """
-import importlib.util
 import os
 import random
 import sys
 from collections import Counter, defaultdict
 
-HERE = os.path.dirname(os.path.abspath(__file__))
-spec = importlib.util.spec_from_file_location("machine", os.path.join(HERE, "..", "run_cases", "cases.py"))
-machine = importlib.util.module_from_spec(spec)
-spec.loader.exec_module(machine)
-bench = machine.bench
-from_bench = ("valp", "addp", "atomic", "fork", "valt", "addt", "write", "encode", "job", "whole", "nodes", "KINDS")
-valp, addp, atomic, fork, valt, addt, write, encode, job, whole, nodes, KINDS = (getattr(bench, n) for n in from_bench)
+import jobs
+import machine
+from jobs import KINDS, addp, addt, atomic, encode, fork, job, nodes, valp, valt, whole, write
 
+HERE = os.path.dirname(os.path.abspath(__file__))
 SEED = 20260201
 ROOM = 1000000
 LONG = 32769  # picks, one too many
 
 rng = random.Random()
-cases = bench.Cases()
+cases = jobs.Cases()
 kinds = Counter()  # cases of each kind
 seen = defaultdict(Counter)  # what occurs in them
 
@@ -45,12 +41,12 @@ def printed(data):
     if len(data) < 2 or len(data) < 2 + size:
         return "refused 1 at %d\n" % len(data)
     text, picks = data[2 : 2 + size], data[2 + size :]
-    reading = bench.read_job(text)
+    reading = jobs.read_job(text)
     if reading[0] == "refused":
         return "refused %d at %d\n" % reading[1:]
     if len(picks) > 32768:
         return "refused 13 at 0\n"
-    code, memory = whole(bench.tree_at(text, 7)[0]), machine.Memory()
+    code, memory = whole(jobs.tree_at(text, 7)[0]), machine.Memory()
     machine.call_fresh(code, memory)
     events = [machine.pick(code, memory, i)[0] for i in picks]
     idle = events.count(0)
@@ -118,7 +114,7 @@ def scattered(tree):
 def accepted(make):
     while True:
         tree = scattered(make())
-        if nodes(tree) <= 1000 and bench.read_job(job(tree))[0] == "accepted":
+        if nodes(tree) <= 1000 and jobs.read_job(job(tree))[0] == "accepted":
             return tree
 
 
@@ -227,12 +223,12 @@ def node_places(data):
 def deep(layers):
     """A tree whose deepest node is so many layers below its root."""
     inside = rng.randint(0, layers)
-    tree = scattered(valp(7)) if not inside else scattered(rng.choice((valt(7), bench.read(9))))
+    tree = scattered(valp(7)) if not inside else scattered(rng.choice((valt(7), jobs.read(9))))
     for i in range(1, layers + 1):
         if i == inside:
             tree = atomic(tree)
         elif i < inside:
-            tree = rng.choice((lambda t: write(rng.randrange(64), t), lambda t: addt(t, bench.read(1))))(tree)
+            tree = rng.choice((lambda t: write(rng.randrange(64), t), lambda t: addt(t, jobs.read(1))))(tree)
         else:
             tree = addp(tree, valp(7)) if rng.random() < 0.9 else addp(valp(7), tree)
     return tree
@@ -275,12 +271,12 @@ def bad_length(data):
 
 def bad_depth(_):
     data = job(deep(rng.randint(64, 66)))
-    return ended(data, bench.read_job(data)[2])
+    return ended(data, jobs.read_job(data)[2])
 
 
 def bad_forks(_):
     data = job(sixteen())
-    return ended(data, bench.read_job(data)[2])
+    return ended(data, jobs.read_job(data)[2])
 
 
 # of a job: damage that may be turned down with this number
@@ -303,21 +299,21 @@ def damaged_job(number):
         data = JOB_DAMAGE[number](job(any_tree()))
         if rng.random() < 0.1 and data:
             data = unlike(data)
-        if bench.read_job(data)[:2] == ("refused", number):
+        if jobs.read_job(data)[:2] == ("refused", number):
             return data
 
 
 def test_of(data):
     """Which test turns a job down: the number, and of 1 and 9 which of its reasons."""
-    _, number, place = bench.read_job(data)
+    _, number, place = jobs.read_job(data)
     if number == 1:
-        reason = "fewer than 7" if len(data) < 7 else "no byte" if bench.read_job(data + b"\0")[1:] == (5, len(data)) else "operand"
+        reason = "fewer than 7" if len(data) < 7 else "no byte" if jobs.read_job(data + b"\0")[1:] == (5, len(data)) else "operand"
     elif number == 9:
         most = put(data, 5, 3, 232)  # the same with count 1,000
-        if bench.read_job(most) != ("refused", 9, place):
+        if jobs.read_job(most) != ("refused", 9, place):
             reason = "count used up"
         else:
-            reason = "bytes" if nodes(bench.tree_at(data, 7)[0]) == data[5] * 256 + data[6] else "nodes"
+            reason = "bytes" if nodes(jobs.tree_at(data, 7)[0]) == data[5] * 256 + data[6] else "nodes"
     else:
         reason = ""
     return ("%d %s" % (number, reason)).strip()
@@ -327,7 +323,7 @@ def op_places(code):
     out, at = [], 5
     while at < len(code):
         out.append(at)
-        at += 1 + bench.OPERANDS[code[at]]
+        at += 1 + jobs.OPERANDS[code[at]]
     return out
 
 
@@ -346,7 +342,7 @@ def op_changed(code, ops, by):
     if not at:
         return code
     at = rng.choice(at)
-    return put(code, at + bench.OPERANDS[code[at]], by(code[at + bench.OPERANDS[code[at]]]))
+    return put(code, at + jobs.OPERANDS[code[at]], by(code[at + jobs.OPERANDS[code[at]]]))
 
 
 CODE_DAMAGE = {
@@ -367,7 +363,7 @@ CODE_DAMAGE = {
 def damaged_code(kind):
     while True:
         code = CODE_DAMAGE[kind](whole(any_tree()))
-        if bench.job_of(code) is None:
+        if jobs.job_of(code) is None:
             return code
 
 
@@ -454,17 +450,17 @@ def one_field(fit, field):
 def a_job(data, size=None):
     """A job is read, or compiled into an output of this size."""
     if size is None:
-        add("damaged job" if bench.read_job(data)[0] == "refused" else "job", "job", data.hex(), bench.show(bench.read_job(data)))
+        add("damaged job" if jobs.read_job(data)[0] == "refused" else "job", "job", data.hex(), jobs.show(jobs.read_job(data)))
         return
-    answer = bench.compile_job(data, size)
+    answer = jobs.compile_job(data, size)
     kind = ("short tray" if answer[1] == 10 else "damaged job") if isinstance(answer, tuple) else "job"
-    add(kind, "compile %d" % size, data.hex(), bench.show_output("code", answer))
+    add(kind, "compile %d" % size, data.hex(), jobs.show_output("code", answer))
 
 
 def a_code(code, size, kind=""):
-    answer = bench.read_back(code, size)
+    answer = jobs.read_back(code, size)
     said = {10: "short tray", 11: "damaged code"}[answer[1]] if isinstance(answer, tuple) else "code"
-    add(said, ("back %d %s" % (size, kind)).strip(), code.hex(), bench.show_output("job", answer))
+    add(said, ("back %d %s" % (size, kind)).strip(), code.hex(), jobs.show_output("job", answer))
 
 
 def room(n):
@@ -476,7 +472,7 @@ def the_jobs():
     cases.section("jobs that are accepted, and their code")
     for k in range(360):
         data = job(any_tree())
-        a_job(data, None if k % 3 == 0 else room(bench.read_job(data)[2]))
+        a_job(data, None if k % 3 == 0 else room(jobs.read_job(data)[2]))
     cases.section("outputs that are too short")
     for k in range(40):
         tree = small()
@@ -488,16 +484,16 @@ def the_jobs():
 
 def the_damaged_jobs():
     cases.section("jobs that are turned down")
-    data = job(bench.WHOLE)
+    data = job(jobs.WHOLE)
     damaged = [data[:n] for n in range(len(data))] + [changed(data, at) for at in range(7)]
     damaged += [damaged_job(number) for number in JOB_DAMAGE for _ in range(32)]
     while len(damaged) < 400:
         data = unlike(job(any_tree()))
-        if bench.read_job(data)[0] == "refused":
+        if jobs.read_job(data)[0] == "refused":
             damaged.append(data)
     for data in damaged:
         seen["test"][test_of(data)] += 1
-        seen["places of %d" % bench.read_job(data)[1]][bench.read_job(data)[2]] += 1
+        seen["places of %d" % jobs.read_job(data)[1]][jobs.read_job(data)[2]] += 1
         a_job(data, rng.choice((None, None, 0, 100)))
 
 
@@ -508,9 +504,9 @@ def the_codes():
         a_code(whole(tree), room(len(job(tree))))
     for _ in range(20):  # of another job
         code = b""
-        while bench.job_of(code) is None:
+        while jobs.job_of(code) is None:
             code = unlike(whole(small()))
-        a_code(code, room(len(bench.job_of(code))), "other")
+        a_code(code, room(len(jobs.job_of(code))), "other")
 
 
 def the_damaged_codes():
@@ -590,7 +586,7 @@ def an_input(data, picks=b"", length=None):
 
 def the_inputs():
     cases.section("inputs of the run program")
-    report("whole case", an_input(job(bench.WHOLE), machine.listed(machine.PICKS)))
+    report("whole case", an_input(job(jobs.WHOLE), machine.listed(machine.PICKS)))
     assert cases.answers[-1].endswith("steps 21 idle 0 commits 2 back 1 / thread 0 done 0 / thread 1 done 2 / thread 2 done 1 / register 0 2 / kept")
     for k in range(170):
         tree = (small, busy, any_tree, many)[k % 4 if k % 20 else 3]()
@@ -611,7 +607,7 @@ def the_inputs():
     report("short refusal", b"", 15)
     cases.section("inputs that are cut, or whose length is wrong")
     for n in range(12):
-        report("cut", an_input(job(bench.V))[:n])
+        report("cut", an_input(job(jobs.V))[:n])
     for _ in range(30):
         data = an_input(job(small()))
         report("cut", data[: rng.randrange(len(data))])
@@ -626,12 +622,12 @@ def the_inputs():
         tree = small()
         report("long", an_input(job(tree)), picks=[pick] * LONG)
         report("full", an_input(job(tree)), picks=[pick] * (LONG - 1))
-    report("long, cut", an_input(job(bench.V), length=40000), picks=[0] * LONG)
+    report("long, cut", an_input(job(jobs.V), length=40000), picks=[0] * LONG)
     for number in range(1, 10):
         report("long, damaged", an_input(damaged_job(number)), picks=[0] * LONG)
-    report("longest", an_input(job(bench.LONG)), picks=[0] * LONG)
-    report("longest", an_input(job(bench.LONG)), picks=[0] * 16384 + [1] * 16384)
-    report("beyond", an_input(job(bench.V)), picks=[0] * 69000)
+    report("longest", an_input(job(jobs.LONG)), picks=[0] * LONG)
+    report("longest", an_input(job(jobs.LONG)), picks=[0] * 16384 + [1] * 16384)
+    report("beyond", an_input(job(jobs.V)), picks=[0] * 69000)
     report("beyond", b"\xff\xff", picks=[7] * 65534)
     report("beyond", b"\xff\xff", picks=[7] * 65535)
 
@@ -675,7 +671,7 @@ def check():
 
 def main(seed=SEED, folder=HERE):
     rng.seed(int(seed))
-    for stated in (bench, machine):
+    for stated in (jobs, machine):
         stated.make()
         cases.lines += stated.cases.lines + [""]
         cases.answers += stated.cases.answers

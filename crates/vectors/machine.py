@@ -1,20 +1,13 @@
-#!/usr/bin/env python3
-"""Cases of fresh, step and run, for vectors/cases.py, which writes them.
+"""Cases of fresh, step and run, for cases.py, which writes them.
 
 The machine here is a second implementation, written from document 01 alone; jobs, their code and what code is foreign come from the
-second implementation in bench_cases/cases.py. Where a case states its answer by hand, the two are compared before anything is written.
+second implementation in jobs.py. Where a case states its answer by hand, the two are compared before anything is written.
 """
 import copy
-import importlib.util
-import os
 import random
 
-HERE = os.path.dirname(os.path.abspath(__file__))
-spec = importlib.util.spec_from_file_location("bench", os.path.join(HERE, "..", "bench_cases", "cases.py"))
-bench = importlib.util.module_from_spec(spec)
-spec.loader.exec_module(bench)
-from_bench = ("valp", "addp", "atomic", "fork", "valt", "addt", "read", "write", "job", "whole", "job_of", "nodes", "chain")
-valp, addp, atomic, fork, valt, addt, read, write, job, whole, job_of, nodes, chain = (getattr(bench, n) for n in from_bench)
+import jobs
+from jobs import addp, addt, atomic, chain, fork, job, job_of, nodes, read, valp, valt, whole, write
 
 # ---- the machine
 
@@ -59,7 +52,7 @@ def wrap(n):
     return (n + 2**31) % 2**32 - 2**31
 
 
-OPERAND = bench.OPERANDS
+OPERAND = jobs.OPERANDS
 
 
 def instruction(code, place):
@@ -324,7 +317,7 @@ def answer(command, code, setup, changes, picks):
 
 # ---- the cases
 
-cases = bench.Cases()
+cases = jobs.Cases()
 lines, answers, section, line = cases.lines, cases.answers, cases.section, cases.line
 
 
@@ -366,7 +359,7 @@ TWICE = atomic(addt(read(3), read(3)))
 STALE = addp(fork(atomic(write(2, write(1, valt(1))))), atomic(addt(read(2), read(1))))
 NEST = chain(fork, 15, valp(1))
 NEST_PICKS = " ".join(str(i) for i in range(15))
-WIDE = bench.balanced(addp, fork(valp(2)), 15)
+WIDE = jobs.balanced(addp, fork(valp(2)), 15)
 # four threads each add 1 to register 0; all read it before one commits
 BUSY = addp(STEP, addp(STEP, addp(STEP, atomic(write(0, addt(read(0), valt(1)))))))
 BUSY_PICKS = "0*3 " + 5 * "0 1 2 3 " + "1 0 2 3 " + 5 * "0 2 3 " + "2 0 3 " + 5 * "0 3 " + "3 0 200 0*9"
@@ -498,15 +491,15 @@ def the_sizes():
     case("step pick 16 with 16 threads", NEST, NEST_PICKS, picks="16", says=stepped(0, 0, 0, *open_, "thread 15 open"))
     case("step pick 15 with 16 threads", NEST, NEST_PICKS, picks="15", says=stepped(1, 0, 0, *open_, "thread 15 done 1"))
     case("run 15 FORKs side by side", WIDE, picks="0*29 " + " ".join(str(i) for i in range(1, 16)), says=ran(44, 0, 0, 0, "thread 0 done 0", *("thread %d done 2" % i for i in range(1, 16))))
-    deep = bench.right_comb(addp, valp(3), 64)
+    deep = jobs.right_comb(addp, valp(3), 64)
     case("run a stack of 64", deep, picks="0*64", says=ran(64, 0, 0, 0, "thread 0 open"))
     assert answer("run", whole(deep), "", "", "0*64")[1].threads[0].height == 64
     case("step the first sum of a stack of 64", deep, "0*64", picks="0", says=stepped(2, 0, 1, "thread 0 open"))
     case("run a stack of 64 to the end", deep, picks="0*130", says=ran(127, 3, 0, 0, "thread 0 done 192"))
-    inside = atomic(bench.right_comb(addt, read(1), 63))
+    inside = atomic(jobs.right_comb(addt, read(1), 63))
     case("run a stack of 63 in a transaction", inside, "0", "register 1 -5", "0*126", says=ran(126, 0, 1, 0, "thread 0 done -315", "register 1 -5"))
     case("run a stack of 63 sent back", inside, "0*64", "register 1 -5", "0*63", says=ran(63, 0, 0, 1, "thread 0 open", "register 1 -5"))
-    comb = atomic(bench.left_comb(addt, write(7, read(7)), 32))
+    comb = atomic(jobs.left_comb(addt, write(7, read(7)), 32))
     case("run many writes of one register", comb, "0", "register 7 3", "0*200", says=None)
     case("run 62 WRITEs in each other", atomic(chain(lambda t: write(9, t), 62, valt(4))), picks="0*65", says=ran(65, 0, 1, 0, "thread 0 done 4", "register 9 4"))
 
