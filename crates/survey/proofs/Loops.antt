@@ -1,7 +1,7 @@
 -- One turn of each loop over records or over numbers. Assumes nothing.
 use Prim.Native.Nat.{ℕ, suc, _+_, _-_, _≤_, _<_}
 use mathlib.Core.Bool.{Bool, true, false, _&&_, _||_}
-use mathlib.Core.Path.{_≡_, sym, ap, _∙_}
+use mathlib.Core.Path.{_≡_, refl, sym, ap, _∙_}
 use mathlib.Core.List.{List}
 use native.Mathlib.Numerals.{add-one}
 use native.Mathlib.Omega.{arith}
@@ -36,15 +36,20 @@ module _ (used : ℕ → Bool) (ns : List ℤ) where
   free-step v h =
       ap (λ (k : ℕ). freeFrom k v used ns) (fewer 64 v h) ∙ ap (λ (i : ℕ). kept v && freeFrom (64 - (v + 1)) i used ns) (sym (add-one v))
 
-  pub free-fails : (v : ℕ) → v < 64 → freeAt v ≡ freeAt 0 → kept v ≡ false → false ≡ freeAt 0
-  free-fails v h inv k = sym (free-step v h ∙ ap (λ (b : Bool). b && freeAt (v + 1)) k) ∙ inv
+  pub free-again : (v : ℕ) (so far : Bool) → v < 64 → (so && freeAt v) ≡ freeAt 0 → far ≡ (so && kept v) → (far && freeAt (v + 1)) ≡ freeAt 0
+  free-again v so far h inv e = ap (_&& freeAt (v + 1)) e ∙ both-and so (kept v) (freeAt (v + 1)) ∙ sym (ap (so &&_) (free-step v h)) ∙ inv
+    where
+      both-and : (a b c : Bool) → ((a && b) && c) ≡ (a && (b && c))
+      both-and true b c = refl
+      both-and false b c = refl
 
-  pub free-again : (v : ℕ) → v < 64 → freeAt v ≡ freeAt 0 → kept v ≡ true → freeAt (v + 1) ≡ freeAt 0
-  free-again v h inv k = sym (free-step v h ∙ ap (λ (b : Bool). b && freeAt (v + 1)) k) ∙ inv
-
-  pub free-done : (v : ℕ) → 64 ≤ v → freeAt v ≡ freeAt 0 → true ≡ freeAt 0
+  pub free-done : (v : ℕ) (so : Bool) → 64 ≤ v → (so && freeAt v) ≡ freeAt 0 → so ≡ freeAt 0
   unfolding freeFrom
-  free-done v h inv = sym (ap (λ (k : ℕ). freeFrom k v used ns) (none-left 64 v h)) ∙ inv
+  free-done v so h inv = sym (all so) ∙ sym (ap (λ (k : ℕ). so && freeFrom k v used ns) (none-left 64 v h)) ∙ inv
+    where
+      all : (a : Bool) → (a && true) ≡ a
+      all true = refl
+      all false = refl
 
 -- ---- threads that were asked for
 module _ (starts : List ℕ) (asked : ℕ) where

@@ -77,33 +77,41 @@ fn is_kept(used: bool, n: i32) -> bool
     is_zero(n)
 }
 
-// Whether the log values that are not marked are 0.
+// Whether both hold.
+fn both(a: bool, b: bool) -> bool
+    ensures { λ r. ⌜ r ≡ (a && b) ⌝ }
+{
+    if a {
+        return b;
+    }
+    false
+}
+
+// Whether the log values that are not marked are 0. All of them are looked at, so that several are tested at once.
 fn is_log_free(set: u64, values: &[i32; 64]) -> bool
     ensures { λ r. ⌜ r ≡ free (member set) (now (values .entry)) ⌝ }
 {
+    let mut kept = true;
     let mut v: usize = 0;
     while v < 64 {
         let register = v as u8;
-        if !is_kept(word::has(set, register), values[v]) {
-            return false;
-        }
+        kept = both(kept, is_kept(word::has(set, register), values[v]));
         v += 1;
     }
-    true
+    kept
 }
 
-// Whether the numbers from a height on are 0.
+// Whether the numbers from a height on are 0. All of them are looked at, too.
 fn is_zero_from(height: usize, numbers: &[i32; 64]) -> bool
     ensures { λ r. ⌜ r ≡ zeroFrom height (now (numbers .entry)) ⌝ }
 {
+    let mut kept = true;
     let mut n: usize = 0;
     while n < 64 {
-        if !is_kept(n < height, numbers[n]) {
-            return false;
-        }
+        kept = both(kept, is_kept(n < height, numbers[n]));
         n += 1;
     }
-    true
+    kept
 }
 
 // Whether a record is of no thread: it holds 0 only.
