@@ -261,9 +261,13 @@ module _ (bytes : List ℕ) (t : Thread) where
 
   -- what is plain is taken
   pub plain-taken : (table : List ℤ) → plainIn bytes t ≡ true → performed wrapping table t (plainOp bytes t) ≡ stepped wrapping bytes table t
-  unfolding plainIn plainOp stackOnly stackEvent stepped attempted stackedOp takesOp
-  plain-taken table e = go (eqb (t .start) 0 || eqb (t .place) (t .end)) e
+  unfolding plainIn plainOp stackOnly stackEvent stepped attempted stackedOp takesOp performed
+  plain-taken table e = go (eqb (t .start) 0 || eqb (t .place) (t .end)) (joined (eqb (t .start) 0) (eqb (t .place) (t .end)) _ ∙ e)
     where
+      joined : (a b c : Bool) → ((a || b) || c) ≡ (a || (b || c))
+      joined true b c = refl
+      joined false b c = refl
+
       able : Op
       able = shownOp (opAt (drop (t .place) bytes))
 
@@ -288,8 +292,8 @@ module _ (bytes : List ℕ) (t : Thread) where
       some true q f = tried (takesOp able (t .height) (t .base) (length table) left) (taken able q)
       some false q f = never f
 
-      go : (b : Bool) → not (eqb (stackEvent (elim b [ true ↦ op.Foreign | false ↦ stackOnly bytes t able ])) 0) ≡ true → performed wrapping table t (elim b [ true ↦ op.Foreign | false ↦ stackOnly bytes t able ]) ≡ (elim b [ true ↦ handed (unacted t) table | false ↦ attempted wrapping bytes table t able ])
-      go true f = never f
+      go : (b : Bool) → (b || not (eqb (stackEvent (elim b [ true ↦ op.Foreign | false ↦ stackOnly bytes t able ])) 0)) ≡ true → performed wrapping table t (elim b [ true ↦ op.Foreign | false ↦ stackOnly bytes t able ]) ≡ (elim b [ true ↦ handed (unacted t) table | false ↦ attempted wrapping bytes table t able ])
+      go true f = refl
       go false f = some (stackedOp able (t .height) left) refl f
 
   -- what is due is Foreign, or a PUSH or an ADD that the record has what it takes for

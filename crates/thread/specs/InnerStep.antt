@@ -186,9 +186,9 @@ plainOp bytes t =
       | false ↦ stackOnly bytes t (shownOp (opAt (drop (t .place) bytes)))
     ]
 
--- whether a step is one of them
+-- whether a step is one of them, or idle because there is no such thread or it has ended
 unfoldable pub plainIn : (code : List ℕ) → Thread → Bool
-plainIn bytes t = not (eqb (stackEvent (plainOp bytes t)) 0)
+plainIn bytes t = eqb (t .start) 0 || (eqb (t .place) (t .end) || not (eqb (stackEvent (plainOp bytes t)) 0))
 
 -- by the event: what a record must have; which cells change, the height and the place after it; the low cell's value; the record; the turn
 pub record Stackable (event height place : ℕ) : Type 0 where

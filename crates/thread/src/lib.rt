@@ -592,10 +592,16 @@ impl Thread {
         op
     }
 
-    // Whether a step is a PUSH or an ADD, which changes the stack alone.
+    // Whether a step is a PUSH or an ADD, which changes the stack alone, or is idle because there is no such thread or it has ended.
     pub fn is_plain(self, code: &[u8]) -> bool
         ensures { λ r. ⌜ r ≡ plainIn (now (code .entry)) self ⌝ }
     {
+        if self.start == 0 {
+            return true;
+        }
+        if self.place == self.end {
+            return true;
+        }
         stack_event(self.plain_op(code)) != 0
     }
 
