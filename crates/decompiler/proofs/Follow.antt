@@ -7,11 +7,10 @@ use mathlib.Core.List.{List, [], _∷_, _++_, append-assoc}
 use native.Mathlib.Omega.{arith}
 use lib.ListN.{length, drop, getD, set, length-append, length-set}
 use lib.Seq.{getD-set-same, getD-set-other}
-use Rattle.decompiler.specs.declared.Pass.{Pass}
 use Rattle.decompiler.specs.InnerParts.{inserted}
 use Rattle.delivery.specs.Delivered.{onto}
 use Rattle.delivery.specs.InnerPlaces.{placedAt}
-use Rattle.decompiler.specs.InnerState.{partPushed, partsMerged, partGrown, childOpened, childShut, Room, CanMove}
+use Rattle.decompiler.specs.InnerState.{Pass, partPushed, partsMerged, partGrown, childOpened, childShut, Room, CanMove}
 use Rattle.decompiler.specs.InnerWalk.{Starts, Ends, Sorted, Setting, Follows}
 use Rattle.decompiler.proofs.Lists.{inserted-onto}
 use Rattle.delivery.proofs.Places.{onto-length, placed-onto}
@@ -125,7 +124,7 @@ module _ {code head before : List ℕ} {p : Proc} {out : List ℕ} {s : Pass} {i
           narrow = h .narrow;
         }
 
-    pub push-room : readOps fuel′ inside (x ∷ items) es (s .place + n) (drop (s .place + n) code) ≡ done p → (most : ℕ) → s .place + n ≤ most → Room s n (length bs) most (length out)
+    pub push-room : readOps fuel′ inside (x ∷ items) es (s .place + n) (drop (s .place + n) code) ≡ done p → (most : ℕ) → s .place + n ≤ most → Room (s .height) (s .place) (s .size) n (length bs) most (length out)
     unfolding jobText forksI
     push-room d most l =
         let few : length es ≤ forksI items + itemForks x = omega (arith, h .few) in
@@ -165,7 +164,7 @@ module _ {code head before : List ℕ} {p : Proc} {out : List ℕ} {s : Pass} {i
           narrow = length-set (s .ends) (s .forked) end ∙ h .narrow;
         }
 
-    pub fork-room : s .place + 3 ≤ length code → (Room s 3 1 (length code) (length out)) × (s .forked < 15) × (length code ≤ 65536)
+    pub fork-room : s .place + 3 ≤ length code → (Room (s .height) (s .place) (s .size) 3 1 (length code) (length out)) × (s .forked < 15) × (length code ≤ 65536)
     unfolding jobText
     fork-room l =
         let now = small (h .known) fuel (s .inside) items es _ _ (h .reads) (h .few) in
@@ -227,7 +226,7 @@ module _ {code head before : List ℕ} {p : Proc} {out : List ℕ} {s : Pass} {e
           narrow = h .narrow;
         }
 
-    pub merge-moves : (most : ℕ) → s .place + n ≤ most → CanMove s 2 n (length front) most (length out)
+    pub merge-moves : (most : ℕ) → s .place + n ≤ most → CanMove (s .starts) (s .height) (s .place) (s .size) 2 n (length front) most (length out)
     merge-moves most l =
         let now = small (h .known) fuel (s .inside) (x ∷ y ∷ rest) es _ _ (h .reads) (h .few) in
         let next = small (h .known) fuel′ inside (z ∷ rest) es _ _ d (omega (arith, h .few)) in
@@ -274,7 +273,7 @@ module _ {code head before : List ℕ} {p : Proc} {out : List ℕ} {s : Pass} {e
           narrow = h .narrow;
         }
 
-    pub grow-moves : (most : ℕ) → s .place + n ≤ most → CanMove s 1 n (length front) most (length out)
+    pub grow-moves : (most : ℕ) → s .place + n ≤ most → CanMove (s .starts) (s .height) (s .place) (s .size) 1 n (length front) most (length out)
     grow-moves most l =
         let now = small (h .known) fuel (s .inside) (x ∷ rest) es _ _ (h .reads) (h .few) in
         let next = small (h .known) fuel′ (s .inside) (z ∷ rest) es _ _ d (omega (arith, h .few)) in

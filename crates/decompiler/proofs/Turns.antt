@@ -8,11 +8,10 @@ use lib.IntN.{ℤ}
 use lib.ListN.{length, drop, getD, length-drop}
 use lib.Seq.{getD-drop}
 use borrow.Author.Tests.{not-false}
-use Rattle.decompiler.specs.declared.Pass.{Pass}
 use Rattle.decompiler.specs.InnerParts.{inserted, kindIn}
 use Rattle.delivery.specs.Delivered.{onto}
 use Rattle.delivery.specs.InnerPlaces.{placedAt}
-use Rattle.decompiler.specs.InnerState.{partPushed, partsMerged, partGrown, childOpened, childShut, atEnd, Room, CanMove}
+use Rattle.decompiler.specs.InnerState.{Pass, partPushed, partsMerged, partGrown, childOpened, childShut, atEnd, Room, CanMove}
 use Rattle.decompiler.specs.InnerWalk.{OutsideItems, InsideItems, Sorted, Follows, TurnTaken}
 use Rattle.decompiler.proofs.Next.{none-ends, Ending, one-ends, Merges, child-merges, child-sorted, child-forks, merges-text, Closes, child-closes, FoundOp, next-found, stays-from, sum-merges, sum-sorted, commit-merges, commit-sorted, Writes, write-writes, forks-stay}
 use Rattle.decompiler.proofs.Follow.{StackRoom, small, push-stands, push-room, fork-stands, fork-room, merge-text, merge-stands, merge-moves, grow-stands, grow-moves, shut-stands}
@@ -95,7 +94,7 @@ module _ {code head before : List ℕ} {p : Proc} {out : List ℕ} {s : Pass} {i
         let d = stays-from (s .inside) (done (valueItem (s .inside) (signed (number32 (drop (suc (s .place)) code))) ∷ items)) (f .next) (f .does) in
         reads-on (f .fuel) (s .place + 5) code es p (f .next) (s .inside) _ (d .1) (sym (same (d .0))) (f .reads)
 
-    pub push-fits : Room s 5 5 (length code) (length out)
+    pub push-fits : Room (s .height) (s .place) (s .size) 5 5 (length code) (length out)
     push-fits = push-room h _ _ push-bytes 5 (f .fuel) (s .inside) (value-sorted (s .inside) _ items (h .sorted)) push-reads (length code) push-long
 
     pub push-turn : TurnTaken code head before p (placedAt (s .size) (kindIn (s .inside) 1 ∷ getD code (s .place + 1) 0 ∷ getD code (s .place + 2) 0 ∷ getD code (s .place + 3) 0 ∷ getD code (s .place + 4) 0 ∷ []) out) s (partPushed s 5 5 (s .inside))
@@ -132,7 +131,7 @@ module _ {code head before : List ℕ} {p : Proc} {out : List ℕ} {s : Pass} {i
     add-reads = reads-on (f .fuel) (s .place + 1) code es p (f .next) (s .inside) _ (add-did .1) (add-merges .is) (f .reads)
 
     module _ (l : s .place < length code) where
-      pub add-fits : CanMove s 2 1 1 65536 (length out)
+      pub add-fits : CanMove (s .starts) (s .height) (s .place) (s .size) 2 1 1 65536 (length out)
       add-fits =
           let m = add-merges in
           merge-moves (m .upper) (m .lower) (m .whole) (m .rest) (kindIn (s .inside) 2 ∷ []) (m .bytes) add-stands 1 (f .fuel) (s .inside) add-sorted add-forks add-reads 65536 (omega (arith, h .known .short))
@@ -170,7 +169,7 @@ module _ {code head before : List ℕ} {p : Proc} {out : List ℕ} {s : Pass} {i
         let d = stays-from true (done (tran (Read (getD (drop (suc (s .place)) code) 0 0)) ∷ items)) (f .next) (read-did .1) in
         reads-on (f .fuel) (s .place + 2) code es p (f .next) true _ (d .1) (sym (same (d .0))) (f .reads)
 
-    pub read-fits : Room s 2 2 (length code) (length out)
+    pub read-fits : Room (s .height) (s .place) (s .size) 2 2 (length code) (length out)
     read-fits = push-room h _ _ read-bytes 2 (f .fuel) true read-sorted read-reads (length code) read-long
 
     pub read-turn : TurnTaken code head before p (placedAt (s .size) (7 ∷ getD code (s .place + 1) 0 ∷ []) out) s (partPushed s 2 2 true)
@@ -212,7 +211,7 @@ module _ {code head before : List ℕ} {p : Proc} {out : List ℕ} {s : Pass} {i
     unfolding decoded
     write-reads = reads-on (f .fuel) (s .place + 2) code es p (f .next) (s .inside) _ (write-done .1 ∙ sym (not-false (s .inside) (write-did .0))) (write-part .is) (f .reads)
 
-    pub write-fits : CanMove s 1 2 2 (length code) (length out)
+    pub write-fits : CanMove (s .starts) (s .height) (s .place) (s .size) 1 2 2 (length code) (length out)
     write-fits =
         let w = write-part in
         grow-moves (tran (w .part)) (tran (Write (getD (drop (suc (s .place)) code) 0 0) (w .part))) (w .rest) (8 ∷ getD code (s .place + 1) 0 ∷ []) write-bytes write-stands 2 (f .fuel) (write-sorted (s .inside) (w .part) _ (w .rest) (write-stands .sorted)) write-forks write-reads (length code) write-long
@@ -242,7 +241,7 @@ module _ {code head before : List ℕ} {p : Proc} {out : List ℕ} {s : Pass} {i
         reads-on (f .fuel) (s .place + 1) code es p (f .next) true _ (d .1) (sym (same (d .0))) (f .reads)
 
     module _ (l : s .place < length code) where
-      pub begin-fits : Room s 1 1 65536 (length out)
+      pub begin-fits : Room (s .height) (s .place) (s .size) 1 1 65536 (length out)
       begin-fits = push-room h begun (3 ∷ []) refl 1 (f .fuel) true begin-sorted begin-reads 65536 (omega (arith, h .known .short))
 
       pub begin-turn : TurnTaken code head before p (placedAt (s .size) (3 ∷ []) out) s (partPushed s 1 1 true)
@@ -285,7 +284,7 @@ module _ {code head before : List ℕ} {p : Proc} {out : List ℕ} {s : Pass} {i
     commit-text = h .text ∙ ap (λ (l : List ℕ). onto (head ++ l) before) (merges-text commit-parts ∙ ap jobText (commit-parts .is))
 
     module _ (l : s .place < length code) where
-      pub commit-fits : CanMove s 2 1 0 65536 (length out)
+      pub commit-fits : CanMove (s .starts) (s .height) (s .place) (s .size) 2 1 0 65536 (length out)
       commit-fits =
           let m = commit-parts in
           merge-moves (m .upper) (m .lower) (m .whole) (m .rest) [] (m .bytes) commit-stands 1 (f .fuel) false commit-outside commit-forks commit-reads 65536 (omega (arith, h .known .short))
@@ -319,7 +318,7 @@ module _ {code head before : List ℕ} {p : Proc} {out : List ℕ} {s : Pass} {i
         let r = reads-on (f .fuel) (s .place + 3) code ((s .place + 3 + number16 (drop (suc (s .place)) code) 0) ∷ es) p (f .next) false _ (d .1) (sym (same (d .0))) (f .reads) in
         rw (← operand-at code (s .place) 0, ← operand-at code (s .place) 1) r
 
-    pub fork-fits : (Room s 3 1 (length code) (length out)) × (s .forked < 15) × (length code ≤ 65536)
+    pub fork-fits : (Room (s .height) (s .place) (s .size) 3 1 (length code) (length out)) × (s .forked < 15) × (length code ≤ 65536)
     fork-fits = fork-room h _ _ (f .fuel) fork-sorted fork-reads fork-long
 
     pub fork-turn : TurnTaken code head before p (placedAt (s .size) (4 ∷ []) out) s (childOpened (partPushed s 3 1 false) (s .place + 3 + (getD code (s .place + 1) 0 * 256 + getD code (s .place + 2) 0)))

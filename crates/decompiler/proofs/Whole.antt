@@ -7,10 +7,9 @@ use native.Mathlib.Omega.{arith}
 use lib.Dec.{ltb}
 use lib.ListN.{length, drop, getD, length-append, drop-of-length-le}
 use borrow.Author.Tests.{ltb-false, not-false}
-use Rattle.decompiler.specs.declared.Pass.{Pass}
 use Rattle.decompiler.specs.InnerParts.{jobHeader}
 use Rattle.delivery.specs.Delivered.{onto}
-use Rattle.decompiler.specs.InnerState.{firstState}
+use Rattle.decompiler.specs.InnerState.{Pass, firstState}
 use Rattle.decompiler.specs.InnerWalk.{Walk, Restorable}
 use Rattle.delivery.proofs.Places.{onto-length, onto-onto}
 use Rattle.decompiler.proofs.Next.{text-at-end}
@@ -108,7 +107,7 @@ module _ (code : List ℕ) (nodes : ℕ) (before : List ℕ) (bytes : Bytes code
       omega (arith, code-smallP (r .job .tree), reading .few)
 
   pub inv-start : (out : List ℕ) → out ≡ onto (jobHeader code nodes) before → (s : Pass) → s ≡ firstState → PassInv code nodes out out s
-  unfolding firstState jobText forksI
+  unfolding jobText forksI
   inv-start out t s e =
       let long : length out ≡ length before = ap length t ∙ onto-length (jobHeader code nodes) before (omega (arith, header-length code nodes, room)) in
       record {

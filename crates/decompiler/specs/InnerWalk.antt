@@ -4,7 +4,7 @@ use mathlib.Core.Path.{_≡_}
 use mathlib.Core.Bool.{Bool, true, false}
 use mathlib.Core.List.{List, [], _∷_, _++_}
 use lib.ListN.{length, drop, getD}
-use Rattle.decompiler.specs.declared.Pass.{Pass}
+use Rattle.decompiler.specs.InnerState.{Pass}
 use Rattle.delivery.specs.Delivered.{onto}
 use Rattle.code.specs.Reader.{Item, proc, tran, begun, forked, readOps, readCode}
 use Rattle.code.specs.InnerParts.{jobText, forksI}

@@ -1,10 +1,13 @@
 -- `decompiler::restore` meets its contract: the loop follows `readOps`, and what is still to be read and closed falls. Assumes nothing.
 use Prim.Native.Nat.{ℕ}
 use mathlib.Core.List.{List}
+use mathlib.Core.Path.{ap}
 use native.Mathlib.Omega.{arith}
-use lib.ListN.{getD}
+use lib.ListN.{getD, replicate}
 use mir.Syntax.{w8}
 use mir.Val.{Fits}
+use Rattle.decompiler.specs.declared.Cursor.{Cursor}
+use Rattle.decompiler.specs.InnerState.{joined}
 use Rattle.decompiler.specs.InnerWalk.{weight}
 use Rattle.script.specs.Bytes.{Bytes}
 use Rattle.decompiler.proofs.Whole.{PassInv, header-fits, inv-start, inv-length, inv-end}
@@ -15,10 +18,10 @@ bytes-of : (code : List ℕ) → ((i : ℕ) → Fits w8 (getD code i 0)) → Byt
 bytes-of code h = record { small = λ i l. omega (arith, h i) }
 
 abbrev Inv-loop : tie.InvT-loop
-Inv-loop code nodes out₀ s₀ out s = PassInv code nodes out₀ out s
+Inv-loop code nodes out₀ starts₀ ends₀ s₀ out starts ends s = PassInv code nodes out₀ out (joined s starts ends)
 
 abbrev μ-loop : tie.MeasureT-loop
-μ-loop code nodes out₀ s₀ out s = weight code s
+μ-loop code nodes out₀ starts₀ ends₀ s₀ out starts ends s = weight code (joined s starts ends)
 
 put-header-requires : tie.Need-put-header-requires Inv-loop μ-loop
 put-header-requires c κs = header-fits (c .before .before .before .args .code .now) (c .before .before .before .args .nodes) (c .before .before .before .args .out .now) (bytes-of (c .before .before .before .args .code .now) (c .before .before .shared-slice-known .given)) (c .before .before .before .pre)
@@ -27,16 +30,16 @@ start-requires : tie.Need-start-requires Inv-loop μ-loop
 start-requires c κs = tt
 
 loop-holds : tie.Need-loop-holds Inv-loop μ-loop
-loop-holds c = inv-start (c .before .before .before .before .before .before .before .args .code .now) (c .before .before .before .before .before .before .before .args .nodes) (c .before .before .before .before .before .before .before .args .out .now) (bytes-of (c .before .before .before .before .before .before .before .args .code .now) (c .before .before .before .before .before .before .shared-slice-known .given)) (c .before .before .before .before .before .before .before .pre) _ (c .before .before .before .put-header .ensures) _ (c .start .ensures)
+loop-holds c = inv-start (c .before .before .before .before .before .before .before .args .code .now) (c .before .before .before .before .before .before .before .args .nodes) (c .before .before .before .before .before .before .before .args .out .now) (bytes-of (c .before .before .before .before .before .before .before .args .code .now) (c .before .before .before .before .before .before .shared-slice-known .given)) (c .before .before .before .before .before .before .before .pre) _ (c .before .before .before .put-header .ensures) _ (ap (λ (s : Cursor). joined s (replicate 64 0) (replicate 15 0)) (c .start .ensures))
 
 step-requires : tie.Need-step-requires Inv-loop μ-loop
-step-requires c κs = record { head = _; before = _; tree = _; walk = c .before .before .before .loop .inv .walk; more = c .before .if1 .taken }
+step-requires c κs = record { head = _; before = _; tree = _; walk = c .before .before .before .before .before .loop .inv .walk; more = c .before .before .before .if1 .taken }
 
 loop-less : tie.Need-loop-less Inv-loop μ-loop
-loop-less c = (c .before .before .step .ensures _ _ _ (c .before .before .before .before .before .before .loop .inv .walk)) .less
+loop-less c = (c .before .before .step .ensures _ _ _ (c .before .before .before .before .before .before .before .before .loop .inv .walk)) .less
 
 loop-again : tie.Need-loop-again Inv-loop μ-loop
-loop-again c = let i = c .before .before .before .before .before .before .loop .inv in record { job = i .job; read = i .read; count = i .count; walk = (c .before .before .step .ensures _ _ _ (c .before .before .before .before .before .before .loop .inv .walk)) .walk }
+loop-again c = let i = c .before .before .before .before .before .before .before .before .loop .inv in record { job = i .job; read = i .read; count = i .count; walk = (c .before .before .step .ensures _ _ _ (c .before .before .before .before .before .before .before .before .loop .inv .walk)) .walk }
 
 same-length : tie.Need-same-length Inv-loop μ-loop
 same-length c = inv-length (c .before .before .before .before .before .before .before .before .before .before .args .code .now) (c .before .before .before .before .before .before .before .before .before .before .args .nodes) (c .before .before .before .before .before .before .before .before .before .before .args .out .now) (bytes-of (c .before .before .before .before .before .before .before .before .before .before .args .code .now) (c .before .before .before .before .before .before .before .before .before .shared-slice-known .given)) (c .before .before .before .before .before .before .before .before .before .before .pre) _ _ _ (c .before .before .before .before .before .before .put-header .ensures) (c .before .before .loop .inv)
