@@ -6,39 +6,28 @@ use Rattle.delivery.proofs.Places.{two-stored}
 use borrow.Author.Needs.{needs}
 use Rattle.decompiler.proofs.read.Statement.{statement}
 use Rattle.decompiler.proofs.read.Tie as tie
-use Rattle.decompiler.proofs.read.Reads as reads
-use Rattle.decompiler.proofs.read.Lts as lts
-use Rattle.decompiler.proofs.Cursor.push.Reads as push-reads
 
--- src/lib.rt:224:5
 slice-write-out : tie.Need-slice-write-out
 slice-write-out c = search needs
 
--- src/lib.rt:225:26
 add-out : tie.Need-add-out
 add-out c = search needs
 
--- src/lib.rt:225:21
 shared-slice-read-out : tie.Need-shared-slice-read-out
 shared-slice-read-out c = search needs
 
--- src/lib.rt:225:9
 add-out-2 : tie.Need-add-out-2
 add-out-2 c = search needs
 
--- src/lib.rt:225:5
 slice-write-out-2 : tie.Need-slice-write-out-2
 slice-write-out-2 c = simp length-set (omega arith)
 
--- src/lib.rt:226:5
 push-requires : tie.Need-push-requires
 push-requires c κs = search needs
 
--- src/lib.rt:218:1
 same-length : tie.Need-same-length
 same-length c = search needs
 
--- src/lib.rt:218:1
 returns : tie.Need-returns
 returns c = (c .push .ensures, two-stored (c .before .before .before .before .before .args .s .size) 7 (getD (c .before .before .before .before .before .args .code .now) (c .before .before .before .before .before .args .s .place + 1) 0) (c .before .before .before .before .before .args .out .now) (omega arith))
 

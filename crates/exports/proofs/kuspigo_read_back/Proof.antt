@@ -5,24 +5,16 @@ use Rattle.exports.specs.declared.Written as numbers
 use borrow.Author.Needs.{needs}
 use Rattle.exports.proofs.kuspigo_read_back.Statement.{statement}
 use Rattle.exports.proofs.kuspigo_read_back.Tie as tie
-use Rattle.exports.proofs.kuspigo_read_back.Reads as reads
-use Rattle.exports.proofs.kuspigo_read_back.Lts as lts
-use Rattle.compiler.proofs.read_back.Reads as read-back-reads
-use Rattle.exports.proofs.numbers.Reads as numbers-reads
 
--- src/lib.rt:51:13
 read-back-requires : tie.Need-read-back-requires
 read-back-requires c κs = search needs
 
--- src/lib.rt:51:5
 numbers-requires : tie.Need-numbers-requires
 numbers-requires c κs = search needs
 
--- src/lib.rt:47:1
 same-length : tie.Need-same-length
 same-length c = search needs
 
--- src/lib.rt:47:1
 returns : tie.Need-returns
 returns c = ap written (c .before .before .before .read-back .ensures) ∙ ap {B = Returned} (λ (w : numbers.Written). record { reply = w; output = c .before .before .before .read-back .last .1 .0 }) (sym (c .numbers .ensures))
 

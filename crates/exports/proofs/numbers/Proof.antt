@@ -4,27 +4,20 @@ use Rattle.exports.specs.Written.{writing}
 use borrow.Author.Needs.{needs}
 use Rattle.exports.proofs.numbers.Statement.{statement}
 use Rattle.exports.proofs.numbers.Tie as tie
-use Rattle.exports.proofs.numbers.Reads as reads
-use Rattle.exports.proofs.numbers.Lts as lts
 
--- src/lib.rt:25:22
 enum-known-answer : tie.Need-enum-known-answer
 enum-known-answer c = search needs
 
--- src/lib.rt:30:25
 enum-known-answer-2 : tie.Need-enum-known-answer-2
 enum-known-answer-2 c = search needs
 
--- src/lib.rt:31:22
 cast-t6 : tie.Need-cast-t6
 cast-t6 c = search needs
 
--- src/lib.rt:21:1
 returns : tie.Need-returns
 unfolding writing
 returns c = sym (ap writing (c .before .answer .given .1))
 
--- src/lib.rt:21:1
 returns-2 : tie.Need-returns-2
 unfolding writing
 returns-2 c = sym (ap writing (c .before .answer2 .given .1))

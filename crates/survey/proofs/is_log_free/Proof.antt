@@ -9,11 +9,6 @@ use Rattle.survey.proofs.Loops.{freeAt, free-again, free-done}
 use Rattle.word.specs.Registers.{member}
 use Rattle.survey.proofs.is_log_free.Statement.{statement}
 use Rattle.survey.proofs.is_log_free.Tie as tie
-use Rattle.survey.proofs.is_log_free.Reads as reads
-use Rattle.survey.proofs.is_log_free.Lts as lts
-use Rattle.survey.proofs.both.Reads as both-reads
-use Rattle.survey.proofs.is_kept.Reads as is-kept-reads
-use Rattle.word.proofs.has.Reads as has-reads
 
 abbrev Inv-loop : tie.InvT-loop
 Inv-loop set values kept₀ v₀ kept v = (v ≤ 64) × ((kept && freeAt (member set) values v) ≡ freeAt (member set) values 0)
@@ -21,47 +16,36 @@ Inv-loop set values kept₀ v₀ kept v = (v ≤ 64) × ((kept && freeAt (member
 abbrev μ-loop : tie.MeasureT-loop
 μ-loop set values kept₀ v₀ kept v = 64 - v
 
--- src/lib.rt:96:5
 loop-holds : tie.Need-loop-holds Inv-loop μ-loop
 loop-holds c = (omega arith, refl)
 
--- src/lib.rt:97:24
 cast-register : tie.Need-cast-register Inv-loop μ-loop
 cast-register c = omega arith
 
--- src/lib.rt:98:35
 has-requires : tie.Need-has-requires Inv-loop μ-loop
 has-requires c κs = tt
 
--- src/lib.rt:98:61
 mul-is-kept : tie.Need-mul-is-kept Inv-loop μ-loop
 mul-is-kept c = search needs
 
--- src/lib.rt:98:61
 element-copy-out-is-kept : tie.Need-element-copy-out-is-kept Inv-loop μ-loop
 element-copy-out-is-kept c = omega arith
 
--- src/lib.rt:98:27
 is-kept-requires : tie.Need-is-kept-requires Inv-loop μ-loop
 is-kept-requires c κs = tt
 
--- src/lib.rt:98:9
 both-requires : tie.Need-both-requires Inv-loop μ-loop
 both-requires c κs = tt
 
--- src/lib.rt:99:9
 add-v : tie.Need-add-v Inv-loop μ-loop
 add-v c = omega arith
 
--- src/lib.rt:96:5
 loop-less : tie.Need-loop-less Inv-loop μ-loop
 loop-less c = omega arith
 
--- src/lib.rt:96:5
 loop-again : tie.Need-loop-again Inv-loop μ-loop
 loop-again c = (omega arith, free-again (member (c .before .before .before .before .before .before .args .set)) (c .before .before .before .before .before .before .args .values .now) (c .before .before .before .before .before .loop .v) (c .before .before .before .before .before .loop .kept) (c .both .result) (omega arith) (c .before .before .before .before .before .loop .inv .1) (c .both .ensures ∙ ap (c .before .before .before .before .before .loop .kept &&_) (rw (toZ-ofZ (sfits-of (c .before .before .is-kept-arg .given)), c .before .before .before .has .ensures) at (c .before .is-kept .ensures))))
 
--- src/lib.rt:91:1
 returns : tie.Need-returns Inv-loop μ-loop
 returns c = free-done (member (c .before .before .args .set)) (c .before .before .args .values .now) (c .before .loop .v) (c .before .loop .kept) (c .loop-test .left) (c .before .loop .inv .1)
 

@@ -10,10 +10,6 @@ use Rattle.survey.specs.InnerRecords.{zeroFrom}
 use Rattle.survey.proofs.Loops.{freeAt, free-again, free-done}
 use Rattle.survey.proofs.is_zero_from.Statement.{statement}
 use Rattle.survey.proofs.is_zero_from.Tie as tie
-use Rattle.survey.proofs.is_zero_from.Reads as reads
-use Rattle.survey.proofs.is_zero_from.Lts as lts
-use Rattle.survey.proofs.both.Reads as both-reads
-use Rattle.survey.proofs.is_kept.Reads as is-kept-reads
 
 abbrev Inv-loop : tie.InvT-loop
 Inv-loop height numbers kept₀ n₀ kept n = (n ≤ 64) × ((kept && freeAt (λ (k : ℕ). ltb k height) numbers n) ≡ freeAt (λ (k : ℕ). ltb k height) numbers 0)
@@ -21,39 +17,30 @@ Inv-loop height numbers kept₀ n₀ kept n = (n ≤ 64) × ((kept && freeAt (λ
 abbrev μ-loop : tie.MeasureT-loop
 μ-loop height numbers kept₀ n₀ kept n = 64 - n
 
--- src/lib.rt:110:5
 loop-holds : tie.Need-loop-holds Inv-loop μ-loop
 loop-holds c = (omega arith, refl)
 
--- src/lib.rt:111:47
 mul-is-kept : tie.Need-mul-is-kept Inv-loop μ-loop
 mul-is-kept c = search needs
 
--- src/lib.rt:111:47
 element-copy-out-is-kept : tie.Need-element-copy-out-is-kept Inv-loop μ-loop
 element-copy-out-is-kept c = omega arith
 
--- src/lib.rt:111:27
 is-kept-requires : tie.Need-is-kept-requires Inv-loop μ-loop
 is-kept-requires c κs = tt
 
--- src/lib.rt:111:9
 both-requires : tie.Need-both-requires Inv-loop μ-loop
 both-requires c κs = tt
 
--- src/lib.rt:112:9
 add-n : tie.Need-add-n Inv-loop μ-loop
 add-n c = omega arith
 
--- src/lib.rt:110:5
 loop-less : tie.Need-loop-less Inv-loop μ-loop
 loop-less c = omega arith
 
--- src/lib.rt:110:5
 loop-again : tie.Need-loop-again Inv-loop μ-loop
 loop-again c = (omega arith, free-again (λ (k : ℕ). ltb k (c .before .before .before .before .before .args .height)) (c .before .before .before .before .before .args .numbers .now) (c .before .before .before .before .loop .n) (c .before .before .before .before .loop .kept) (c .both .result) (omega arith) (c .before .before .before .before .loop .inv .1) (c .both .ensures ∙ ap (c .before .before .before .before .loop .kept &&_) (rw (toZ-ofZ (sfits-of (c .before .before .is-kept-arg .given))) at (c .before .is-kept .ensures))))
 
--- src/lib.rt:105:1
 returns : tie.Need-returns Inv-loop μ-loop
 unfolding zeroFrom
 returns c = free-done (λ (k : ℕ). ltb k (c .before .before .args .height)) (c .before .before .args .numbers .now) (c .before .loop .n) (c .before .loop .kept) (c .loop-test .left) (c .before .loop .inv .1)

@@ -6,10 +6,6 @@ use Rattle.thread.specs.InnerStep.{firstStaleIn}
 use Rattle.thread.proofs.Loops.{found-here, found-later, found-past, found-end}
 use Rattle.thread.proofs.first_stale.Statement.{statement}
 use Rattle.thread.proofs.first_stale.Tie as tie
-use Rattle.thread.proofs.first_stale.Reads as reads
-use Rattle.thread.proofs.first_stale.Lts as lts
-use Rattle.thread.proofs.is_stale.Reads as is-stale-reads
-use Rattle.thread.proofs.marked.Reads as marked-reads
 
 abbrev Inv-loop : tie.InvT-loop
 Inv-loop reads readlog registers v₀ v = (v ≤ 64) × (firstStaleIn (64 - v) v reads readlog registers ≡ firstStaleIn 64 0 reads readlog registers)
@@ -20,24 +16,20 @@ abbrev μ-loop : tie.MeasureT-loop
 marked-requires : tie.Need-marked-requires Inv-loop μ-loop
 marked-requires c κs = search needs
 
--- src/lib.rt:62:9
 loop-holds : tie.Need-loop-holds Inv-loop μ-loop
 loop-holds c =
     let m = c .marked .ensures in
     (m .low, sym (found-past _ _ _ 0 _ (m .far (omega arith)) (m .low) (m .past)))
 
--- src/lib.rt:66:12
 is-stale-requires : tie.Need-is-stale-requires Inv-loop μ-loop
 is-stale-requires c κs = (omega arith, c .before .before .before .pre)
 
--- src/lib.rt:69:9
 add-marked : tie.Need-add-marked Inv-loop μ-loop
 add-marked c = omega arith
 
 marked-requires-2 : tie.Need-marked-requires-2 Inv-loop μ-loop
 marked-requires-2 c κs = search needs
 
--- src/lib.rt:62:9
 loop-less : tie.Need-loop-less Inv-loop μ-loop
 loop-less c =
     let m = c .marked2 .ensures in
@@ -45,7 +37,6 @@ loop-less c =
     let g = m .low in
     omega arith
 
--- src/lib.rt:62:9
 loop-again : tie.Need-loop-again Inv-loop μ-loop
 loop-again c =
     let m = c .marked2 .ensures in
@@ -53,13 +44,11 @@ loop-again c =
     let h : l .loop .v < 64 = omega arith in
     (m .low, sym (found-past _ _ _ (l .loop .v + 1) _ (m .far (omega arith)) (m .low) (m .past)) ∙ (sym (found-later _ _ _ (l .loop .v) h (sym (c .before .before .is-stale .ensures) ∙ c .before .if2 .left)) ∙ l .loop .inv .1))
 
--- src/lib.rt:57:1
 returns : tie.Need-returns Inv-loop μ-loop
 returns c =
     let z : c .before .loop .v ≡ 64 = omega arith in
     sym (found-end _ _ _ 64) ∙ (rw z at (c .before .loop .inv .1))
 
--- src/lib.rt:57:1
 returns-2 : tie.Need-returns-2 Inv-loop μ-loop
 returns-2 c =
     let l = c .before .before .before in

@@ -4,25 +4,17 @@ use Rattle.thread.specs.InnerStep.{stackedOp}
 use borrow.Author.Needs.{needs}
 use Rattle.thread.proofs.is_stacked.Statement.{statement}
 use Rattle.thread.proofs.is_stacked.Tie as tie
-use Rattle.thread.proofs.is_stacked.Reads as reads
-use Rattle.thread.proofs.is_stacked.Lts as lts
-use Rattle.thread.proofs.stack_event.Reads as stack-event-reads
-use Rattle.thread.proofs.takes.Reads as takes-reads
 
--- src/lib.rt:229:8
 stack-event-requires : tie.Need-stack-event-requires
 stack-event-requires c κs = search needs
 
--- src/lib.rt:230:9
 returns : tie.Need-returns
 unfolding stackedOp
 returns c = rw (eq-eqb _ 0 (sym (c .before .stack-event .ensures) ∙ c .if1 .taken))
 
--- src/lib.rt:232:5
 takes-requires : tie.Need-takes-requires
 takes-requires c κs = search needs
 
--- src/lib.rt:226:1
 returns-2 : tie.Need-returns-2
 unfolding stackedOp
 returns-2 c = rw (c .takes .ensures, ne-eqb _ 0 (λ q. c .before .if1 .left (c .before .before .stack-event .ensures ∙ q)))

@@ -5,48 +5,36 @@ use Rattle.thread.proofs.Loops.{stale-less, stale-more, stale-none}
 use borrow.Author.Needs.{needs}
 use Rattle.thread.proofs.is_stale.Statement.{statement}
 use Rattle.thread.proofs.is_stale.Tie as tie
-use Rattle.thread.proofs.is_stale.Reads as reads
-use Rattle.thread.proofs.is_stale.Lts as lts
-use Rattle.word.proofs.has.Reads as has-reads
 
--- src/lib.rt:45:25
 cast-has : tie.Need-cast-has
 cast-has c = search needs
 
--- src/lib.rt:45:8
 has-requires : tie.Need-has-requires
 has-requires c κs = search needs
 
--- src/lib.rt:46:19
 mul-old : tie.Need-mul-old
 mul-old c = search needs
 
--- src/lib.rt:46:19
 element-copy-out-old : tie.Need-element-copy-out-old
 element-copy-out-old c = search needs
 
--- src/lib.rt:47:19
 mul-new : tie.Need-mul-new
 mul-new c = search needs
 
--- src/lib.rt:47:19
 shared-slice-copy-out-new : tie.Need-shared-slice-copy-out-new
 shared-slice-copy-out-new c = search needs
 
--- src/lib.rt:49:13
 returns : tie.Need-returns
 returns c =
     stale-less _ _ _ _ (sym (c .before .before .before .before .has .ensures) ∙ c .before .before .before .if1 .taken)
     (rw (toZ-ofZ (sfits-of (c .before .before .old .given)), toZ-ofZ (sfits-of (c .before .new .given))) at (c .if2 .taken))
 
--- src/lib.rt:51:9
 returns-2 : tie.Need-returns-2
 returns-2 c =
     rw (toZ-ofZ (sfits-of (c .before .new .given)), toZ-ofZ (sfits-of (c .before .before .old .given)))
     (stale-more _ _ _ _ (sym (c .before .before .before .before .has .ensures) ∙ c .before .before .before .if1 .taken)
     (rw (toZ-ofZ (sfits-of (c .before .before .old .given)), toZ-ofZ (sfits-of (c .before .new .given))) at (c .if2 .left)))
 
--- src/lib.rt:41:1
 returns-3 : tie.Need-returns-3
 returns-3 c = stale-none _ _ _ _ (sym (c .before .has .ensures) ∙ c .if1 .left)
 

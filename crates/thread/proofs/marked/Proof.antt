@@ -5,30 +5,22 @@ use borrow.Author.Needs.{needs}
 use Rattle.thread.proofs.Marks.{none-high, none-left, the-next}
 use Rattle.thread.proofs.marked.Statement.{statement}
 use Rattle.thread.proofs.marked.Tie as tie
-use Rattle.thread.proofs.marked.Reads as reads
-use Rattle.thread.proofs.marked.Lts as lts
 
--- src/lib.rt:60:9
 returns : tie.Need-returns
 returns c = none-high _ _ (c .if1 .taken)
 
--- src/lib.rt:62:16
 shr-rest : tie.Need-shr-rest
 shr-rest c = search needs
 
--- src/lib.rt:64:9
 returns-2 : tie.Need-returns-2
 returns-2 c = none-left _ _ (c .before .if1 .left) (c .if2 .taken)
 
--- src/lib.rt:66:12
 cast-result : tie.Need-cast-result
 cast-result c = omega (arith, trailing-le 64 (c .before .before .args .set / 2 ^ c .before .before .args .from))
 
--- src/lib.rt:66:5
 add-result : tie.Need-add-result
 add-result c = omega (arith, trailing-le 64 (c .before .before .args .set / 2 ^ c .before .before .args .from))
 
--- src/lib.rt:56:1
 returns-3 : tie.Need-returns-3
 returns-3 c = the-next _ _ (search needs) (c .if2 .left)
 

@@ -2,15 +2,11 @@ use borrow.Author.Tests.{eq-eqb, ne-eqb}
 use Rattle.thread.specs.InnerStep.{outsideTurn}
 use Rattle.thread.proofs.outside.Statement.{statement}
 use Rattle.thread.proofs.outside.Tie as tie
-use Rattle.thread.proofs.outside.Reads as reads
-use Rattle.thread.proofs.outside.Lts as lts
 
--- src/lib.rt:118:9
 returns : tie.Need-returns
 unfolding outsideTurn
 returns c = rw (eq-eqb _ 0 (c .if1 .taken))
 
--- src/lib.rt:114:1
 returns-2 : tie.Need-returns-2
 unfolding outsideTurn
 returns-2 c = rw (ne-eqb _ 0 (c .if1 .left))

@@ -3,10 +3,7 @@ use borrow.Author.Tests.{eq-eqb, ne-eqb}
 use Rattle.thread.specs.InnerStep.{planOf}
 use Rattle.thread.proofs.planned.Statement.{statement}
 use Rattle.thread.proofs.planned.Tie as tie
-use Rattle.thread.proofs.planned.Reads as reads
-use Rattle.thread.proofs.planned.Lts as lts
 
--- src/lib.rt:283:21
 add-t5 : tie.Need-add-t5
 add-t5 c =
     let f = c .before .pre .push (c .if1 .taken) in
@@ -14,7 +11,6 @@ add-t5 c =
     let h = f .1 in
     omega arith
 
--- src/lib.rt:284:20
 add-t6 : tie.Need-add-t6
 add-t6 c =
     let f = c .before .pre .push (c .if1 .taken) in
@@ -22,12 +18,10 @@ add-t6 c =
     let h = f .1 in
     omega arith
 
--- src/lib.rt:280:9
 returns : tie.Need-returns
 unfolding planOf
 returns c = rw (planOf, eq-eqb (c .before .args .event) 1 (c .if1 .taken))
 
--- src/lib.rt:289:18
 sub-t7 : tie.Need-sub-t7
 sub-t7 c =
     let f = c .before .before .pre .add (c .if2 .taken) in
@@ -35,7 +29,6 @@ sub-t7 c =
     let h = f .2 in
     omega arith
 
--- src/lib.rt:290:19
 sub-t8 : tie.Need-sub-t8
 sub-t8 c =
     let f = c .before .before .pre .add (c .if2 .taken) in
@@ -43,7 +36,6 @@ sub-t8 c =
     let h = f .2 in
     omega arith
 
--- src/lib.rt:291:21
 sub-t9 : tie.Need-sub-t9
 sub-t9 c =
     let f = c .before .before .pre .add (c .if2 .taken) in
@@ -51,7 +43,6 @@ sub-t9 c =
     let h = f .2 in
     omega arith
 
--- src/lib.rt:292:20
 add-t10 : tie.Need-add-t10
 add-t10 c =
     let f = c .before .before .pre .add (c .if2 .taken) in
@@ -59,12 +50,10 @@ add-t10 c =
     let h = f .2 in
     omega arith
 
--- src/lib.rt:288:9
 returns-2 : tie.Need-returns-2
 unfolding planOf
 returns-2 c = rw (planOf, ne-eqb (c .before .before .args .event) 1 (c .before .if1 .left), eq-eqb (c .before .before .args .event) 2 (c .if2 .taken))
 
--- src/lib.rt:275:1
 returns-3 : tie.Need-returns-3
 unfolding planOf
 returns-3 c = rw (planOf, ne-eqb (c .before .before .args .event) 1 (c .before .if1 .left), ne-eqb (c .before .before .args .event) 2 (c .if2 .left))

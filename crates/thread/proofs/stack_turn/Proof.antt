@@ -3,20 +3,14 @@ use Rattle.thread.specs.InnerStep.{stackTurn}
 use borrow.Author.Needs.{needs}
 use Rattle.thread.proofs.stack_turn.Statement.{statement}
 use Rattle.thread.proofs.stack_turn.Tie as tie
-use Rattle.thread.proofs.stack_turn.Reads as reads
-use Rattle.thread.proofs.stack_turn.Lts as lts
-use Rattle.thread.proofs.outside.Reads as outside-reads
 
--- src/lib.rt:262:9
 outside-requires : tie.Need-outside-requires
 outside-requires c κs = search needs
 
--- src/lib.rt:262:9
 returns : tie.Need-returns
 unfolding stackTurn
 returns c = rw (c .outside .ensures, eq-eqb (c .before .before .args .event) 2 (c .before .if1 .taken))
 
--- src/lib.rt:258:1
 returns-2 : tie.Need-returns-2
 unfolding stackTurn
 returns-2 c = rw (ne-eqb (c .before .args .event) 2 (c .if1 .left))

@@ -10,9 +10,6 @@ use Rattle.thread.proofs.Loops.{stored-marked, stored-past, stored-end}
 use Rattle.word.specs.Registers.{member}
 use Rattle.thread.proofs.store.Statement.{statement}
 use Rattle.thread.proofs.store.Tie as tie
-use Rattle.thread.proofs.store.Reads as reads
-use Rattle.thread.proofs.store.Lts as lts
-use Rattle.thread.proofs.marked.Reads as marked-reads
 
 abbrev Inv-loop : tie.InvT-loop
 Inv-loop writes writelog registers₀ v₀ registers v = (v ≤ 64) × (length registers ≡ 64) × (v < 64 → member writes v ≡ true) × (storedIn (64 - v) v writes writelog registers ≡ storedIn 64 0 writes writelog registers₀)
@@ -23,7 +20,6 @@ abbrev μ-loop : tie.MeasureT-loop
 marked-requires : tie.Need-marked-requires Inv-loop μ-loop
 marked-requires c κs = search needs
 
--- src/lib.rt:80:5
 loop-holds : tie.Need-loop-holds Inv-loop μ-loop
 loop-holds c =
     let m = c .marked .ensures in
@@ -47,7 +43,6 @@ add-marked c = omega arith
 marked-requires-2 : tie.Need-marked-requires-2 Inv-loop μ-loop
 marked-requires-2 c κs = search needs
 
--- src/lib.rt:80:5
 loop-less : tie.Need-loop-less Inv-loop μ-loop
 loop-less c =
     let m = c .marked2 .ensures in
@@ -55,7 +50,6 @@ loop-less c =
     let g = m .low in
     omega arith
 
--- src/lib.rt:80:5
 loop-again : tie.Need-loop-again Inv-loop μ-loop
 loop-again c =
     let m = c .marked2 .ensures in
@@ -68,11 +62,9 @@ loop-again c =
       rw (toZ-ofZ (sfits-of (c .before .registers .given))) (sym (stored-past _ _ _ (l .loop .v + 1) _ (m .far (omega arith)) (m .low) (m .past)) ∙ (sym (stored-marked _ _ (l .loop .v) (l .loop .registers) k (l .loop .inv .2 k)) ∙ l .loop .inv .3)),
     )
 
--- src/lib.rt:75:1
 same-length : tie.Need-same-length Inv-loop μ-loop
 same-length c = c .before .loop .inv .1 ∙ sym (c .before .before .before .pre)
 
--- src/lib.rt:75:1
 returns : tie.Need-returns Inv-loop μ-loop
 returns c =
     let z : 64 - c .before .loop .v ≡ 0 = omega arith in

@@ -3,136 +3,104 @@ use Rattle.thread.specs.InnerStep.{takesOp}
 use borrow.Author.Needs.{needs}
 use Rattle.thread.proofs.takes.Statement.{statement}
 use Rattle.thread.proofs.takes.Tie as tie
-use Rattle.thread.proofs.takes.Reads as reads
-use Rattle.thread.proofs.takes.Lts as lts
-use Rattle.thread.proofs.enough.Reads as enough-reads
 
--- src/lib.rt:153:23
 enum-known-op : tie.Need-enum-known-op
 enum-known-op c = search needs
 
--- src/lib.rt:153:30
 enough-requires : tie.Need-enough-requires
 enough-requires c κs = search needs
 
--- src/lib.rt:154:25
 enum-told : tie.Need-enum-told
 enum-told c = search needs
 
--- src/lib.rt:154:25
 enough-requires-2 : tie.Need-enough-requires-2
 enough-requires-2 c κs = search needs
 
--- src/lib.rt:155:23
 enum-known-op-2 : tie.Need-enum-known-op-2
 enum-known-op-2 c = search needs
 
--- src/lib.rt:157:17
 returns : tie.Need-returns
 unfolding takesOp
 returns c = rw (c .before .before .op2 .given .1, lt-ltb _ _ (c .if1 .taken))
 
--- src/lib.rt:160:17
 returns-2 : tie.Need-returns-2
 unfolding takesOp
 returns-2 c = rw (c .before .before .before .op2 .given .1, le-ltb 63 _ (c .before .if1 .left), ne-eqb _ 64 (c .if2 .taken))
 
--- src/lib.rt:162:13
 enough-requires-3 : tie.Need-enough-requires-3
 enough-requires-3 c κs = search needs
 
--- src/lib.rt:164:24
 enum-known-op-3 : tie.Need-enum-known-op-3
 enum-known-op-3 c = search needs
 
--- src/lib.rt:166:17
 returns-3 : tie.Need-returns-3
 unfolding takesOp
 returns-3 c = rw (c .before .before .op3 .given .1, lt-ltb _ _ (c .if3 .taken))
 
--- src/lib.rt:168:13
 enough-requires-4 : tie.Need-enough-requires-4
 enough-requires-4 c κs = search needs
 
--- src/lib.rt:170:27
 enum-told-2 : tie.Need-enum-told-2
 enum-told-2 c = search needs
 
--- src/lib.rt:170:27
 enough-requires-5 : tie.Need-enough-requires-5
 enough-requires-5 c κs = search needs
 
--- src/lib.rt:172:16
 enum-told-3 : tie.Need-enum-told-3
 enum-told-3 c = search needs
 
--- src/lib.rt:173:17
 returns-4 : tie.Need-returns-4
 unfolding takesOp
 returns-4 c = rw (c .before .enum-told3 .given .1, lt-ltb _ _ (c .if4 .taken))
 
--- src/lib.rt:176:17
 returns-5 : tie.Need-returns-5
 unfolding takesOp
 returns-5 c = rw (c .before .before .enum-told3 .given .1, le-ltb 64 _ (c .before .if4 .left), ne-eqb _ 64 (c .if5 .taken))
 
--- src/lib.rt:178:13
 enough-requires-6 : tie.Need-enough-requires-6
 enough-requires-6 c κs = search needs
 
--- src/lib.rt:180:23
 enum-known-op-4 : tie.Need-enum-known-op-4
 enum-known-op-4 c = search needs
 
--- src/lib.rt:182:17
 returns-6 : tie.Need-returns-6
 unfolding takesOp
 returns-6 c = rw (c .before .before .op4 .given .1, lt-ltb _ _ (c .if6 .taken))
 
--- src/lib.rt:184:13
 enough-requires-7 : tie.Need-enough-requires-7
 enough-requires-7 c κs = search needs
 
--- src/lib.rt:186:29
 enum-told-4 : tie.Need-enum-told-4
 enum-told-4 c = search needs
 
--- src/lib.rt:149:1
 returns-7 : tie.Need-returns-7
 unfolding takesOp
 returns-7 c = rw (c .enough .ensures, c .before .before .op .given .1)
 
--- src/lib.rt:149:1
 returns-8 : tie.Need-returns-8
 unfolding takesOp
 returns-8 c = rw (c .enough2 .ensures, c .before .enum-told .given .1)
 
--- src/lib.rt:149:1
 returns-9 : tie.Need-returns-9
 unfolding takesOp
 returns-9 c = rw (c .enough3 .ensures, c .before .before .before .before .op2 .given .1, le-ltb 63 _ (c .before .before .if1 .left), eq-eqb _ 64 (c .before .if2 .left))
 
--- src/lib.rt:149:1
 returns-10 : tie.Need-returns-10
 unfolding takesOp
 returns-10 c = rw (c .enough4 .ensures, c .before .before .before .op3 .given .1, le-ltb 63 _ (c .before .if3 .left))
 
--- src/lib.rt:149:1
 returns-11 : tie.Need-returns-11
 unfolding takesOp
 returns-11 c = rw (c .enough5 .ensures, c .before .enum-told2 .given .1)
 
--- src/lib.rt:149:1
 returns-12 : tie.Need-returns-12
 unfolding takesOp
 returns-12 c = rw (c .enough6 .ensures, c .before .before .before .enum-told3 .given .1, le-ltb 64 _ (c .before .before .if4 .left), eq-eqb _ 64 (c .before .if5 .left))
 
--- src/lib.rt:149:1
 returns-13 : tie.Need-returns-13
 unfolding takesOp
 returns-13 c = rw (c .enough7 .ensures, c .before .before .before .op4 .given .1, le-ltb _ 3 (c .before .if6 .left))
 
--- src/lib.rt:149:1
 returns-14 : tie.Need-returns-14
 unfolding takesOp
 returns-14 c = rw (c .enum-told4 .given .1)

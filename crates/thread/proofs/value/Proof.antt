@@ -5,25 +5,18 @@ use Rattle.thread.specs.InnerStep.{valueOf}
 use borrow.Author.Needs.{needs}
 use Rattle.thread.proofs.value.Statement.{statement}
 use Rattle.thread.proofs.value.Tie as tie
-use Rattle.thread.proofs.value.Reads as reads
-use Rattle.thread.proofs.value.Lts as lts
-use Rattle.word.proofs.add.Reads as add-reads
 
--- src/lib.rt:308:9
 returns : tie.Need-returns
 unfolding valueOf
 returns c = rw (toZ-ofZ (c .before .fits .n), eq-eqb (c .before .args .event) 1 (c .if1 .taken))
 
--- src/lib.rt:311:9
 add-requires : tie.Need-add-requires
 add-requires c κs = search needs
 
--- src/lib.rt:311:9
 returns-2 : tie.Need-returns-2
 unfolding valueOf
 returns-2 c = rw (toZ-ofZ (sfits-of (c .add .ok)), c .add .ensures, toZ-ofZ (c .before .before .before .fits .a), toZ-ofZ (c .before .before .before .fits .b), ne-eqb (c .before .before .before .args .event) 1 (c .before .before .if1 .left), eq-eqb (c .before .before .before .args .event) 2 (c .before .if2 .taken))
 
--- src/lib.rt:304:1
 returns-3 : tie.Need-returns-3
 unfolding valueOf
 returns-3 c = rw (toZ-ofZ (c .before .before .fits .a), ne-eqb (c .before .before .args .event) 1 (c .before .if1 .left), ne-eqb (c .before .before .args .event) 2 (c .if2 .left))

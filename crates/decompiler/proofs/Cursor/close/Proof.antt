@@ -4,18 +4,13 @@ use Rattle.decompiler.specs.InnerState.{childShut}
 use borrow.Author.Needs.{needs}
 use Rattle.decompiler.proofs.Cursor.close.Statement.{statement}
 use Rattle.decompiler.proofs.Cursor.close.Tie as tie
-use Rattle.decompiler.proofs.Cursor.close.Reads as reads
-use Rattle.decompiler.proofs.Cursor.close.Lts as lts
 
--- src/lib.rt:167:21
 sub-t2 : tie.Need-sub-t2
 sub-t2 c = search needs
 
--- src/lib.rt:168:21
 sub-t3 : tie.Need-sub-t3
 sub-t3 c = search needs
 
--- src/lib.rt:162:5
 returns : tie.Need-returns
 unfolding childShut
 returns c = λ starts ends. refl

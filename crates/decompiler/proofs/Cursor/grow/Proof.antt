@@ -4,18 +4,13 @@ use Rattle.decompiler.specs.InnerState.{partGrown}
 use borrow.Author.Needs.{needs}
 use Rattle.decompiler.proofs.Cursor.grow.Statement.{statement}
 use Rattle.decompiler.proofs.Cursor.grow.Tie as tie
-use Rattle.decompiler.proofs.Cursor.grow.Reads as reads
-use Rattle.decompiler.proofs.Cursor.grow.Lts as lts
 
--- src/lib.rt:140:20
 add-t4 : tie.Need-add-t4
 add-t4 c = search needs
 
--- src/lib.rt:141:19
 add-t5 : tie.Need-add-t5
 add-t5 c = search needs
 
--- src/lib.rt:132:5
 returns : tie.Need-returns
 unfolding partGrown
 returns c = λ starts ends. refl

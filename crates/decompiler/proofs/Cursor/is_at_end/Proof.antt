@@ -5,27 +5,20 @@ use Rattle.decompiler.specs.InnerState.{atEnd}
 use borrow.Author.Needs.{needs}
 use Rattle.decompiler.proofs.Cursor.is_at_end.Statement.{statement}
 use Rattle.decompiler.proofs.Cursor.is_at_end.Tie as tie
-use Rattle.decompiler.proofs.Cursor.is_at_end.Reads as reads
-use Rattle.decompiler.proofs.Cursor.is_at_end.Lts as lts
 
--- src/lib.rt:182:13
 returns : tie.Need-returns
 unfolding atEnd
 returns c = λ starts. rw (le-ltb 0 (c .before .args .self .forked) (omega arith))
 
--- src/lib.rt:184:17
 sub-i : tie.Need-sub-i
 sub-i c = search needs
 
--- src/lib.rt:185:19
 mul-end : tie.Need-mul-end
 mul-end c = search needs
 
--- src/lib.rt:185:19
 element-copy-out-end : tie.Need-element-copy-out-end
 element-copy-out-end c = search needs
 
--- src/lib.rt:176:5
 returns-2 : tie.Need-returns-2
 unfolding atEnd
 returns-2 c = λ starts. rw (lt-ltb 0 (c .before .before .before .args .self .forked) (omega arith))

@@ -4,22 +4,16 @@ use Rattle.decompiler.specs.InnerState.{partsMerged}
 use borrow.Author.Needs.{needs}
 use Rattle.decompiler.proofs.Cursor.merge.Statement.{statement}
 use Rattle.decompiler.proofs.Cursor.merge.Tie as tie
-use Rattle.decompiler.proofs.Cursor.merge.Reads as reads
-use Rattle.decompiler.proofs.Cursor.merge.Lts as lts
 
--- src/lib.rt:123:21
 sub-t5 : tie.Need-sub-t5
 sub-t5 c = search needs
 
--- src/lib.rt:126:20
 add-t6 : tie.Need-add-t6
 add-t6 c = search needs
 
--- src/lib.rt:127:19
 add-t7 : tie.Need-add-t7
 add-t7 c = search needs
 
--- src/lib.rt:118:5
 returns : tie.Need-returns
 unfolding partsMerged
 returns c = λ starts ends. refl

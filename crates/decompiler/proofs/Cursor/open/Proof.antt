@@ -4,22 +4,16 @@ use Rattle.decompiler.specs.InnerState.{childOpened}
 use borrow.Author.Needs.{needs}
 use Rattle.decompiler.proofs.Cursor.open.Statement.{statement}
 use Rattle.decompiler.proofs.Cursor.open.Tie as tie
-use Rattle.decompiler.proofs.Cursor.open.Reads as reads
-use Rattle.decompiler.proofs.Cursor.open.Lts as lts
 
--- src/lib.rt:151:9
 mul-ends : tie.Need-mul-ends
 mul-ends c = search needs
 
--- src/lib.rt:151:9
 element-write-ends : tie.Need-element-write-ends
 element-write-ends c = search needs
 
--- src/lib.rt:154:21
 add-t5 : tie.Need-add-t5
 add-t5 c = search needs
 
--- src/lib.rt:146:5
 returns : tie.Need-returns
 unfolding childOpened
 returns c = λ starts. refl

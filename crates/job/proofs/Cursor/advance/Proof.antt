@@ -5,77 +5,55 @@ use Rattle.job.proofs.Advance.{is-addp, is-atomic, is-fork, is-addt, is
 use borrow.Author.Needs.{needs}
 use Rattle.job.proofs.Cursor.advance.Statement.{statement}
 use Rattle.job.proofs.Cursor.advance.Tie as tie
-use Rattle.job.proofs.Cursor.advance.Reads as reads
-use Rattle.job.proofs.Cursor.advance.Lts as lts
-use Rattle.job.proofs.Cursor.leaf.Reads as leaf-reads
-use Rattle.job.proofs.Cursor.one.Reads as one-reads
-use Rattle.job.proofs.Cursor.two.Reads as two-reads
 
--- src/lib.rt:161:18
 two-requires : tie.Need-two-requires
 two-requires c κs = search needs
 
--- src/lib.rt:162:32
 add-one : tie.Need-add-one
 add-one c = search needs
 
--- src/lib.rt:162:18
 one-requires : tie.Need-one-requires
 one-requires c κs = search needs
 
--- src/lib.rt:163:18
 one-requires-2 : tie.Need-one-requires-2
 one-requires-2 c κs = search needs
 
--- src/lib.rt:164:32
 add-two : tie.Need-add-two
 add-two c = search needs
 
--- src/lib.rt:164:18
 two-requires-2 : tie.Need-two-requires-2
 two-requires-2 c κs = search needs
 
--- src/lib.rt:165:18
 leaf-requires : tie.Need-leaf-requires
 leaf-requires c κs = read-ready (c .before .pre) (operand-read _ (c .match .keys5))
 
--- src/lib.rt:166:32
 add-one-2 : tie.Need-add-one-2
 add-one-2 c = search needs
 
--- src/lib.rt:166:18
 one-requires-3 : tie.Need-one-requires-3
 one-requires-3 c κs = (read-ready (c .before .before .pre) (operand-write _ (c .before .match .keys6)), omega arith)
 
--- src/lib.rt:167:18
 leaf-requires-2 : tie.Need-leaf-requires-2
 leaf-requires-2 c κs = let n = c .match .rest in value-ready (c .before .pre) (operand-value _ (c .before .pre .known) (n .0 .0 .0 .0 .0 .1) (n .0 .0 .0 .0 .1) (n .0 .0 .0 .1) (n .0 .0 .1) (n .0 .1) (n .1))
 
--- src/lib.rt:156:5
 returns : tie.Need-returns
 returns c = c .two .ensures ∙ is-addp _ _ _ (c .before .before .match .keys1)
 
--- src/lib.rt:156:5
 returns-2 : tie.Need-returns-2
 returns-2 c = c .one .ensures ∙ is-atomic _ _ _ (c .before .before .match .keys2)
 
--- src/lib.rt:156:5
 returns-3 : tie.Need-returns-3
 returns-3 c = c .one2 .ensures ∙ is-fork _ _ _ (c .before .before .match .keys3)
 
--- src/lib.rt:156:5
 returns-4 : tie.Need-returns-4
 returns-4 c = c .two2 .ensures ∙ is-addt _ _ _ (c .before .before .match .keys4)
 
--- src/lib.rt:156:5
 returns-5 : tie.Need-returns-5
 returns-5 c = c .leaf .ensures _ ∙ is-read _ _ _ (c .before .match .keys5)
 
--- src/lib.rt:156:5
 returns-6 : tie.Need-returns-6
 returns-6 c = c .one3 .ensures ∙ is-write _ _ _ (c .before .before .match .keys6)
 
--- src/lib.rt:156:5
 returns-7 : tie.Need-returns-7
 returns-7 c = let n = c .before .match .rest in c .leaf2 .ensures _ ∙ is-value _ _ _ (n .0 .0 .0 .0 .0 .1) (n .0 .0 .0 .0 .1) (n .0 .0 .0 .1) (n .0 .0 .1) (n .0 .1) (n .1)
 

@@ -7,188 +7,137 @@ use Rattle.thread.proofs.Attempts.{push-due, add-due, read-due, write-d
 use borrow.Author.Needs.{needs}
 use Rattle.thread.proofs.Thread.act.Statement.{statement}
 use Rattle.thread.proofs.Thread.act.Tie as tie
-use Rattle.thread.proofs.Thread.act.Reads as reads
-use Rattle.thread.proofs.Thread.act.Lts as lts
-use Rattle.thread.proofs.Thread.add.Reads as add-reads
-use Rattle.thread.proofs.Thread.begin.Reads as begin-reads
-use Rattle.thread.proofs.Thread.commit.Reads as commit-reads
-use Rattle.thread.proofs.Thread.idle.Reads as idle-reads
-use Rattle.thread.proofs.Thread.push.Reads as push-reads
-use Rattle.thread.proofs.Thread.read.Reads as read-reads
-use Rattle.thread.proofs.Thread.write.Reads as write-reads
-use Rattle.thread.proofs.did.Reads as did-reads
-use Rattle.thread.proofs.outside.Reads as outside-reads
-use Rattle.thread.proofs.source.Reads as source-reads
 
--- src/lib.rt:428:27
 enum-known-op : tie.Need-enum-known-op
 enum-known-op c = search needs
 
--- src/lib.rt:429:38
 add-push : tie.Need-add-push
 add-push c =
     let f = push-due _ _ _ (c .before .before .before .pre) _ (c .before .op .given .1) in
     let g = f .1 in
     omega arith
 
--- src/lib.rt:429:21
 push-requires : tie.Need-push-requires
 push-requires c κs = push-due _ _ _ (c .before .before .before .pre) _ (c .before .op .given .1) .0
 
--- src/lib.rt:430:17
 did-requires : tie.Need-did-requires
 did-requires c κs = search needs
 
--- src/lib.rt:433:21
 enum-told : tie.Need-enum-told
 enum-told c = search needs
 
--- src/lib.rt:433:21
 outside-requires : tie.Need-outside-requires
 outside-requires c κs = search needs
 
--- src/lib.rt:434:21
 add-requires : tie.Need-add-requires
 add-requires c κs = add-due _ _ _ (c .before .before .before .pre) (c .before .enum-told .given .1)
 
--- src/lib.rt:435:17
 did-requires-2 : tie.Need-did-requires-2
 did-requires-2 c κs = search needs
 
--- src/lib.rt:437:27
 enum-known-op-2 : tie.Need-enum-known-op-2
 enum-known-op-2 c = search needs
 
--- src/lib.rt:438:21
 source-requires : tie.Need-source-requires
 source-requires c κs = search needs
 
--- src/lib.rt:439:21
 read-requires : tie.Need-read-requires
 read-requires c κs = read-due _ _ _ (c .before .before .before .before .before .pre) _ (c .before .before .before .op2 .given .1)
 
--- src/lib.rt:440:17
 did-requires-3 : tie.Need-did-requires-3
 did-requires-3 c κs = search needs
 
--- src/lib.rt:442:28
 enum-known-op-3 : tie.Need-enum-known-op-3
 enum-known-op-3 c = search needs
 
--- src/lib.rt:443:21
 write-requires : tie.Need-write-requires
 write-requires c κs = write-due _ _ _ (c .before .before .before .pre) _ (c .before .op3 .given .1)
 
--- src/lib.rt:444:17
 did-requires-4 : tie.Need-did-requires-4
 did-requires-4 c κs = search needs
 
--- src/lib.rt:447:21
 enum-told-2 : tie.Need-enum-told-2
 enum-told-2 c = search needs
 
--- src/lib.rt:447:21
 begin-requires : tie.Need-begin-requires
 begin-requires c κs = begin-due _ _ _ (c .before .before .pre) (c .enum-told2 .given .1)
 
--- src/lib.rt:448:17
 did-requires-5 : tie.Need-did-requires-5
 did-requires-5 c κs = search needs
 
--- src/lib.rt:450:44
 enum-told-3 : tie.Need-enum-told-3
 enum-told-3 c = search needs
 
--- src/lib.rt:450:32
 commit-requires : tie.Need-commit-requires
 commit-requires c κs = commit-due _ _ _ (c .before .before .before .pre) (c .before .enum-told3 .given .1)
 
--- src/lib.rt:451:27
 enum-known-op-4 : tie.Need-enum-known-op-4
 enum-known-op-4 c = search needs
 
--- src/lib.rt:452:38
 add-push-2 : tie.Need-add-push-2
 add-push-2 c =
     let f = fork-due _ _ _ (c .before .before .before .pre) _ (c .before .op4 .given .1) in
     let g = f .1 in
     omega arith
 
--- src/lib.rt:452:38
 add-push-3 : tie.Need-add-push-3
 add-push-3 c =
     let f = fork-due _ _ _ (c .before .before .before .pre) _ (c .before .op4 .given .1) in
     let g = f .1 in
     omega arith
 
--- src/lib.rt:452:21
 push-requires-2 : tie.Need-push-requires-2
 push-requires-2 c κs = fork-due _ _ _ (c .before .before .before .pre) _ (c .before .op4 .given .1) .0
 
--- src/lib.rt:458:28
 add-t23 : tie.Need-add-t23
 add-t23 c = add-push-2 (c .before)
 
--- src/lib.rt:459:26
 add-t24 : tie.Need-add-t24
 add-t24 c = add-push-2 (c .before)
 
--- src/lib.rt:459:26
 add-t25 : tie.Need-add-t25
 add-t25 c = add-push-3 (c .before)
 
--- src/lib.rt:462:33
 enum-told-4 : tie.Need-enum-told-4
 enum-told-4 c = search needs
 
--- src/lib.rt:462:33
 idle-requires : tie.Need-idle-requires
 idle-requires c κs = search needs
 
--- src/lib.rt:422:5
 returns : tie.Need-returns
 unfolding performed
 returns c = rw (c .did .ensures, c .before .push .ensures, toZ-ofZ (sfits-of (c .before .before .known-told .given .0 .1)), c .before .before .before .op .given .1)
 
--- src/lib.rt:422:5
 returns-2 : tie.Need-returns-2
 unfolding performed
 returns-2 c = rw (c .did2 .ensures, c .before .add .ensures, c .before .before .outside .ensures, c .before .before .before .enum-told .given .1)
 
--- src/lib.rt:422:5
 same-length : tie.Need-same-length
 same-length c = search needs
 
--- src/lib.rt:422:5
 returns-3 : tie.Need-returns-3
 unfolding performed
 returns-3 c = rw (c .did3 .ensures, c .before .read .ensures, c .before .before .before .source .ensures, c .before .before .before .before .before .op2 .given .1)
 
--- src/lib.rt:422:5
 returns-4 : tie.Need-returns-4
 unfolding performed
 returns-4 c = rw (c .did4 .ensures, c .before .write .ensures, c .before .before .before .op3 .given .1)
 
--- src/lib.rt:422:5
 returns-5 : tie.Need-returns-5
 unfolding performed
 returns-5 c = rw (c .did5 .ensures, c .before .begin .ensures, c .before .before .enum-told2 .given .1)
 
--- src/lib.rt:422:5
 same-length-2 : tie.Need-same-length-2
 same-length-2 c = search needs
 
--- src/lib.rt:422:5
 returns-6 : tie.Need-returns-6
 unfolding performed
 returns-6 c = c .before .commit .ensures ∙ rw (c .before .before .before .enum-told3 .given .1)
 
--- src/lib.rt:422:5
 returns-7 : tie.Need-returns-7
 unfolding performed
 returns-7 c = rw (c .push2 .ensures, c .before .before .op4 .given .1)
 
--- src/lib.rt:422:5
 returns-8 : tie.Need-returns-8
 unfolding performed
 returns-8 c = rw (c .idle .ensures, c .before .enum-told4 .given .1)

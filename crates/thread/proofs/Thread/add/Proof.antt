@@ -4,71 +4,52 @@ use Rattle.thread.specs.Threads.{add}
 use borrow.Author.Needs.{needs}
 use Rattle.thread.proofs.Thread.add.Statement.{statement}
 use Rattle.thread.proofs.Thread.add.Tie as tie
-use Rattle.thread.proofs.Thread.add.Reads as reads
-use Rattle.thread.proofs.Thread.add.Lts as lts
-use Rattle.word.proofs.add.Reads as add-reads
 
--- src/lib.rt:258:23
 sub-a : tie.Need-sub-a
 sub-a c = search needs
 
--- src/lib.rt:258:17
 mul-a : tie.Need-mul-a
 mul-a c = search needs
 
--- src/lib.rt:258:17
 array-copy-out-a : tie.Need-array-copy-out-a
 array-copy-out-a c = search needs
 
--- src/lib.rt:259:23
 sub-b : tie.Need-sub-b
 sub-b c = search needs
 
--- src/lib.rt:259:17
 mul-b : tie.Need-mul-b
 mul-b c = search needs
 
--- src/lib.rt:259:17
 array-copy-out-b : tie.Need-array-copy-out-b
 array-copy-out-b c = search needs
 
--- src/lib.rt:260:29
 add-requires : tie.Need-add-requires
 add-requires c κs = search needs
 
--- src/lib.rt:260:15
 sub-cells : tie.Need-sub-cells
 sub-cells c = search needs
 
--- src/lib.rt:260:9
 mul-cells : tie.Need-mul-cells
 mul-cells c = search needs
 
--- src/lib.rt:260:9
 array-set-from-cells : tie.Need-array-set-from-cells
 array-set-from-cells c = search needs
 
--- src/lib.rt:261:15
 sub-cells-2 : tie.Need-sub-cells-2
 sub-cells-2 c = search needs
 
--- src/lib.rt:261:9
 mul-cells-2 : tie.Need-mul-cells-2
 mul-cells-2 c = search needs
 
--- src/lib.rt:261:9
 array-set-of-cells : tie.Need-array-set-of-cells
 array-set-of-cells c = search needs
 
--- src/lib.rt:263:23
 sub-self : tie.Need-sub-self
 sub-self c = search needs
 
--- src/lib.rt:264:22
 add-self : tie.Need-add-self
 add-self c = search needs
 
--- src/lib.rt:251:5
 returns : tie.Need-returns
 unfolding add
 returns c = rw (toZ-ofZ (sfits-of (c .add .ok)), c .add .ensures, toZ-ofZ (sfits-of (c .before .before .a .given)), toZ-ofZ (sfits-of (c .before .b .given)))

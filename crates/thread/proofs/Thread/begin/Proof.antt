@@ -2,23 +2,16 @@ use Rattle.thread.specs.Threads.{begin}
 use borrow.Author.Needs.{needs}
 use Rattle.thread.proofs.Thread.begin.Statement.{statement}
 use Rattle.thread.proofs.Thread.begin.Tie as tie
-use Rattle.thread.proofs.Thread.begin.Reads as reads
-use Rattle.thread.proofs.Thread.begin.Lts as lts
-use Rattle.word.proofs.empty.Reads as empty-reads
 
--- src/lib.rt:175:9
 empty-requires : tie.Need-empty-requires
 empty-requires c κs = search needs
 
--- src/lib.rt:177:9
 empty-requires-2 : tie.Need-empty-requires-2
 empty-requires-2 c κs = search needs
 
--- src/lib.rt:179:22
 add-self : tie.Need-add-self
 add-self c = search needs
 
--- src/lib.rt:167:5
 returns : tie.Need-returns
 unfolding begin
 returns c = rw (c .before .before .before .empty .ensures, c .before .empty2 .ensures)

@@ -5,30 +5,21 @@ use Rattle.thread.specs.InnerStep.{plainIn}
 use borrow.Author.Needs.{needs}
 use Rattle.thread.proofs.Thread.is_plain.Statement.{statement}
 use Rattle.thread.proofs.Thread.is_plain.Tie as tie
-use Rattle.thread.proofs.Thread.is_plain.Reads as reads
-use Rattle.thread.proofs.Thread.is_plain.Lts as lts
-use Rattle.thread.proofs.Thread.plain_op.Reads as plain-op-reads
-use Rattle.thread.proofs.stack_event.Reads as stack-event-reads
 
--- src/lib.rt:600:13
 returns : tie.Need-returns
 unfolding plainIn
 returns c = rw (eq-eqb _ 0 (c .if1 .taken)) refl
 
--- src/lib.rt:603:13
 returns-2 : tie.Need-returns-2
 unfolding plainIn
 returns-2 c = rw (ne-eqb _ 0 (c .before .before .if1 .left), eq-eqb _ _ (c .if2 .taken)) refl
 
--- src/lib.rt:605:21
 plain-op-requires : tie.Need-plain-op-requires
 plain-op-requires c κs = search needs
 
--- src/lib.rt:605:9
 stack-event-requires : tie.Need-stack-event-requires
 stack-event-requires c κs = search needs
 
--- src/lib.rt:596:5
 returns-3 : tie.Need-returns-3
 unfolding plainIn
 returns-3 c = rw (ne-eqb _ 0 (c .before .before .before .before .if1 .left), ne-eqb _ _ (c .before .before .if2 .left), c .stack-event .ensures, c .before .plain-op .ensures) refl

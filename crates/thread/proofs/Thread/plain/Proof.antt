@@ -6,43 +6,28 @@ use Rattle.thread.proofs.Attempts.{plain-able, plain-acts}
 use borrow.Author.Needs.{needs}
 use Rattle.thread.proofs.Thread.plain.Statement.{statement}
 use Rattle.thread.proofs.Thread.plain.Tie as tie
-use Rattle.thread.proofs.Thread.plain.Reads as reads
-use Rattle.thread.proofs.Thread.plain.Lts as lts
-use Rattle.thread.proofs.Thread.plain_op.Reads as plain-op-reads
-use Rattle.thread.proofs.Thread.stacked.Reads as stacked-reads
-use Rattle.thread.proofs.did.Reads as did-reads
-use Rattle.thread.proofs.number.Reads as number-reads
-use Rattle.thread.proofs.stack_event.Reads as stack-event-reads
-use Rattle.thread.proofs.stack_turn.Reads as stack-turn-reads
 
--- src/lib.rt:642:13
 plain-op-requires : tie.Need-plain-op-requires
 plain-op-requires c κs = search needs
 
--- src/lib.rt:643:13
 stack-event-requires : tie.Need-stack-event-requires
 stack-event-requires c κs = search needs
 
--- src/lib.rt:644:13
 number-requires : tie.Need-number-requires
 number-requires c κs = search needs
 
--- src/lib.rt:645:13
 stack-turn-requires : tie.Need-stack-turn-requires
 stack-turn-requires c κs = search needs
 
--- src/lib.rt:646:13
 stacked-requires : tie.Need-stacked-requires
 stacked-requires c κs =
     let e = c .before .before .before in
     let k = e .before .shared-slice-known .given in
     rw (c .before .before .stack-event .ensures, e .plain-op .ensures) (plain-able (e .before .before .args .code .now) (e .before .before .args .self) (omega arith))
 
--- src/lib.rt:647:9
 did-requires : tie.Need-did-requires
 did-requires c κs = search needs
 
--- src/lib.rt:639:5
 returns : tie.Need-returns
 returns c =
     let e = c .before .before .before .before .before in

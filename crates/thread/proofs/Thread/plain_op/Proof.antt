@@ -6,39 +6,27 @@ use Rattle.thread.proofs.Attempts.{op-no-thread, op-at-end, op-other, o
 use borrow.Author.Needs.{needs}
 use Rattle.thread.proofs.Thread.plain_op.Statement.{statement}
 use Rattle.thread.proofs.Thread.plain_op.Tie as tie
-use Rattle.thread.proofs.Thread.plain_op.Reads as reads
-use Rattle.thread.proofs.Thread.plain_op.Lts as lts
-use Rattle.ops.proofs.op_at.Reads as op-at-reads
-use Rattle.thread.proofs.behind.Reads as behind-reads
-use Rattle.thread.proofs.is_stacked.Reads as is-stacked-reads
 
--- src/lib.rt:607:13
 returns : tie.Need-returns
 returns c = op-no-thread _ _ (c .if1 .taken)
 
--- src/lib.rt:610:13
 returns-2 : tie.Need-returns-2
 returns-2 c = op-at-end _ _ (c .before .before .if1 .left) (c .if2 .taken)
 
--- src/lib.rt:612:13
 op-at-requires : tie.Need-op-at-requires
 op-at-requires c κs = search needs
 
--- src/lib.rt:613:41
 behind-requires : tie.Need-behind-requires
 behind-requires c κs = search needs
 
--- src/lib.rt:613:13
 is-stacked-requires : tie.Need-is-stacked-requires
 is-stacked-requires c κs = search needs
 
--- src/lib.rt:614:13
 returns-3 : tie.Need-returns-3
 returns-3 c =
     let e = c .before in
     op-other _ _ (e .before .before .before .before .before .if1 .left) (e .before .before .before .if2 .left) _ (e .before .before .op-at .ensures) (ap (stackedOp (e .before .before .op-at .result) _) (sym (e .before .behind .ensures)) ∙ (sym (e .is-stacked .ensures) ∙ not-true _ (c .if3 .taken)))
 
--- src/lib.rt:602:5
 returns-4 : tie.Need-returns-4
 returns-4 c =
     let e = c .before in

@@ -4,22 +4,16 @@ use Rattle.thread.specs.Threads.{push}
 use borrow.Author.Needs.{needs}
 use Rattle.thread.proofs.Thread.push.Statement.{statement}
 use Rattle.thread.proofs.Thread.push.Tie as tie
-use Rattle.thread.proofs.Thread.push.Reads as reads
-use Rattle.thread.proofs.Thread.push.Lts as lts
 
--- src/lib.rt:243:9
 mul-cells : tie.Need-mul-cells
 mul-cells c = search needs
 
--- src/lib.rt:243:9
 array-set-from-cells : tie.Need-array-set-from-cells
 array-set-from-cells c = search needs
 
--- src/lib.rt:245:23
 add-self : tie.Need-add-self
 add-self c = search needs
 
--- src/lib.rt:237:5
 returns : tie.Need-returns
 unfolding push
 returns c = rw (toZ-ofZ (c .before .fits .n), add-one)

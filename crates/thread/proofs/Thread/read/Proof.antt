@@ -4,74 +4,54 @@ use Rattle.thread.specs.Threads.{sourceOf, read}
 use borrow.Author.Needs.{needs}
 use Rattle.thread.proofs.Thread.read.Statement.{statement}
 use Rattle.thread.proofs.Thread.read.Tie as tie
-use Rattle.thread.proofs.Thread.read.Reads as reads
-use Rattle.thread.proofs.Thread.read.Lts as lts
-use Rattle.thread.proofs.Thread.log.Reads as log-reads
-use Rattle.thread.proofs.Thread.push.Reads as push-reads
-use Rattle.word.proofs.has.Reads as has-reads
 
--- src/lib.rt:311:20
 add-next : tie.Need-add-next
 add-next c = search needs
 
--- src/lib.rt:312:12
 has-requires : tie.Need-has-requires
 has-requires c κs = search needs
 
--- src/lib.rt:314:21
 mul-n : tie.Need-mul-n
 mul-n c = search needs
 
--- src/lib.rt:314:21
 array-copy-out-n : tie.Need-array-copy-out-n
 array-copy-out-n c = search needs
 
--- src/lib.rt:315:13
 push-requires : tie.Need-push-requires
 push-requires c κs = search needs
 
--- src/lib.rt:315:13
 returns : tie.Need-returns
 unfolding read sourceOf
 returns c =
     rw (c .push .ensures, toZ-ofZ (sfits-of (c .before .n .given)), ← (c .before .before .before .before .has .ensures), c .before .before .before .if1 .taken)
 
--- src/lib.rt:317:12
 has-requires-2 : tie.Need-has-requires-2
 has-requires-2 c κs = search needs
 
--- src/lib.rt:319:21
 mul-n-2 : tie.Need-mul-n-2
 mul-n-2 c = search needs
 
--- src/lib.rt:319:21
 array-copy-out-n-2 : tie.Need-array-copy-out-n-2
 array-copy-out-n-2 c = search needs
 
--- src/lib.rt:320:13
 push-requires-2 : tie.Need-push-requires-2
 push-requires-2 c κs = search needs
 
--- src/lib.rt:320:13
 returns-2 : tie.Need-returns-2
 unfolding read sourceOf
 returns-2 c =
     let m = c .before .before .before .before in
     rw (c .push2 .ensures, toZ-ofZ (sfits-of (c .before .n2 .given)), ← (m .before .before .has .ensures), m .before .if1 .left, ← (m .has2 .ensures), c .before .before .before .if2 .taken)
 
--- src/lib.rt:322:17
 mul-n-3 : tie.Need-mul-n-3
 mul-n-3 c = search needs
 
--- src/lib.rt:322:17
 shared-slice-copy-out-n : tie.Need-shared-slice-copy-out-n
 shared-slice-copy-out-n c = search needs
 
--- src/lib.rt:323:9
 log-requires : tie.Need-log-requires
 log-requires c κs = search needs
 
--- src/lib.rt:306:5
 returns-3 : tie.Need-returns-3
 unfolding read sourceOf
 returns-3 c =

@@ -8,68 +8,53 @@ use Rattle.thread.proofs.Attempts.{plan-low, stacked-cells}
 use borrow.Author.Needs.{needs}
 use Rattle.thread.proofs.Thread.stacked.Statement.{statement}
 use Rattle.thread.proofs.Thread.stacked.Tie as tie
-use Rattle.thread.proofs.Thread.stacked.Reads as reads
-use Rattle.thread.proofs.Thread.stacked.Lts as lts
-use Rattle.thread.proofs.planned.Reads as planned-reads
-use Rattle.thread.proofs.value.Reads as value-reads
 
 -- the cells that change are among the 64
 small : (e : tie.After-planned) → (e .planned .result .low < 64) × (e .planned .result .high < 64)
 small e = subst (λ (q : Plan). (q .low < 64) × (q .high < 64)) (sym (e .planned .ensures)) (plan-low _ _ _ (e .before .pre))
 
--- src/lib.rt:624:13
 planned-requires : tie.Need-planned-requires
 planned-requires c κs = search needs
 
--- src/lib.rt:628:17
 mul-a : tie.Need-mul-a
 mul-a c =
     let f = small (c .before) in
     let g = f .0 in
     omega arith
 
--- src/lib.rt:628:17
 array-copy-out-a : tie.Need-array-copy-out-a
 array-copy-out-a c = small (c .before) .0
 
--- src/lib.rt:629:17
 mul-b : tie.Need-mul-b
 mul-b c =
     let f = small (c .before .before) in
     let g = f .1 in
     omega arith
 
--- src/lib.rt:629:17
 array-copy-out-b : tie.Need-array-copy-out-b
 array-copy-out-b c = small (c .before .before) .1
 
--- src/lib.rt:630:9
 mul-cells : tie.Need-mul-cells
 mul-cells c =
     let f = small (c .before .before .before) in
     let g = f .1 in
     omega arith
 
--- src/lib.rt:630:9
 array-set-of-cells : tie.Need-array-set-of-cells
 array-set-of-cells c = small (c .before .before .before) .1
 
--- src/lib.rt:631:22
 value-requires : tie.Need-value-requires
 value-requires c κs = search needs
 
--- src/lib.rt:631:9
 mul-cells-2 : tie.Need-mul-cells-2
 mul-cells-2 c =
     let f = small (c .before .before .before .before) in
     let g = f .0 in
     omega arith
 
--- src/lib.rt:631:9
 array-set-from-cells : tie.Need-array-set-from-cells
 array-set-from-cells c = small (c .before .before .before .before) .0
 
--- src/lib.rt:620:5
 returns : tie.Need-returns
 returns c =
     let e = c .before .before .before .before in
