@@ -2,34 +2,37 @@
 use Prim.Native.Nat.{ℕ, _+_, _*_, _-_, _≤_, _<_, max}
 use mathlib.Core.Path.{_≡_, refl, sym, ap, subst, _∙_}
 use mathlib.Core.Bool.{Bool, true, false, cond}
+use mathlib.Core.List.{List}
 use native.Mathlib.Decide.{decLt, ℕ-discrete}
 use native.Mathlib.Omega.{arith}
-use lib.ListN.{length-set}
+use lib.ListN.{set, length-set}
 use Rattle.ops.specs.declared.Op.the-variants as op
 use Rattle.scan.specs.declared.Scan.{Scan}
-use Rattle.scan.specs.InnerView.{GoodScan, bad, itemPut, setTo, topTo, kindAt, reachAt, addTo, writeTo, commitTo, joined, closeTo, movedTo, opened, forkTo, stepTo}
+use Rattle.scan.specs.InnerView.{ScanState, state, GoodScan, Limits, bad, itemPut, setTo, topTo, kindAt, reachAt, addTo, writeTo, commitTo, joined, closeTo, movedTo, opened, enterTo, stepTo}
 use Rattle.ops.specs.Shown.{showOp}
 use Rattle.code.specs.Ops.{Op, push, add, read, write, begin, commit, fork, sizeOf}
-use Rattle.scan.proofs.Branches.{add-low, add-part, add-other, add-done, write-low, write-outside, write-other, write-done, commit-low, commit-outside, commit-above, commit-below, commit-done, close-low, close-above, close-below, close-done, fork-bad, fork-done, when-true, when-false}
+use Rattle.scan.proofs.Branches.{add-low, add-part, add-other, add-done, write-low, write-outside, write-other, write-done, commit-low, commit-outside, commit-above, commit-below, commit-done, close-low, close-above, close-below, close-done, enter-bad, enter-done, when-true, when-false}
 use Rattle.scan.proofs.Steps.{set-good, top-place, add-place, write-place, commit-place, top-forked, top-forks}
 
-abbrev pub good-of : Scan → Bool
+abbrev pub good-of : ScanState → Bool
 good-of s = s .good
 
+pub limits : (s : Scan) {k e : List ℕ} → GoodScan (state s k e) → Limits s
+limits s t = record { low = t .low; some = t .some; few = t .few; noded = t .noded; sized = t .sized; early = t .early }
+
 -- a scan that is bad is not good
-never-good : (s : Scan) {r : Scan} → bad s ≡ r → r .good ≡ true → ⊥
+never-good : (s : ScanState) {r : ScanState} → bad s ≡ r → r .good ≡ true → ⊥
 unfolding bad
 never-good s e g =
     let f : false ≡ true = ap good-of e ∙ g in
     let z : _≡_ {A = ℕ} 0 1 = cc in
     omega arith
 
-placed-fit : (s : Scan) (h k r : ℕ) (i : Bool) (n f z : ℕ) → GoodScan s → h < 64 → s .nodes + n ≤ 1000 → s .forks + f ≤ 15 → z ≤ 5 * n → GoodScan (itemPut s h k r i n f z)
+placed-fit : (s : ScanState) (h k r : ℕ) (i : Bool) (n f z : ℕ) → GoodScan s → h < 64 → s .nodes + n ≤ 1000 → s .forks + f ≤ 15 → z ≤ 5 * n → GoodScan (itemPut s h k r i n f z)
 unfolding itemPut
 placed-fit s h k r i n f z t l m q w =
     record {
-      kinds = length-set (s .kinds) h k ∙ t .kinds;
-      reaches = length-set (s .reaches) h r ∙ t .reaches;
+      items = length-set (set (s .items) h k) (64 + h) r ∙ (length-set (s .items) h k ∙ t .items);
       ends = t .ends;
       low = omega arith;
       some = omega (arith, t .some);
@@ -39,16 +42,16 @@ placed-fit s h k r i n f z t l m q w =
       early = t .early;
     }
 
-set-fit : (s : Scan) (h k r : ℕ) (i : Bool) (n f z : ℕ) → GoodScan s → (r ≤ 64 → h < 64) → z ≤ 5 * n → setTo s h k r i n f z .good ≡ true → GoodScan (setTo s h k r i n f z)
+set-fit : (s : ScanState) (h k r : ℕ) (i : Bool) (n f z : ℕ) → GoodScan s → (r ≤ 64 → h < 64) → z ≤ 5 * n → setTo s h k r i n f z .good ≡ true → GoodScan (setTo s h k r i n f z)
 set-fit s h k r i n f z t room w g =
     let p = set-good s h k r i n f z g in
     subst GoodScan (sym (p .3)) (placed-fit s h k r i n f z t (room (p .0)) (p .1) (p .2) w)
 
-top-fit : (s : Scan) (k : ℕ) (i : Bool) (f z : ℕ) → GoodScan s → z ≤ 5 → topTo s k i f z .good ≡ true → GoodScan (topTo s k i f z)
+top-fit : (s : ScanState) (k : ℕ) (i : Bool) (f z : ℕ) → GoodScan s → z ≤ 5 → topTo s k i f z .good ≡ true → GoodScan (topTo s k i f z)
 unfolding topTo
 top-fit s k i f z t w g = set-fit s (s .height) k (s .height + 1) i 1 f z t (λ l. omega arith) (omega arith) g
 
-module _ (s : Scan) (t : GoodScan s) where
+module _ (s : ScanState) (t : GoodScan s) where
   add-fit : addTo s .good ≡ true → GoodScan (addTo s)
   add-fit g = height (decLt (s .height) 2)
     where
@@ -130,8 +133,7 @@ module _ (s : Scan) (t : GoodScan s) where
   unfolding joined
   joined-fit h =
       record {
-        kinds = length-set (s .kinds) (s .height - 2) 2 ∙ t .kinds;
-        reaches = length-set (s .reaches) (s .height - 2) (reachAt s 1) ∙ t .reaches;
+        items = length-set (set (s .items) (s .height - 2) 2) (64 + (s .height - 2)) (reachAt s 1) ∙ (length-set (s .items) (s .height - 2) 2 ∙ t .items);
         ends = t .ends;
         low = omega (arith, t .low);
         some = omega (arith, t .some);
@@ -144,22 +146,22 @@ module _ (s : Scan) (t : GoodScan s) where
   pub close-fit : closeTo s .good ≡ true → GoodScan (closeTo s)
   close-fit g = let c = closing g in subst GoodScan (c .is) (joined-fit (c .high))
 
-moved-fit : (s : Scan) (size : ℕ) → GoodScan s → s .place + size ≤ 5005 → GoodScan (movedTo s size)
+moved-fit : (s : ScanState) (size : ℕ) → GoodScan s → s .place + size ≤ 5005 → GoodScan (movedTo s size)
 unfolding movedTo
 moved-fit s size t l =
-    record { kinds = t .kinds; reaches = t .reaches; ends = t .ends; low = t .low; some = t .some; few = t .few; noded = t .noded; sized = t .sized; early = l }
+    record { items = t .items; ends = t .ends; low = t .low; some = t .some; few = t .few; noded = t .noded; sized = t .sized; early = l }
 
-moved-good : (s : Scan) (size : ℕ) → movedTo s size .good ≡ true → s .good ≡ true
+moved-good : (s : ScanState) (size : ℕ) → movedTo s size .good ≡ true → s .good ≡ true
 unfolding movedTo
 moved-good s size g = g
 
-opened-fit : (s : Scan) (n : ℕ) → GoodScan s → s .forked + 1 ≤ s .forks → s .place + 3 ≤ 5005 → GoodScan (opened s n)
+opened-fit : (s : ScanState) (n : ℕ) → GoodScan s → s .forked + 1 ≤ s .forks → s .place + 3 ≤ 5005 → GoodScan (opened s n)
 unfolding opened
 opened-fit s n t q l =
-    record { kinds = t .kinds; reaches = t .reaches; ends = length-set (s .ends) (s .forked) (s .place + 3 + n) ∙ t .ends; low = t .low; some = q; few = t .few; noded = t .noded; sized = t .sized; early = l }
+    record { items = t .items; ends = length-set (s .ends) (s .forked) (s .place + 3 + n) ∙ t .ends; low = t .low; some = q; few = t .few; noded = t .noded; sized = t .sized; early = l }
 
 -- one instruction
-pub step-fit : (s : Scan) (o : Op) → GoodScan s → stepTo s (showOp o) .good ≡ true → s .place + sizeOf o ≤ 5005 → GoodScan (stepTo s (showOp o))
+pub step-fit : (s : ScanState) (o : Op) → GoodScan s → stepTo s (showOp o) .good ≡ true → s .place + sizeOf o ≤ 5005 → GoodScan (stepTo s (showOp o))
 unfolding stepTo
 step-fit s (push n) t g l = go (s .inside) refl
   where
@@ -188,36 +190,36 @@ step-fit s begin t g l = go (s .inside) refl
 step-fit s commit t g l = moved-fit (commitTo s) 1 (commit-fit s t (moved-good (commitTo s) 1 g)) (omega (arith, commit-place s))
 step-fit s (fork n) t g l = go (s .inside) refl
   where
-    u : Scan
+    u : ScanState
     u = topTo s 1 false 1 1
 
-    opens : (b : Bool) → u .good ≡ b → forkTo u n .good ≡ true → GoodScan (forkTo u n)
+    opens : (b : Bool) → u .good ≡ b → enterTo u n .good ≡ true → GoodScan (enterTo u n)
     opens true h k =
         let f = top-fit s 1 false 1 1 t (omega arith) h in
-        subst GoodScan (fork-done u n h) (opened-fit u n f (omega (arith, top-forked s 1 false 1 1 h, top-forks s 1 false 1 1 h, t .some)) (omega (arith, top-place s 1 false 1 1)))
-    opens false h k = absurd (let e : false ≡ true = sym h ∙ (ap good-of (fork-bad u n h) ∙ k) in let z : _≡_ {A = ℕ} 0 1 = cc in omega arith)
+        subst GoodScan (enter-done u n h) (opened-fit u n f (omega (arith, top-forked s 1 false 1 1 h, top-forks s 1 false 1 1 h, t .some)) (omega (arith, top-place s 1 false 1 1)))
+    opens false h k = absurd (let e : false ≡ true = sym h ∙ (ap good-of (enter-bad u n h) ∙ k) in let z : _≡_ {A = ℕ} 0 1 = cc in omega arith)
 
-    go : (b : Bool) → s .inside ≡ b → GoodScan (cond (s .inside) (bad s) (forkTo u n))
-    go true i = absurd (never-good s (when-true (s .inside) (bad s) (forkTo u n) i) g)
-    go false i = let d = when-false (s .inside) (bad s) (forkTo u n) i in subst GoodScan d (opens (u .good) refl (ap good-of d ∙ g))
+    go : (b : Bool) → s .inside ≡ b → GoodScan (cond (s .inside) (bad s) (enterTo u n))
+    go true i = absurd (never-good s (when-true (s .inside) (bad s) (enterTo u n) i) g)
+    go false i = let d = when-false (s .inside) (bad s) (enterTo u n) i in subst GoodScan d (opens (u .good) refl (ap good-of d ∙ g))
 
-pub foreign-bad : (s : Scan) → stepTo s op.Foreign .good ≡ true → ⊥
+pub foreign-bad : (s : ScanState) → stepTo s op.Foreign .good ≡ true → ⊥
 unfolding stepTo
 foreign-bad s g = never-good s refl g
 
 -- a good scan is one instruction further
-moved-place : (s : Scan) (size : ℕ) → movedTo s size .place ≡ s .place + size
+moved-place : (s : ScanState) (size : ℕ) → movedTo s size .place ≡ s .place + size
 unfolding movedTo
 moved-place s size = refl
 
-opened-place : (s : Scan) (n : ℕ) → opened s n .place ≡ s .place + 3
+opened-place : (s : ScanState) (n : ℕ) → opened s n .place ≡ s .place + 3
 unfolding opened
 opened-place s n = refl
 
-abbrev place-of : Scan → ℕ
+abbrev place-of : ScanState → ℕ
 place-of s = s .place
 
-pub step-place : (s : Scan) (o : Op) → stepTo s (showOp o) .good ≡ true → stepTo s (showOp o) .place ≡ s .place + sizeOf o
+pub step-place : (s : ScanState) (o : Op) → stepTo s (showOp o) .good ≡ true → stepTo s (showOp o) .place ≡ s .place + sizeOf o
 unfolding stepTo
 step-place s (push n) g = go (s .inside) refl
   where
@@ -239,13 +241,13 @@ step-place s begin g = go (s .inside) refl
 step-place s commit g = moved-place (commitTo s) 1 ∙ ap (λ (n : ℕ). n + 1) (commit-place s)
 step-place s (fork n) g = go (s .inside) refl
   where
-    u : Scan
+    u : ScanState
     u = topTo s 1 false 1 1
 
-    opens : (b : Bool) → u .good ≡ b → forkTo u n .good ≡ true → forkTo u n .place ≡ s .place + 3
-    opens true h k = sym (ap place-of (fork-done u n h)) ∙ (opened-place u n ∙ ap (λ (m : ℕ). m + 3) (top-place s 1 false 1 1))
-    opens false h k = absurd (let e : false ≡ true = sym h ∙ (ap good-of (fork-bad u n h) ∙ k) in let z : _≡_ {A = ℕ} 0 1 = cc in omega arith)
+    opens : (b : Bool) → u .good ≡ b → enterTo u n .good ≡ true → enterTo u n .place ≡ s .place + 3
+    opens true h k = sym (ap place-of (enter-done u n h)) ∙ (opened-place u n ∙ ap (λ (m : ℕ). m + 3) (top-place s 1 false 1 1))
+    opens false h k = absurd (let e : false ≡ true = sym h ∙ (ap good-of (enter-bad u n h) ∙ k) in let z : _≡_ {A = ℕ} 0 1 = cc in omega arith)
 
-    go : (b : Bool) → s .inside ≡ b → cond (s .inside) (bad s) (forkTo u n) .place ≡ s .place + 3
-    go true i = absurd (never-good s (when-true (s .inside) (bad s) (forkTo u n) i) g)
-    go false i = let d = when-false (s .inside) (bad s) (forkTo u n) i in sym (ap place-of d) ∙ opens (u .good) refl (ap good-of d ∙ g)
+    go : (b : Bool) → s .inside ≡ b → cond (s .inside) (bad s) (enterTo u n) .place ≡ s .place + 3
+    go true i = absurd (never-good s (when-true (s .inside) (bad s) (enterTo u n) i) g)
+    go false i = let d = when-false (s .inside) (bad s) (enterTo u n) i in sym (ap place-of d) ∙ opens (u .good) refl (ap good-of d ∙ g)

@@ -10,8 +10,7 @@ use lib.ListN.{length, drop, getD, set, length-drop, length-append}
 use lib.Seq.{drop-drop}
 use borrow.Author.Tests.{eq-eqb, ne-eqb, eqb-false}
 use Rattle.ops.specs.declared.Op.{Op as Instruction}
-use Rattle.scan.specs.declared.Scan.{Scan}
-use Rattle.scan.specs.InnerView.{stackOf, endsOf, view, ifGood, viewed, GoodScan, emptyScan, joined, closeTo, ShortFork, stepTo, finishTo, kindAt, reachAt, Settled}
+use Rattle.scan.specs.InnerView.{ScanState, stackOf, endsOf, view, ifGood, viewed, GoodScan, emptyScan, joined, closeTo, ShortFork, stepTo, finishTo, kindAt, reachAt, Settled}
 use Rattle.ops.specs.Shown.{showOp, shownOp}
 use Rattle.code.specs.Ops.{foreign, Op, push, add, read, write, begin, commit, fork, opAt, sizeOf}
 use Rattle.code.specs.InnerScan.{ScanItem, twoTop, oneTop, scanOp, movedPast, closes, finished, scanOps}
@@ -37,15 +36,15 @@ unfolding endsOf
 ends-none e n h = rw h
 
 -- the scan with other ends
-abbrev with-ends : Scan → List ℕ → list.ListScan
+abbrev with-ends : ScanState → List ℕ → list.ListScan
 with-ends s es =
-    record { stack = stackOf (s .kinds) (s .reaches) (s .height); inside = s .inside; ends = es; place = s .place; nodes = s .nodes; forks = s .forks; size = s .size }
+    record { stack = stackOf (s .items) (s .height); inside = s .inside; ends = es; place = s .place; nodes = s .nodes; forks = s .forks; size = s .size }
 
 -- what is still to be closed
-unfoldable pub remaining : Scan → Outcome list.ListScan
+unfoldable pub remaining : ScanState → Outcome list.ListScan
 remaining s = closes (endsOf (s .ends) (s .forked)) (view s)
 
-module _ (s : Scan) (g : s .good ≡ true) (fit : GoodScan s) where
+module _ (s : ScanState) (g : s .good ≡ true) (fit : GoodScan s) where
   -- none is open
   pub none-open : s .forked ≡ 0 → viewed s ≡ remaining s
   unfolding remaining closes
@@ -75,11 +74,11 @@ module _ (s : Scan) (g : s .good ≡ true) (fit : GoodScan s) where
     of-close p f below =
         refuse (not (eqb (p .kind) 2 && eqb (f .kind) 1)) 11 0 (closes others (record { stack = record { kind = 2; reach = p .reach } ∷ below; inside = s .inside; ends = others; place = s .place; nodes = s .nodes; forks = s .forks; size = s .size }))
 
-    closes-here : last ≡ s .place → remaining s ≡ twoTop (view s) (stackOf (s .kinds) (s .reaches) (s .height)) of-close
+    closes-here : last ≡ s .place → remaining s ≡ twoTop (view s) (stackOf (s .items) (s .height)) of-close
     unfolding remaining closes
     closes-here e =
         let t : eqb (s .place) last ≡ true = eq-eqb (s .place) last (sym e) in
-        let c : closes (last ∷ others) (view s) ≡ twoTop (view s) (stackOf (s .kinds) (s .reaches) (s .height)) of-close = rw (t, closes) in
+        let c : closes (last ∷ others) (view s) ≡ twoTop (view s) (stackOf (s .items) (s .height)) of-close = rw (t, closes) in
         ap (λ (es : List ℕ). closes es (view s)) ends-are ∙ c
 
     -- it ends here, and the code is foreign
@@ -87,15 +86,15 @@ module _ (s : Scan) (g : s .good ≡ true) (fit : GoodScan s) where
     unfolding joined
     close-bad e b = ap (λ (t : Bool). ifGood t (view (closeTo s))) b ∙ (sym (height (decLt (s .height) 2)) ∙ sym (closes-here e))
       where
-        below : (h : 2 ≤ s .height) → kindAt s 1 ≡ 2 → Dec (kindAt s 2 ≡ 1) → twoTop (view s) (stackOf (s .kinds) (s .reaches) (s .height)) of-close ≡ foreign
+        below : (h : 2 ≤ s .height) → kindAt s 1 ≡ 2 → Dec (kindAt s 2 ≡ 1) → twoTop (view s) (stackOf (s .items) (s .height)) of-close ≡ foreign
         below h k (yes f) = absurd (let t : true ≡ false = sym g ∙ (ap good-of (close-done s h k f) ∙ b) in let z : _≡_ {A = ℕ} 0 1 = cc in omega arith)
         below h k (no n) = two-top s g fit of-close h ∙ fails _ (right-false (eqb (kindAt s 1) 2) (ne-eqb (kindAt s 2) 1 n))
 
-        above : 2 ≤ s .height → Dec (kindAt s 1 ≡ 2) → twoTop (view s) (stackOf (s .kinds) (s .reaches) (s .height)) of-close ≡ foreign
+        above : 2 ≤ s .height → Dec (kindAt s 1 ≡ 2) → twoTop (view s) (stackOf (s .items) (s .height)) of-close ≡ foreign
         above h (yes e) = below h e (ℕ-discrete (kindAt s 2) 1)
         above h (no n) = two-top s g fit of-close h ∙ fails _ (left-false (eqb (kindAt s 2) 1) (ne-eqb (kindAt s 1) 2 n))
 
-        height : Dec (s .height < 2) → twoTop (view s) (stackOf (s .kinds) (s .reaches) (s .height)) of-close ≡ foreign
+        height : Dec (s .height < 2) → twoTop (view s) (stackOf (s .items) (s .height)) of-close ≡ foreign
         height (yes h) = two-low s g fit of-close h
         height (no h) = above (omega arith) (ℕ-discrete (kindAt s 1) 2)
 
@@ -105,18 +104,18 @@ module _ (s : Scan) (g : s .good ≡ true) (fit : GoodScan s) where
     close-good e b =
         let c = closing s fit b in
         let l : s .height - 1 ≡ s .height - 2 + 1 = omega (arith, c .high) in
-        let m : stackOf (set (s .kinds) (s .height - 2) 2) (set (s .reaches) (s .height - 2) (reachAt s 1)) (s .height - 1) ≡ record { kind = 2; reach = reachAt s 1 } ∷ stackOf (s .kinds) (s .reaches) (s .height - 2) = ap (λ (n : ℕ). stackOf (set (s .kinds) (s .height - 2) 2) (set (s .reaches) (s .height - 2) (reachAt s 1)) n) l ∙ stack-push (s .kinds) (s .reaches) (s .height - 2) 2 (reachAt s 1) (omega (arith, fit .kinds, fit .low, c .high)) (omega (arith, fit .reaches, fit .low, c .high)) in
+        let m : stackOf (set (set (s .items) (s .height - 2) 2) (64 + (s .height - 2)) (reachAt s 1)) (s .height - 1) ≡ record { kind = 2; reach = reachAt s 1 } ∷ stackOf (s .items) (s .height - 2) = ap (λ (n : ℕ). stackOf (set (set (s .items) (s .height - 2) 2) (64 + (s .height - 2)) (reachAt s 1)) n) l ∙ stack-push (s .items) (s .height - 2) 2 (reachAt s 1) (omega (arith, fit .low, c .high)) (fit .items) in
         ap remaining (sym (c .is)) ∙ (ap (λ (n : List ScanItem). closes others (record { stack = n; inside = s .inside; ends = others; place = s .place; nodes = s .nodes; forks = s .forks; size = s .size })) m ∙ (sym (passes (both-true (eq-eqb (kindAt s 1) 2 (c .above)) (eq-eqb (kindAt s 2) 1 (c .below)))) ∙ (sym (two-top s g fit of-close (c .high)) ∙ sym (closes-here e))))
 
     pub one-less : closeTo s .good ≡ true → closeTo s .forked ≡ s .forked - 1
     unfolding joined
     one-less b = ap forked (sym (closing s fit b .is))
       where
-        forked : Scan → ℕ
+        forked : ScanState → ℕ
         forked t = t .forked
 
 -- what holds at the head of the loop that closes
-pub record Closes (s₀ s : Scan) : Type 0 where
+pub record Closes (s₀ s : ScanState) : Type 0 where
   pub fit : GoodScan s
   pub good : s .good ≡ true
   pub same : remaining s ≡ remaining s₀
@@ -124,41 +123,41 @@ pub record Closes (s₀ s : Scan) : Type 0 where
 
 -- ---- the end of the code
 
-abbrev of-finish : Scan → ScanItem → List ScanItem → Outcome list.ListScan
+abbrev of-finish : ScanState → ScanItem → List ScanItem → Outcome list.ListScan
 of-finish s p below = refuse (not (eqb (p .kind) 2 && eqb (length below) 0)) 11 0 (done (view s))
 
-finished-open : (s : Scan) → 1 ≤ s .forked → finished (view s) ≡ foreign
+finished-open : (s : ScanState) → 1 ≤ s .forked → finished (view s) ≡ foreign
 unfolding finished
 finished-open s h = rw (ends-one (s .ends) (s .forked) h)
 
-finished-none : (s : Scan) → s .forked ≡ 0 → finished (view s) ≡ oneTop (view s) (stackOf (s .kinds) (s .reaches) (s .height)) (of-finish s)
+finished-none : (s : ScanState) → s .forked ≡ 0 → finished (view s) ≡ oneTop (view s) (stackOf (s .items) (s .height)) (of-finish s)
 unfolding finished
 finished-none s h = go (endsOf (s .ends) (s .forked)) (ends-none (s .ends) (s .forked) h)
   where
-    go : (es : List ℕ) → es ≡ [] → (elim es as (λ (x : List ℕ). Outcome list.ListScan) [ [] ↦ oneTop (view s) (stackOf (s .kinds) (s .reaches) (s .height)) (of-finish s) | end ∷ ends ↦ foreign ]) ≡ oneTop (view s) (stackOf (s .kinds) (s .reaches) (s .height)) (of-finish s)
+    go : (es : List ℕ) → es ≡ [] → (elim es as (λ (x : List ℕ). Outcome list.ListScan) [ [] ↦ oneTop (view s) (stackOf (s .items) (s .height)) (of-finish s) | end ∷ ends ↦ foreign ]) ≡ oneTop (view s) (stackOf (s .items) (s .height)) (of-finish s)
     go [] e = refl
     go (x ∷ es) e = absurd (let z : _≡_ {A = ℕ} 0 1 = cc in omega arith)
 
-pub finish-viewed : (s : Scan) → s .good ≡ true → GoodScan s → viewed (finishTo s) ≡ finished (view s)
+pub finish-viewed : (s : ScanState) → s .good ≡ true → GoodScan s → viewed (finishTo s) ≡ finished (view s)
 finish-viewed s g fit = opens (ℕ-discrete (s .forked) 0)
   where
-    kind : s .forked ≡ 0 → s .height ≡ 1 → Dec (getD (s .kinds) 0 0 ≡ 2) → viewed (finishTo s) ≡ of-finish s (at-index (s .kinds) (s .reaches) (s .height - 1)) (stackOf (s .kinds) (s .reaches) (s .height - 1))
+    kind : s .forked ≡ 0 → s .height ≡ 1 → Dec (getD (s .items) 0 0 ≡ 2) → viewed (finishTo s) ≡ of-finish s (at-index (s .items) (s .height - 1)) (stackOf (s .items) (s .height - 1))
     kind e h (yes k) =
         let i : s .height - 1 ≡ 0 = omega arith in
-        let k′ : getD (s .kinds) (s .height - 1) 0 ≡ 2 = ap (λ (n : ℕ). getD (s .kinds) n 0) i ∙ k in
-        ap viewed (sym (finish-done s e h k)) ∙ (good-viewed s g ∙ sym (passes (both-true (eq-eqb (getD (s .kinds) (s .height - 1) 0) 2 k′) (eq-eqb (length (stackOf (s .kinds) (s .reaches) (s .height - 1))) 0 (stack-length (s .kinds) (s .reaches) (s .height - 1) ∙ i)))))
+        let k′ : getD (s .items) (s .height - 1) 0 ≡ 2 = ap (λ (n : ℕ). getD (s .items) n 0) i ∙ k in
+        ap viewed (sym (finish-done s e h k)) ∙ (good-viewed s g ∙ sym (passes (both-true (eq-eqb (getD (s .items) (s .height - 1) 0) 2 k′) (eq-eqb (length (stackOf (s .items) (s .height - 1))) 0 (stack-length (s .items) (s .height - 1) ∙ i)))))
     kind e h (no n) =
         let i : s .height - 1 ≡ 0 = omega arith in
-        both-bad s g fit (finish-other s e h n) (fails (done (view s)) (left-false (eqb (length (stackOf (s .kinds) (s .reaches) (s .height - 1))) 0) (ne-eqb (getD (s .kinds) (s .height - 1) 0) 2 (λ k. n (ap (λ (m : ℕ). getD (s .kinds) m 0) (sym i) ∙ k)))))
+        both-bad s g fit (finish-other s e h n) (fails (done (view s)) (left-false (eqb (length (stackOf (s .items) (s .height - 1))) 0) (ne-eqb (getD (s .items) (s .height - 1) 0) 2 (λ k. n (ap (λ (m : ℕ). getD (s .items) m 0) (sym i) ∙ k)))))
 
-    more : s .forked ≡ 0 → (s .height ≡ 1 → ⊥) → Dec (s .height < 1) → viewed (finishTo s) ≡ oneTop (view s) (stackOf (s .kinds) (s .reaches) (s .height)) (of-finish s)
+    more : s .forked ≡ 0 → (s .height ≡ 1 → ⊥) → Dec (s .height < 1) → viewed (finishTo s) ≡ oneTop (view s) (stackOf (s .items) (s .height)) (of-finish s)
     more e n (yes h) = both-bad s g fit (finish-more s e n) (one-low s g fit (of-finish s) h)
     more e n (no h) =
         let h′ : 1 ≤ s .height = omega arith in
-        both-bad s g fit (finish-more s e n) (one-top s g fit (of-finish s) h′ ∙ fails (done (view s)) (right-false (eqb (getD (s .kinds) (s .height - 1) 0) 2) (ne-eqb (length (stackOf (s .kinds) (s .reaches) (s .height - 1))) 0 (omega (arith, stack-length (s .kinds) (s .reaches) (s .height - 1))))))
+        both-bad s g fit (finish-more s e n) (one-top s g fit (of-finish s) h′ ∙ fails (done (view s)) (right-false (eqb (getD (s .items) (s .height - 1) 0) 2) (ne-eqb (length (stackOf (s .items) (s .height - 1))) 0 (omega (arith, stack-length (s .items) (s .height - 1))))))
 
-    height : s .forked ≡ 0 → Dec (s .height ≡ 1) → viewed (finishTo s) ≡ oneTop (view s) (stackOf (s .kinds) (s .reaches) (s .height)) (of-finish s)
-    height e (yes h) = kind e h (ℕ-discrete (getD (s .kinds) 0 0) 2) ∙ sym (one-top s g fit (of-finish s) (omega arith))
+    height : s .forked ≡ 0 → Dec (s .height ≡ 1) → viewed (finishTo s) ≡ oneTop (view s) (stackOf (s .items) (s .height)) (of-finish s)
+    height e (yes h) = kind e h (ℕ-discrete (getD (s .items) 0 0) 2) ∙ sym (one-top s g fit (of-finish s) (omega arith))
     height e (no n) = more e n (decLt (s .height) 1)
 
     opens : Dec (s .forked ≡ 0) → viewed (finishTo s) ≡ finished (view s)
@@ -222,7 +221,7 @@ unfoldable pub ahead : List ℕ → list.ListScan → Outcome list.ListScan
 ahead bs v = scanOps (suc (length bs)) v bs
 
 -- what holds at the loop's head
-pub record Loop (code : List ℕ) (s : Scan) : Type 0 where
+pub record Loop (code : List ℕ) (s : ScanState) : Type 0 where
   pub fit : GoodScan s
   pub good : s .good ≡ true
   pub within : s .place ≤ length code
@@ -232,13 +231,13 @@ pub loop-start : (code : List ℕ) → 5 ≤ length code → Loop code emptyScan
 unfolding emptyScan list.scanStart endsOf stackOf
 loop-start code h =
     record {
-      fit = record { kinds = refl; reaches = refl; ends = refl; low = omega arith; some = omega arith; few = omega arith; noded = omega arith; sized = omega arith; early = omega arith };
+      fit = record { items = refl; ends = refl; low = omega arith; some = omega arith; few = omega arith; noded = omega arith; sized = omega arith; early = omega arith };
       good = refl;
       within = h;
       same = refl;
     }
 
-module _ (code : List ℕ) (bytes : Bytes code) (small : length code ≤ 5005) (s r : Scan) (loop : Loop code s) (done-s : Settled s r) where
+module _ (code : List ℕ) (bytes : Bytes code) (small : length code ≤ 5005) {s r : ScanState} (loop : Loop code s) (done-s : Settled s r) where
   abbrev bs : List ℕ
   bs = drop (s .place) code
 
@@ -311,7 +310,7 @@ module _ (code : List ℕ) (bytes : Bytes code) (small : length code ≤ 5005) (
       goes-on : (o : Op) → opAt bs ≡ done o → stepTo r (showOp o) .good ≡ true → Loop code (stepTo r (showOp o))
       unfolding ahead
       goes-on o a b =
-          let u : Scan = stepTo r (showOp o) in
+          let u : ScanState = stepTo r (showOp o) in
           let place : u .place ≡ r .place + sizeOf o = step-place r o b in
           let fits : sizeOf o ≤ length bs = op-fits bs (bytes-drop (s .place) bytes) o a in
           let l : length bs ≡ length code - s .place = length-drop (s .place) code in

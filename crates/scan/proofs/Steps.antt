@@ -1,6 +1,6 @@
 -- One instruction of the scan, branch by branch: its place, and what `stepTo` is. Assumes nothing.
-use Prim.Native.Nat.{ℕ, _+_, _-_, _≤_, max}
-use mathlib.Core.Path.{_≡_, refl, ap}
+use Prim.Native.Nat.{ℕ, _+_, _-_, _≤_, _<_, max}
+use mathlib.Core.Path.{_≡_, refl, sym, ap, _∙_}
 use mathlib.Core.Bool.{Bool, true, false, cond}
 use mathlib.Core.List.{List}
 use native.Mathlib.Omega.{arith}
@@ -9,20 +9,18 @@ use lib.IntN.{ℤ}
 use borrow.Author.Tests.{ltb-false}
 use Rattle.ops.specs.declared.Op.{Op}
 use Rattle.ops.specs.declared.Op.the-variants as op
-use Rattle.scan.specs.declared.Scan.{Scan}
-use Rattle.scan.proofs.Branches.{when-true, when-false}
-use Rattle.scan.specs.InnerView.{bad, itemPut, setTo, topTo, kindAt, reachAt, addTo, writeTo, commitTo, joined, closeTo, movedTo, forkTo, stepTo}
+use Rattle.scan.specs.InnerView.{ScanState, bad, itemPut, setTo, topTo, kindAt, reachAt, addTo, writeTo, commitTo, joined, closeTo, movedTo, pushTo, readTo, beginTo, forkTo, stepTo}
 
 -- a choice between scans at one place is at that place
-two : (b : Bool) (x y : Scan) (p : ℕ) → x .place ≡ p → y .place ≡ p → cond b x y .place ≡ p
+two : (b : Bool) (x y : ScanState) (p : ℕ) → x .place ≡ p → y .place ≡ p → cond b x y .place ≡ p
 two true x y p e f = e
 two false x y p e f = f
 
-bad-place : (s : Scan) → bad s .place ≡ s .place
+bad-place : (s : ScanState) → bad s .place ≡ s .place
 unfolding bad
 bad-place s = refl
 
-module _ (s : Scan) where
+module _ (s : ScanState) where
   pub set-place : (h k r : ℕ) (i : Bool) (n f z : ℕ) → setTo s h k r i n f z .place ≡ s .place
   unfolding setTo itemPut
   set-place h k r i n f z =
@@ -71,68 +69,65 @@ module _ (s : Scan) where
   unfolding topTo itemPut
   top-forked k i f z g = ap forked (set-good (s .height) k (s .height + 1) i 1 f z g .3)
     where
-      forked : Scan → ℕ
+      forked : ScanState → ℕ
       forked t = t .forked
 
   pub top-forks : (k : ℕ) (i : Bool) (f z : ℕ) → topTo s k i f z .good ≡ true → topTo s k i f z .forks ≡ s .forks + f
   unfolding topTo itemPut
   top-forks k i f z g = ap forks (set-good (s .height) k (s .height + 1) i 1 f z g .3)
     where
-      forks : Scan → ℕ
+      forks : ScanState → ℕ
       forks t = t .forks
 
   pub top-ends : (k : ℕ) (i : Bool) (f z : ℕ) → topTo s k i f z .good ≡ true → topTo s k i f z .ends ≡ s .ends
   unfolding topTo itemPut
   top-ends k i f z g = ap ends (set-good (s .height) k (s .height + 1) i 1 f z g .3)
     where
-      ends : Scan → List ℕ
+      ends : ScanState → List ℕ
       ends t = t .ends
 
--- what `stepTo` is for each instruction
-module _ (s : Scan) (o : Op) where
-  pub push-inside : (n : ℤ) → o ≡ op.Push n → s .inside ≡ true → movedTo (topTo s 3 true 0 5) 5 ≡ stepTo s o
-  unfolding stepTo
-  push-inside n e i = rw e (when-true (s .inside) (movedTo (topTo s 3 true 0 5) 5) (movedTo (topTo s 2 false 0 5) 5) i)
+-- a scan at an early place stays there
+pub early : {t u : ScanState} {n : ℕ} → t ≡ u → u .place ≡ n → n ≤ 5005 → t .place ≤ 5005
+early e p h = omega (arith, ap (λ (s : ScanState). s .place) e)
 
-  pub push-outside : (n : ℤ) → o ≡ op.Push n → s .inside ≡ false → movedTo (topTo s 2 false 0 5) 5 ≡ stepTo s o
+-- behind a FORK's own item there is room for its child's end
+pub enter-ready : (s : ScanState) {t : ScanState} {n : ℕ} → t ≡ topTo s 1 false 1 1 → s .place ≤ 5005 → s .forked ≤ s .forks → n ≤ 65535 → (t .place ≤ 5005) × (n ≤ 65535) × (t .good ≡ true → t .forked < 15)
+enter-ready s {t} e low some m = (early e (top-place s 1 false 1 1) low, m, few)
+  where
+    few : t .good ≡ true → t .forked < 15
+    few g =
+        let h : topTo s 1 false 1 1 .good ≡ true = sym (ap (λ (s : ScanState). s .good) e) ∙ g in
+        omega (arith, ap (λ (s : ScanState). s .forked) e, top-forked s 1 false 1 1 h, top-few s 1 false 1 1 h)
+
+-- what `stepTo` is for each instruction
+module _ (s : ScanState) (o : Op) where
+  pub a-push : (n : ℤ) → o ≡ op.Push n → pushTo s ≡ stepTo s o
   unfolding stepTo
-  push-outside n e i = rw e (when-false (s .inside) (movedTo (topTo s 3 true 0 5) 5) (movedTo (topTo s 2 false 0 5) 5) i)
+  a-push n e = rw e
 
   pub an-add : o ≡ op.Add → movedTo (addTo s) 1 ≡ stepTo s o
   unfolding stepTo
   an-add e = rw e
 
-  pub read-inside : (v : ℕ) → o ≡ op.Read v → s .inside ≡ true → movedTo (topTo s 3 true 0 2) 2 ≡ stepTo s o
+  pub a-read : (v : ℕ) → o ≡ op.Read v → readTo s ≡ stepTo s o
   unfolding stepTo
-  read-inside v e i = rw e (when-true (s .inside) (movedTo (topTo s 3 true 0 2) 2) (bad s) i)
-
-  pub read-outside : (v : ℕ) → o ≡ op.Read v → s .inside ≡ false → bad s ≡ stepTo s o
-  unfolding stepTo
-  read-outside v e i = rw e (when-false (s .inside) (movedTo (topTo s 3 true 0 2) 2) (bad s) i)
+  a-read v e = rw e
 
   pub a-write : (v : ℕ) → o ≡ op.Write v → movedTo (writeTo s) 2 ≡ stepTo s o
   unfolding stepTo
   a-write v e = rw e
 
-  pub begin-inside : o ≡ op.Begin → s .inside ≡ true → bad s ≡ stepTo s o
+  pub a-begin : o ≡ op.Begin → beginTo s ≡ stepTo s o
   unfolding stepTo
-  begin-inside e i = rw e (when-true (s .inside) (bad s) (movedTo (topTo s 0 true 0 1) 1) i)
-
-  pub begin-outside : o ≡ op.Begin → s .inside ≡ false → movedTo (topTo s 0 true 0 1) 1 ≡ stepTo s o
-  unfolding stepTo
-  begin-outside e i = rw e (when-false (s .inside) (bad s) (movedTo (topTo s 0 true 0 1) 1) i)
+  a-begin e = rw e
 
   pub a-commit : o ≡ op.Commit → movedTo (commitTo s) 1 ≡ stepTo s o
   unfolding stepTo
   a-commit e = rw e
 
-  pub fork-inside : (n : ℕ) → o ≡ op.Fork n → s .inside ≡ true → bad s ≡ stepTo s o
+  pub a-fork : (n : ℕ) → o ≡ op.Fork n → forkTo s n ≡ stepTo s o
   unfolding stepTo
-  fork-inside n e i = rw e (when-true (s .inside) (bad s) (forkTo (topTo s 1 false 1 1) n) i)
-
-  pub fork-outside : (n : ℕ) → o ≡ op.Fork n → s .inside ≡ false → forkTo (topTo s 1 false 1 1) n ≡ stepTo s o
-  unfolding stepTo
-  fork-outside n e i = rw e (when-false (s .inside) (bad s) (forkTo (topTo s 1 false 1 1) n) i)
+  a-fork n e = rw e
 
   pub a-foreign : o ≡ op.Foreign → bad s ≡ stepTo s o
   unfolding stepTo

@@ -7,52 +7,51 @@ use native.Mathlib.Decide.{decLt, ℕ-discrete}
 use native.Mathlib.Omega.{arith}
 use lib.Dec.{eqb, leb}
 use lib.IntN.{ℤ}
-use lib.ListN.{length, getD, set}
+use lib.ListN.{length, getD, set, length-set}
 use lib.Seq.{getD-set-same, getD-set-other}
 use borrow.Author.Tests.{lt-ltb, le-ltb, le-leb, lt-leb, eq-eqb, ne-eqb}
-use Rattle.scan.specs.declared.Scan.{Scan}
-use Rattle.scan.specs.InnerView.{stackOf, endsOf, view, ifGood, viewed, GoodScan, ItemRoom, bad, itemPut, setTo, topTo, kindAt, reachAt, addTo, writeTo, commitTo, movedTo, opened, forkTo, stepTo}
+use Rattle.scan.specs.InnerView.{ScanState, stackOf, endsOf, view, ifGood, viewed, GoodScan, ItemRoom, bad, itemPut, setTo, topTo, kindAt, reachAt, addTo, writeTo, commitTo, movedTo, opened, enterTo, stepTo}
 use Rattle.ops.specs.Shown.{showOp}
 use Rattle.code.specs.Ops.{foreign, Op, push, add, read, write, begin, commit, fork}
 use Rattle.code.specs.InnerScan.{ScanItem, bounded, topped, merged, twoTop, oneTop, scanOp, movedPast}
 use Rattle.code.specs.InnerScan as list
 use Rattle.script.specs.Outcome.{Outcome, done, refuse, mapped}
-use Rattle.scan.proofs.Branches.{add-low, add-part, add-other, add-done, write-low, write-outside, write-other, write-done, commit-low, commit-outside, commit-above, commit-below, commit-done, fork-bad, fork-done, when-true, when-false}
+use Rattle.scan.proofs.Branches.{add-low, add-part, add-other, add-done, write-low, write-outside, write-other, write-done, commit-low, commit-outside, commit-above, commit-below, commit-done, enter-bad, enter-done, when-true, when-false}
 use Rattle.scan.proofs.Steps.{top-few, top-forked, top-ends}
 
 -- ---- the stack in the arrays
 
-stack-set : (k r : List ℕ) (n m a b : ℕ) → n ≤ m → stackOf (set k m a) (set r m b) n ≡ stackOf k r n
+stack-set : (x : List ℕ) (n m a b : ℕ) → n ≤ m → m < 64 → stackOf (set (set x m a) (64 + m) b) n ≡ stackOf x n
 unfolding stackOf
-stack-set k r zero m a b h = refl
-stack-set k r (suc n) m a b h =
-    rw (getD-set-other k m n a 0 (omega arith), getD-set-other r m n b 0 (omega arith), stack-set k r n m a b (omega arith))
+stack-set x zero m a b h l = refl
+stack-set x (suc n) m a b h l =
+    rw (getD-set-other (set x m a) (64 + m) n b 0 (omega arith), getD-set-other x m n a 0 (omega arith), getD-set-other (set x m a) (64 + m) (64 + n) b 0 (omega arith), getD-set-other x m (64 + n) a 0 (omega arith), stack-set x n m a b (omega arith) l)
 
-pub stack-push : (k r : List ℕ) (n a b : ℕ) → n < length k → n < length r → stackOf (set k n a) (set r n b) (n + 1) ≡ record { kind = a; reach = b } ∷ stackOf k r n
+pub stack-push : (x : List ℕ) (n a b : ℕ) → n < 64 → length x ≡ 128 → stackOf (set (set x n a) (64 + n) b) (n + 1) ≡ record { kind = a; reach = b } ∷ stackOf x n
 unfolding stackOf
-stack-push k r n a b p q =
+stack-push x n a b l w =
     let e : n + 1 ≡ suc n = omega arith in
-    rw (e, getD-set-same k n a 0 p, getD-set-same r n b 0 q, stack-set k r n n a b (omega arith))
+    rw (e, getD-set-other (set x n a) (64 + n) n b 0 (omega arith), getD-set-same x n a 0 (omega arith), getD-set-same (set x n a) (64 + n) b 0 (omega (arith, length-set x n a)), stack-set x n n a b (omega arith) l)
 
-pub stack-length : (k r : List ℕ) (n : ℕ) → length (stackOf k r n) ≡ n
+pub stack-length : (x : List ℕ) (n : ℕ) → length (stackOf x n) ≡ n
 unfolding stackOf
-stack-length k r zero = refl
-stack-length k r (suc n) = ap suc (stack-length k r n)
+stack-length x zero = refl
+stack-length x (suc n) = ap suc (stack-length x n)
 
 -- the item at an index
-abbrev pub at-index : List ℕ → List ℕ → ℕ → ScanItem
-at-index k r i = record { kind = getD k i 0; reach = getD r i 0 }
+abbrev pub at-index : List ℕ → ℕ → ScanItem
+at-index x i = record { kind = getD x i 0; reach = getD x (64 + i) 0 }
 
-pub stack-one : (k r : List ℕ) (n : ℕ) → 1 ≤ n → stackOf k r n ≡ at-index k r (n - 1) ∷ stackOf k r (n - 1)
+pub stack-one : (x : List ℕ) (n : ℕ) → 1 ≤ n → stackOf x n ≡ at-index x (n - 1) ∷ stackOf x (n - 1)
 unfolding stackOf
-stack-one k r zero h = absurd (omega arith)
-stack-one k r (suc n) h = let e : suc n - 1 ≡ n = omega arith in rw e
+stack-one x zero h = absurd (omega arith)
+stack-one x (suc n) h = let e : suc n - 1 ≡ n = omega arith in rw e
 
-stack-two : (k r : List ℕ) (n : ℕ) → 2 ≤ n → stackOf k r n ≡ at-index k r (n - 1) ∷ at-index k r (n - 2) ∷ stackOf k r (n - 2)
+stack-two : (x : List ℕ) (n : ℕ) → 2 ≤ n → stackOf x n ≡ at-index x (n - 1) ∷ at-index x (n - 2) ∷ stackOf x (n - 2)
 unfolding stackOf
-stack-two k r zero h = absurd (omega arith)
-stack-two k r (suc zero) h = absurd (omega arith)
-stack-two k r (suc (suc n)) h =
+stack-two x zero h = absurd (omega arith)
+stack-two x (suc zero) h = absurd (omega arith)
+stack-two x (suc (suc n)) h =
     let e : suc (suc n) - 1 ≡ suc n = omega arith in
     let f : suc (suc n) - 2 ≡ n = omega arith in
     rw (e, f)
@@ -78,10 +77,10 @@ fails o e = ap (λ (b : Bool). refuse (not b) 11 0 o) e
 -- ---- the limits
 
 -- a scan with one item in place of those from a height on
-abbrev laid : Scan → (h k r : ℕ) → Bool → (n f z : ℕ) → list.ListScan
+abbrev laid : ScanState → (h k r : ℕ) → Bool → (n f z : ℕ) → list.ListScan
 laid s h k r i n f z =
     record {
-      stack = record { kind = k; reach = r } ∷ stackOf (s .kinds) (s .reaches) h;
+      stack = record { kind = k; reach = r } ∷ stackOf (s .items) h;
       inside = i;
       ends = endsOf (s .ends) (s .forked);
       place = s .place;
@@ -90,20 +89,20 @@ laid s h k r i n f z =
       size = s .size + z;
     }
 
-pub bad-viewed : (s : Scan) → viewed (bad s) ≡ foreign
+pub bad-viewed : (s : ScanState) → viewed (bad s) ≡ foreign
 unfolding bad
 bad-viewed s = refl
 
-pub good-viewed : (s : Scan) → s .good ≡ true → viewed s ≡ done (view s)
+pub good-viewed : (s : ScanState) → s .good ≡ true → viewed s ≡ done (view s)
 good-viewed s g = ap (λ (b : Bool). ifGood b (view s)) g
 
-module _ (s : Scan) (g : s .good ≡ true) (fit : GoodScan s) where
+module _ (s : ScanState) (g : s .good ≡ true) (fit : GoodScan s) where
   set-viewed : (h k r : ℕ) (i : Bool) (n f z : ℕ) → ItemRoom h r → viewed (setTo s h k r i n f z) ≡ bounded (laid s h k r i n f z) r
   unfolding setTo itemPut
   set-viewed h k r i n f z room = deep (decLt 64 r)
     where
       kept : r ≤ 64 → viewed (itemPut s h k r i n f z) ≡ done (laid s h k r i n f z)
-      kept l = good-viewed (itemPut s h k r i n f z) g ∙ ap done (ap (λ (m : List ScanItem). record { stack = m; inside = i; ends = endsOf (s .ends) (s .forked); place = s .place; nodes = s .nodes + n; forks = s .forks + f; size = s .size + z }) (stack-push (s .kinds) (s .reaches) h k r (omega (arith, fit .kinds, room l)) (omega (arith, fit .reaches, room l))))
+      kept l = good-viewed (itemPut s h k r i n f z) g ∙ ap done (ap (λ (m : List ScanItem). record { stack = m; inside = i; ends = endsOf (s .ends) (s .forked); place = s .place; nodes = s .nodes + n; forks = s .forks + f; size = s .size + z }) (stack-push (s .items) h k r (room l) (fit .items)))
 
       forked : r ≤ 64 → s .nodes + n ≤ 1000 → Dec (15 < s .forks + f) → viewed (setTo s h k r i n f z) ≡ bounded (laid s h k r i n f z) r
       forked l m (yes q) = rw (le-ltb 64 r l, le-ltb 1000 (s .nodes + n) m, lt-ltb 15 (s .forks + f) q, le-leb r 64 l, le-leb (s .nodes + n) 1000 m, lt-leb (s .forks + f) 15 q) (bad-viewed s)
@@ -122,44 +121,44 @@ module _ (s : Scan) (g : s .good ≡ true) (fit : GoodScan s) where
   top-viewed : (k : ℕ) (i : Bool) (f z : ℕ) → viewed (topTo s k i f z) ≡ topped (view s) k i f z
   unfolding topTo
   top-viewed k i f z =
-      let e : s .height + 1 ≡ suc (length (stackOf (s .kinds) (s .reaches) (s .height))) = omega (arith, stack-length (s .kinds) (s .reaches) (s .height)) in
+      let e : s .height + 1 ≡ suc (length (stackOf (s .items) (s .height))) = omega (arith, stack-length (s .items) (s .height)) in
       set-viewed (s .height) k (s .height + 1) i 1 f z (λ l. omega arith) ∙ ap (λ (r : ℕ). bounded (laid s (s .height) k r i 1 f z) r) e
 
   -- items become one, with no FORK more
-  merge-viewed : (h k r : ℕ) (i : Bool) (n z : ℕ) → h < 64 → viewed (setTo s h k r i n 0 z) ≡ merged (view s) k r (stackOf (s .kinds) (s .reaches) h) i n z
+  merge-viewed : (h k r : ℕ) (i : Bool) (n z : ℕ) → h < 64 → viewed (setTo s h k r i n 0 z) ≡ merged (view s) k r (stackOf (s .items) h) i n z
   merge-viewed h k r i n z l =
       let e : s .forks + 0 ≡ s .forks = omega arith in
-      set-viewed h k r i n 0 z (λ _. l) ∙ ap (λ (f : ℕ). bounded (record { stack = record { kind = k; reach = r } ∷ stackOf (s .kinds) (s .reaches) h; inside = i; ends = endsOf (s .ends) (s .forked); place = s .place; nodes = s .nodes + n; forks = f; size = s .size + z }) r) e
+      set-viewed h k r i n 0 z (λ _. l) ∙ ap (λ (f : ℕ). bounded (record { stack = record { kind = k; reach = r } ∷ stackOf (s .items) h; inside = i; ends = endsOf (s .ends) (s .forked); place = s .place; nodes = s .nodes + n; forks = f; size = s .size + z }) r) e
 
   -- the two topmost items, and the topmost
   abbrev pub on-two : (ScanItem → ScanItem → List ScanItem → Outcome list.ListScan) → Outcome list.ListScan
-  on-two f = f (at-index (s .kinds) (s .reaches) (s .height - 1)) (at-index (s .kinds) (s .reaches) (s .height - 2)) (stackOf (s .kinds) (s .reaches) (s .height - 2))
+  on-two f = f (at-index (s .items) (s .height - 1)) (at-index (s .items) (s .height - 2)) (stackOf (s .items) (s .height - 2))
 
-  pub two-top : (f : ScanItem → ScanItem → List ScanItem → Outcome list.ListScan) → 2 ≤ s .height → twoTop (view s) (stackOf (s .kinds) (s .reaches) (s .height)) f ≡ on-two f
-  two-top f h = ap (λ (m : List ScanItem). twoTop (view s) m f) (stack-two (s .kinds) (s .reaches) (s .height) h)
+  pub two-top : (f : ScanItem → ScanItem → List ScanItem → Outcome list.ListScan) → 2 ≤ s .height → twoTop (view s) (stackOf (s .items) (s .height)) f ≡ on-two f
+  two-top f h = ap (λ (m : List ScanItem). twoTop (view s) m f) (stack-two (s .items) (s .height) h)
 
-  pub two-low : (f : ScanItem → ScanItem → List ScanItem → Outcome list.ListScan) → s .height < 2 → twoTop (view s) (stackOf (s .kinds) (s .reaches) (s .height)) f ≡ foreign
+  pub two-low : (f : ScanItem → ScanItem → List ScanItem → Outcome list.ListScan) → s .height < 2 → twoTop (view s) (stackOf (s .items) (s .height)) f ≡ foreign
   unfolding stackOf
   two-low f h = few (s .height) h
     where
-      few : (n : ℕ) → n < 2 → twoTop (view s) (stackOf (s .kinds) (s .reaches) n) f ≡ foreign
+      few : (n : ℕ) → n < 2 → twoTop (view s) (stackOf (s .items) n) f ≡ foreign
       few zero l = refl
       few (suc zero) l = refl
       few (suc (suc n)) l = absurd (omega arith)
 
-  pub one-top : (f : ScanItem → List ScanItem → Outcome list.ListScan) → 1 ≤ s .height → oneTop (view s) (stackOf (s .kinds) (s .reaches) (s .height)) f ≡ f (at-index (s .kinds) (s .reaches) (s .height - 1)) (stackOf (s .kinds) (s .reaches) (s .height - 1))
-  one-top f h = ap (λ (m : List ScanItem). oneTop (view s) m f) (stack-one (s .kinds) (s .reaches) (s .height) h)
+  pub one-top : (f : ScanItem → List ScanItem → Outcome list.ListScan) → 1 ≤ s .height → oneTop (view s) (stackOf (s .items) (s .height)) f ≡ f (at-index (s .items) (s .height - 1)) (stackOf (s .items) (s .height - 1))
+  one-top f h = ap (λ (m : List ScanItem). oneTop (view s) m f) (stack-one (s .items) (s .height) h)
 
-  pub one-low : (f : ScanItem → List ScanItem → Outcome list.ListScan) → s .height < 1 → oneTop (view s) (stackOf (s .kinds) (s .reaches) (s .height)) f ≡ foreign
+  pub one-low : (f : ScanItem → List ScanItem → Outcome list.ListScan) → s .height < 1 → oneTop (view s) (stackOf (s .items) (s .height)) f ≡ foreign
   unfolding stackOf
   one-low f h = few (s .height) h
     where
-      few : (n : ℕ) → n < 1 → oneTop (view s) (stackOf (s .kinds) (s .reaches) n) f ≡ foreign
+      few : (n : ℕ) → n < 1 → oneTop (view s) (stackOf (s .items) n) f ≡ foreign
       few zero l = refl
       few (suc n) l = absurd (omega arith)
 
   -- a scan that is bad, where the lists are foreign
-  pub both-bad : {r : Scan} {o : Outcome list.ListScan} → bad s ≡ r → o ≡ foreign → viewed r ≡ o
+  pub both-bad : {r : ScanState} {o : Outcome list.ListScan} → bad s ≡ r → o ≡ foreign → viewed r ≡ o
   both-bad e f = ap viewed (sym e) ∙ (bad-viewed s ∙ sym f)
 
   abbrev of-add : ScanItem → ScanItem → List ScanItem → Outcome list.ListScan
@@ -179,7 +178,7 @@ module _ (s : Scan) (g : s .good ≡ true) (fit : GoodScan s) where
       parts h (yes k) = both-bad (add-part s h k) (rw (lt-leb 2 (kindAt s 2) k))
       parts h (no k) = alike h (omega arith) (ℕ-discrete (kindAt s 1) (kindAt s 2))
 
-      height : Dec (s .height < 2) → viewed (addTo s) ≡ twoTop (view s) (stackOf (s .kinds) (s .reaches) (s .height)) of-add
+      height : Dec (s .height < 2) → viewed (addTo s) ≡ twoTop (view s) (stackOf (s .items) (s .height)) of-add
       height (yes h) = both-bad (add-low s h) (two-low of-add h)
       height (no h) = parts (omega arith) (decLt (kindAt s 2) 2) ∙ sym (two-top of-add (omega arith))
 
@@ -187,28 +186,28 @@ module _ (s : Scan) (g : s .good ≡ true) (fit : GoodScan s) where
   of-write a below = refuse (not (s .inside && eqb (a .kind) 3)) 11 0 (merged (view s) 3 (suc (a .reach)) below true 1 2)
 
   abbrev written-one : Outcome list.ListScan
-  written-one = merged (view s) 3 (suc (reachAt s 1)) (stackOf (s .kinds) (s .reaches) (s .height - 1)) true 1 2
+  written-one = merged (view s) 3 (suc (reachAt s 1)) (stackOf (s .items) (s .height - 1)) true 1 2
 
   write-viewed : (v : ℕ) → viewed (writeTo s) ≡ scanOp (write v) (view s)
   unfolding scanOp
   write-viewed v = height (decLt (s .height) 1)
     where
-      kind : 1 ≤ s .height → s .inside ≡ true → Dec (kindAt s 1 ≡ 3) → viewed (writeTo s) ≡ of-write (at-index (s .kinds) (s .reaches) (s .height - 1)) (stackOf (s .kinds) (s .reaches) (s .height - 1))
+      kind : 1 ≤ s .height → s .inside ≡ true → Dec (kindAt s 1 ≡ 3) → viewed (writeTo s) ≡ of-write (at-index (s .items) (s .height - 1)) (stackOf (s .items) (s .height - 1))
       kind h i (yes e) =
           let r : reachAt s 1 + 1 ≡ suc (reachAt s 1) = omega arith in
-          ap viewed (sym (write-done s h i e)) ∙ (merge-viewed (s .height - 1) 3 (reachAt s 1 + 1) true 1 2 (omega (arith, fit .low)) ∙ (ap (λ (m : ℕ). merged (view s) 3 m (stackOf (s .kinds) (s .reaches) (s .height - 1)) true 1 2) r ∙ sym (passes (both-true i (eq-eqb (kindAt s 1) 3 e)))))
+          ap viewed (sym (write-done s h i e)) ∙ (merge-viewed (s .height - 1) 3 (reachAt s 1 + 1) true 1 2 (omega (arith, fit .low)) ∙ (ap (λ (m : ℕ). merged (view s) 3 m (stackOf (s .items) (s .height - 1)) true 1 2) r ∙ sym (passes (both-true i (eq-eqb (kindAt s 1) 3 e)))))
       kind h i (no n) = both-bad (write-other s h i n) (fails written-one (right-false (s .inside) (ne-eqb (kindAt s 1) 3 n)))
 
-      inside : 1 ≤ s .height → (b : Bool) → s .inside ≡ b → viewed (writeTo s) ≡ of-write (at-index (s .kinds) (s .reaches) (s .height - 1)) (stackOf (s .kinds) (s .reaches) (s .height - 1))
+      inside : 1 ≤ s .height → (b : Bool) → s .inside ≡ b → viewed (writeTo s) ≡ of-write (at-index (s .items) (s .height - 1)) (stackOf (s .items) (s .height - 1))
       inside h true i = kind h i (ℕ-discrete (kindAt s 1) 3)
       inside h false i = both-bad (write-outside s h i) (fails written-one (left-false (eqb (kindAt s 1) 3) i))
 
-      height : Dec (s .height < 1) → viewed (writeTo s) ≡ oneTop (view s) (stackOf (s .kinds) (s .reaches) (s .height)) of-write
+      height : Dec (s .height < 1) → viewed (writeTo s) ≡ oneTop (view s) (stackOf (s .items) (s .height)) of-write
       height (yes h) = both-bad (write-low s h) (one-low of-write h)
       height (no h) = inside (omega arith) (s .inside) refl ∙ sym (one-top of-write (omega arith))
 
   abbrev committed-two : Outcome list.ListScan
-  committed-two = merged (view s) 2 (reachAt s 1) (stackOf (s .kinds) (s .reaches) (s .height - 2)) false 0 0
+  committed-two = merged (view s) 2 (reachAt s 1) (stackOf (s .items) (s .height - 2)) false 0 0
 
   abbrev of-commit : ScanItem → ScanItem → List ScanItem → Outcome list.ListScan
   of-commit t b below = refuse (not (s .inside && (eqb (t .kind) 3 && eqb (b .kind) 0))) 11 0 (merged (view s) 2 (t .reach) below false 0 0)
@@ -230,16 +229,16 @@ module _ (s : Scan) (g : s .good ≡ true) (fit : GoodScan s) where
       inside h true i = above h i (ℕ-discrete (kindAt s 1) 3)
       inside h false i = both-bad (commit-outside s h i) (fails committed-two (left-false (eqb (kindAt s 1) 3 && eqb (kindAt s 2) 0) i))
 
-      height : Dec (s .height < 2) → viewed (commitTo s) ≡ twoTop (view s) (stackOf (s .kinds) (s .reaches) (s .height)) of-commit
+      height : Dec (s .height < 2) → viewed (commitTo s) ≡ twoTop (view s) (stackOf (s .items) (s .height)) of-commit
       height (yes h) = both-bad (commit-low s h) (two-low of-commit h)
       height (no h) = inside (omega arith) (s .inside) refl ∙ sym (two-top of-commit (omega arith))
 
 -- ---- one instruction
 
-abbrev forked-of : Scan → ℕ
+abbrev forked-of : ScanState → ℕ
 forked-of t = t .forked
 
-abbrev ends-of : Scan → List ℕ
+abbrev ends-of : ScanState → List ℕ
 ends-of t = t .ends
 
 ends-set : (e : List ℕ) (n m v : ℕ) → n ≤ m → endsOf (set e m v) n ≡ endsOf e n
@@ -258,7 +257,7 @@ on-good : (b : Bool) (v w : list.ListScan) (f : list.ListScan → list.ListScan)
 on-good true v w f e = ap done e
 on-good false v w f e = refl
 
-module _ (t : Scan) where
+module _ (t : ScanState) where
   push-moved : (n : ℤ) → viewed (movedTo t 5) ≡ mapped (movedPast (push n)) (viewed t)
   unfolding movedTo movedPast
   push-moved n = on-good (t .good) (view t) (view (movedTo t 5)) (movedPast (push n)) refl
@@ -283,16 +282,16 @@ module _ (t : Scan) where
   unfolding movedTo movedPast
   commit-moved = on-good (t .good) (view t) (view (movedTo t 1)) (movedPast commit) refl
 
-  fork-moved : (n : ℕ) → (t .good ≡ true → t .forked < length (t .ends)) → viewed (forkTo t n) ≡ mapped (movedPast (fork n)) (viewed t)
-  unfolding forkTo opened movedPast
+  fork-moved : (n : ℕ) → (t .good ≡ true → t .forked < length (t .ends)) → viewed (enterTo t n) ≡ mapped (movedPast (fork n)) (viewed t)
+  unfolding enterTo opened movedPast
   fork-moved n room = go (t .good) refl
     where
-      go : (b : Bool) → t .good ≡ b → viewed (forkTo t n) ≡ mapped (movedPast (fork n)) (viewed t)
+      go : (b : Bool) → t .good ≡ b → viewed (enterTo t n) ≡ mapped (movedPast (fork n)) (viewed t)
       go true g =
-          ap viewed (sym (fork-done t n g)) ∙ (on-good (t .good) (view t) (view (opened t n)) (movedPast (fork n)) (ap (λ (e : List ℕ). record { stack = stackOf (t .kinds) (t .reaches) (t .height); inside = t .inside; ends = e; place = t .place + 3; nodes = t .nodes; forks = t .forks; size = t .size }) (ends-push (t .ends) (t .forked) (t .place + 3 + n) (room g))))
-      go false g = ap viewed (sym (fork-bad t n g)) ∙ (ap (λ (b : Bool). ifGood b (view t)) g ∙ ap (λ (b : Bool). mapped (movedPast (fork n)) (ifGood b (view t))) (sym g))
+          ap viewed (sym (enter-done t n g)) ∙ (on-good (t .good) (view t) (view (opened t n)) (movedPast (fork n)) (ap (λ (e : List ℕ). record { stack = stackOf (t .items) (t .height); inside = t .inside; ends = e; place = t .place + 3; nodes = t .nodes; forks = t .forks; size = t .size }) (ends-push (t .ends) (t .forked) (t .place + 3 + n) (room g))))
+      go false g = ap viewed (sym (enter-bad t n g)) ∙ (ap (λ (b : Bool). ifGood b (view t)) g ∙ ap (λ (b : Bool). mapped (movedPast (fork n)) (ifGood b (view t))) (sym g))
 
-module _ (s : Scan) (g : s .good ≡ true) (fit : GoodScan s) where
+module _ (s : ScanState) (g : s .good ≡ true) (fit : GoodScan s) where
   pub step-viewed : (o : Op) → viewed (stepTo s (showOp o)) ≡ mapped (movedPast o) (scanOp o (view s))
   unfolding stepTo scanOp
   step-viewed (push n) = go (s .inside) refl
@@ -322,7 +321,7 @@ module _ (s : Scan) (g : s .good ≡ true) (fit : GoodScan s) where
       room : topTo s 1 false 1 1 .good ≡ true → topTo s 1 false 1 1 .forked < length (topTo s 1 false 1 1 .ends)
       room h = omega (arith, top-forked s 1 false 1 1 h, top-few s 1 false 1 1 h, ap length (top-ends s 1 false 1 1 h), fit .ends, fit .some)
 
-      go : (b : Bool) → s .inside ≡ b → viewed (cond (s .inside) (bad s) (forkTo (topTo s 1 false 1 1) n)) ≡ mapped (movedPast (fork n)) (refuse (s .inside) 11 0 (topped (view s) 1 false 1 1))
+      go : (b : Bool) → s .inside ≡ b → viewed (cond (s .inside) (bad s) (enterTo (topTo s 1 false 1 1) n)) ≡ mapped (movedPast (fork n)) (refuse (s .inside) 11 0 (topped (view s) 1 false 1 1))
       go true i = ap viewed (sym (when-true (s .inside) _ _ i)) ∙ (bad-viewed s ∙ ap (λ (b : Bool). mapped (movedPast (fork n)) (refuse b 11 0 (topped (view s) 1 false 1 1))) (sym i))
       go false i =
           ap viewed (sym (when-false (s .inside) _ _ i)) ∙ (fork-moved (topTo s 1 false 1 1) n room ∙ (ap (mapped (movedPast (fork n))) (top-viewed s g fit 1 false 1 1) ∙ ap (λ (b : Bool). mapped (movedPast (fork n)) (refuse b 11 0 (topped (view s) 1 false 1 1))) (sym i)))

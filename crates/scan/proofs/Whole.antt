@@ -10,7 +10,7 @@ use Rattle.scan.specs.declared.Scan.{Scan}
 use Rattle.scan.specs.declared.Scanned.{Scanned}
 use Rattle.scan.specs.declared.Scanned.the-variants as scanned
 use Rattle.scan.specs.Answer.{told}
-use Rattle.scan.specs.InnerView.{view, ifGood, viewed}
+use Rattle.scan.specs.InnerView.{ScanState, state, view, ifGood, viewed, Followed}
 use Rattle.code.specs.Bytes.{IsCode}
 use Rattle.code.specs.Ops.{foreign}
 use Rattle.code.specs.Reader.{codeMarked, readCode}
@@ -78,19 +78,22 @@ module _ (code : List ℕ) (bytes : Bytes code) where
       unfolding readCode taken
       bad-version n = rw (le-ltb (length code) 5 long, mark, ne-eqb (number16 code 3) 1 n)
 
-      module _ (version : number16 code 3 ≡ 1) (s : Scan) (v : viewed s ≡ scanOps (suc (length (drop 5 code))) scanStart (drop 5 code)) where
-        whole : mapped (λ (t : list.ListScan). record { version = number16 code 3; nodes = t .nodes; size = t .size }) (viewed s) ≡ scanCode code
+      module _ (version : number16 code 3 ≡ 1) (s : Scan) (v : Followed (drop 5 code) s) where
+        abbrev full : ScanState
+        full = state s (v .items) (v .ends)
+
+        whole : mapped (λ (t : list.ListScan). record { version = number16 code 3; nodes = t .nodes; size = t .size }) (viewed full) ≡ scanCode code
         unfolding scanCode taken
         whole =
             let f : scanOps (suc (length (drop 5 code))) scanStart (drop 5 code) ≡ scanOps (suc (length code)) scanStart (drop 5 code) = scan-fuel (suc (length (drop 5 code))) (suc (length code)) scanStart (drop 5 code) (omega arith) (omega (arith, length-drop 5 code)) in
-            rw (le-ltb (length code) 5 long, mark, eq-eqb (number16 code 3) 1 version) (ap (mapped (λ (t : list.ListScan). record { version = number16 code 3; nodes = t .nodes; size = t .size })) (v ∙ f))
+            rw (le-ltb (length code) 5 long, mark, eq-eqb (number16 code 3) 1 version) (ap (mapped (λ (t : list.ListScan). record { version = number16 code 3; nodes = t .nodes; size = t .size })) (v .same ∙ f))
 
         pub is-foreign : s .good ≡ false → scanned.Refused 11 0 ≡ told (readCode code)
         is-foreign b =
-            let w : viewed s ≡ foreign = ap (λ (t : Bool). ifGood t (view s)) b in
+            let w : viewed full ≡ foreign = ap (λ (t : Bool). ifGood t (view full)) b in
             ap (λ (o : Outcome list.ListScan). summed (mapped (λ (t : list.ListScan). record { version = number16 code 3; nodes = t .nodes; size = t .size }) o)) (sym w) ∙ (ap summed whole ∙ told-is code)
 
         pub is-job : s .good ≡ true → scanned.Job (number16 code 3) (s .nodes) (s .size) ≡ told (readCode code)
         is-job b =
-            let w : viewed s ≡ done (view s) = ap (λ (t : Bool). ifGood t (view s)) b in
+            let w : viewed full ≡ done (view full) = ap (λ (t : Bool). ifGood t (view full)) b in
             ap (λ (o : Outcome list.ListScan). summed (mapped (λ (t : list.ListScan). record { version = number16 code 3; nodes = t .nodes; size = t .size }) o)) (sym w) ∙ (ap summed whole ∙ told-is code)

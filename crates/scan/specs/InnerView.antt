@@ -13,19 +13,47 @@ use Rattle.code.specs.InnerScan.{ScanItem}
 use Rattle.code.specs.InnerScan as list
 use Rattle.script.specs.Outcome.{Outcome, done}
 
+-- the whole scan: the numbers that the code's `Scan` has, and the two arrays beside them
+pub record ScanState : Type 0 where
+  pub items : List ℕ
+  pub height : ℕ
+  pub ends : List ℕ
+  pub forked : ℕ
+  pub inside : Bool
+  pub place : ℕ
+  pub nodes : ℕ
+  pub forks : ℕ
+  pub size : ℕ
+  pub good : Bool
+
+abbrev pub state : Scan → (items ends : List ℕ) → ScanState
+state s items ends =
+    record {
+      items = items;
+      height = s .height;
+      ends = ends;
+      forked = s .forked;
+      inside = s .inside;
+      place = s .place;
+      nodes = s .nodes;
+      forks = s .forks;
+      size = s .size;
+      good = s .good;
+    }
+
 -- the stack, the topmost item first, and the ends of the open FORKs' children, the innermost first
-unfoldable pub stackOf : List ℕ → List ℕ → ℕ → List ScanItem
-stackOf kinds reaches zero = []
-stackOf kinds reaches (suc n) = record { kind = getD kinds n 0; reach = getD reaches n 0 } ∷ stackOf kinds reaches n
+unfoldable pub stackOf : List ℕ → ℕ → List ScanItem
+stackOf items zero = []
+stackOf items (suc n) = record { kind = getD items n 0; reach = getD items (64 + n) 0 } ∷ stackOf items n
 
 unfoldable pub endsOf : List ℕ → ℕ → List ℕ
 endsOf ends zero = []
 endsOf ends (suc n) = getD ends n 0 ∷ endsOf ends n
 
-abbrev pub view : Scan → list.ListScan
+abbrev pub view : ScanState → list.ListScan
 view s =
     record {
-      stack = stackOf (s .kinds) (s .reaches) (s .height);
+      stack = stackOf (s .items) (s .height);
       inside = s .inside;
       ends = endsOf (s .ends) (s .forked);
       place = s .place;
@@ -38,7 +66,7 @@ abbrev pub ifGood : Bool → list.ListScan → Outcome list.ListScan
 ifGood true s = done s
 ifGood false s = foreign
 
-abbrev pub viewed : Scan → Outcome list.ListScan
+abbrev pub viewed : ScanState → Outcome list.ListScan
 viewed s = ifGood (s .good) (view s)
 
 -- a FORK's length is one of 16 bits
@@ -55,10 +83,18 @@ ShortFork op.Foreign = Unit {0}
 -- ---- what each function makes of a scan
 
 -- what holds of every scan that is good
-pub record GoodScan (s : Scan) : Type 0 where
-  pub kinds : length (s .kinds) ≡ 64
-  pub reaches : length (s .reaches) ≡ 64
+pub record GoodScan (s : ScanState) : Type 0 where
+  pub items : length (s .items) ≡ 128
   pub ends : length (s .ends) ≡ 15
+  pub low : s .height ≤ 64
+  pub some : s .forked ≤ s .forks
+  pub few : s .forks ≤ 15
+  pub noded : s .nodes ≤ 1000
+  pub sized : s .size ≤ 7 + 5 * s .nodes
+  pub early : s .place ≤ 5005
+
+-- what holds of its numbers
+pub record Limits (s : Scan) : Type 0 where
   pub low : s .height ≤ 64
   pub some : s .forked ≤ s .forks
   pub few : s .forks ≤ 15
@@ -70,11 +106,10 @@ pub record GoodScan (s : Scan) : Type 0 where
 abbrev pub ItemRoom : ℕ → ℕ → Type 0
 ItemRoom height reach = reach ≤ 64 → height < 64
 
-unfoldable pub emptyScan : Scan
+unfoldable pub emptyScan : ScanState
 emptyScan =
     record {
-      kinds = replicate 64 0;
-      reaches = replicate 64 0;
+      items = replicate 128 0;
       height = 0;
       ends = replicate 15 0;
       forked = 0;
@@ -86,11 +121,10 @@ emptyScan =
       good = true;
     }
 
-unfoldable pub bad : Scan → Scan
+unfoldable pub bad : ScanState → ScanState
 bad s =
     record {
-      kinds = s .kinds;
-      reaches = s .reaches;
+      items = s .items;
       height = s .height;
       ends = s .ends;
       forked = s .forked;
@@ -103,11 +137,10 @@ bad s =
     }
 
 -- the items from a height on become one
-unfoldable pub itemPut : Scan → (height kind reach : ℕ) → Bool → (nodes forks size : ℕ) → Scan
+unfoldable pub itemPut : ScanState → (height kind reach : ℕ) → Bool → (nodes forks size : ℕ) → ScanState
 itemPut s height kind reach inside nodes forks size =
     record {
-      kinds = set (s .kinds) height kind;
-      reaches = set (s .reaches) height reach;
+      items = set (set (s .items) height kind) (64 + height) reach;
       height = height + 1;
       ends = s .ends;
       forked = s .forked;
@@ -119,7 +152,7 @@ itemPut s height kind reach inside nodes forks size =
       good = s .good;
     }
 
-unfoldable pub setTo : Scan → (height kind reach : ℕ) → Bool → (nodes forks size : ℕ) → Scan
+unfoldable pub setTo : ScanState → (height kind reach : ℕ) → Bool → (nodes forks size : ℕ) → ScanState
 setTo s height kind reach inside nodes forks size =
     cond
     (ltb 64 reach)
@@ -129,17 +162,17 @@ setTo s height kind reach inside nodes forks size =
     (bad s)
     (cond (ltb 15 (s .forks + forks)) (bad s) (itemPut s height kind reach inside nodes forks size)))
 
-unfoldable pub topTo : Scan → (kind : ℕ) → Bool → (forks size : ℕ) → Scan
+unfoldable pub topTo : ScanState → (kind : ℕ) → Bool → (forks size : ℕ) → ScanState
 topTo s kind inside forks size = setTo s (s .height) kind (s .height + 1) inside 1 forks size
 
 -- the kind and the reach of the item so many below the stack's height
-abbrev pub kindAt : Scan → ℕ → ℕ
-kindAt s i = getD (s .kinds) (s .height - i) 0
+abbrev pub kindAt : ScanState → ℕ → ℕ
+kindAt s i = getD (s .items) (s .height - i) 0
 
-abbrev pub reachAt : Scan → ℕ → ℕ
-reachAt s i = getD (s .reaches) (s .height - i) 0
+abbrev pub reachAt : ScanState → ℕ → ℕ
+reachAt s i = getD (s .items) (64 + (s .height - i)) 0
 
-unfoldable pub addTo : Scan → Scan
+unfoldable pub addTo : ScanState → ScanState
 addTo s =
     cond
     (ltb (s .height) 2)
@@ -152,7 +185,7 @@ addTo s =
     (setTo s (s .height - 2) (kindAt s 2) (max (reachAt s 2 + 1) (reachAt s 1)) (s .inside) 1 0 1)
     (bad s)))
 
-unfoldable pub writeTo : Scan → Scan
+unfoldable pub writeTo : ScanState → ScanState
 writeTo s =
     cond
     (ltb (s .height) 1)
@@ -162,7 +195,7 @@ writeTo s =
     (cond (eqb (kindAt s 1) 3) (setTo s (s .height - 1) 3 (reachAt s 1 + 1) true 1 0 2) (bad s))
     (bad s))
 
-unfoldable pub commitTo : Scan → Scan
+unfoldable pub commitTo : ScanState → ScanState
 commitTo s =
     cond
     (ltb (s .height) 2)
@@ -176,11 +209,10 @@ commitTo s =
     (bad s))
 
 -- a FORK's child has ended
-unfoldable pub joined : Scan → Scan
+unfoldable pub joined : ScanState → ScanState
 joined s =
     record {
-      kinds = set (s .kinds) (s .height - 2) 2;
-      reaches = set (s .reaches) (s .height - 2) (reachAt s 1);
+      items = set (set (s .items) (s .height - 2) 2) (64 + (s .height - 2)) (reachAt s 1);
       height = s .height - 1;
       ends = s .ends;
       forked = s .forked - 1;
@@ -192,18 +224,17 @@ joined s =
       good = s .good;
     }
 
-unfoldable pub closeTo : Scan → Scan
+unfoldable pub closeTo : ScanState → ScanState
 closeTo s =
     cond
     (ltb (s .height) 2)
     (bad s)
     (cond (eqb (kindAt s 1) 2) (cond (eqb (kindAt s 2) 1) (joined s) (bad s)) (bad s))
 
-unfoldable pub movedTo : Scan → ℕ → Scan
+unfoldable pub movedTo : ScanState → ℕ → ScanState
 movedTo s size =
     record {
-      kinds = s .kinds;
-      reaches = s .reaches;
+      items = s .items;
       height = s .height;
       ends = s .ends;
       forked = s .forked;
@@ -215,11 +246,10 @@ movedTo s size =
       good = s .good;
     }
 
-unfoldable pub opened : Scan → ℕ → Scan
+unfoldable pub opened : ScanState → ℕ → ScanState
 opened s size =
     record {
-      kinds = s .kinds;
-      reaches = s .reaches;
+      items = s .items;
       height = s .height;
       ends = set (s .ends) (s .forked) (s .place + 3 + size);
       forked = s .forked + 1;
@@ -231,25 +261,43 @@ opened s size =
       good = s .good;
     }
 
-unfoldable pub forkTo : Scan → ℕ → Scan
-forkTo s size = cond (s .good) (opened s size) s
+unfoldable pub enterTo : ScanState → ℕ → ScanState
+enterTo s size = cond (s .good) (opened s size) s
 
-unfoldable pub stepTo : Scan → Op → Scan
-stepTo s (op.Push n) = cond (s .inside) (movedTo (topTo s 3 true 0 5) 5) (movedTo (topTo s 2 false 0 5) 5)
+abbrev pub pushTo : ScanState → ScanState
+pushTo s = cond (s .inside) (movedTo (topTo s 3 true 0 5) 5) (movedTo (topTo s 2 false 0 5) 5)
+
+abbrev pub readTo : ScanState → ScanState
+readTo s = cond (s .inside) (movedTo (topTo s 3 true 0 2) 2) (bad s)
+
+abbrev pub beginTo : ScanState → ScanState
+beginTo s = cond (s .inside) (bad s) (movedTo (topTo s 0 true 0 1) 1)
+
+abbrev pub forkTo : ScanState → ℕ → ScanState
+forkTo s size = cond (s .inside) (bad s) (enterTo (topTo s 1 false 1 1) size)
+
+unfoldable pub stepTo : ScanState → Op → ScanState
+stepTo s (op.Push n) = pushTo s
 stepTo s op.Add = movedTo (addTo s) 1
-stepTo s (op.Read v) = cond (s .inside) (movedTo (topTo s 3 true 0 2) 2) (bad s)
+stepTo s (op.Read v) = readTo s
 stepTo s (op.Write v) = movedTo (writeTo s) 2
-stepTo s op.Begin = cond (s .inside) (bad s) (movedTo (topTo s 0 true 0 1) 1)
+stepTo s op.Begin = beginTo s
 stepTo s op.Commit = movedTo (commitTo s) 1
-stepTo s (op.Fork size) = cond (s .inside) (bad s) (forkTo (topTo s 1 false 1 1) size)
+stepTo s (op.Fork size) = forkTo s size
 stepTo s op.Foreign = bad s
 
-unfoldable pub finishTo : Scan → Scan
+unfoldable pub finishTo : ScanState → ScanState
 finishTo s =
-    cond (eqb (s .forked) 0) (cond (eqb (s .height) 1) (cond (eqb (getD (s .kinds) 0 0) 2) s (bad s)) (bad s)) (bad s)
+    cond (eqb (s .forked) 0) (cond (eqb (s .height) 1) (cond (eqb (getD (s .items) 0 0) 2) s (bad s)) (bad s)) (bad s)
 
 -- what `settle` makes of a scan: the children that end at its place are closed
-pub record Settled (s r : Scan) : Type 0 where
+pub record Settled (s r : ScanState) : Type 0 where
   pub same : viewed r ≡ list.closes (view s .ends) (view s)
   pub fit : r .good ≡ true → GoodScan r
   pub place : r .place ≡ s .place
+
+-- the scan's numbers, with some arrays beside them, are what the lists come to
+pub record Followed (bs : List ℕ) (s : Scan) : Type 0 where
+  pub items : List ℕ
+  pub ends : List ℕ
+  pub same : viewed (state s items ends) ≡ list.scanOps (suc (length bs)) list.scanStart bs

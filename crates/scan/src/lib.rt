@@ -1,13 +1,13 @@
 // Whether code is foreign, and what is known of the job that compiles to it: one pass over the code, with a stack of 64 items.
-ghost use Prim.Native.Nat.{_+_, _<_, _≤_, max, suc};
+ghost use Prim.Native.Nat.{ℕ, _+_, _<_, _≤_, max};
 ghost use lib.Dec.{eqb};
-ghost use lib.ListN.{drop, length};
+ghost use lib.ListN.{drop, length, replicate};
 ghost use mathlib.Core.Bool.{_&&_, true};
+ghost use mathlib.Core.List.{List};
 ghost use mathlib.Core.Path.{_≡_};
 ghost use Rattle.code.specs.Reader.{readCode};
 ghost use Rattle.scan.specs.Answer.{told};
-ghost use Rattle.code.specs.InnerScan.{scanOps, scanStart};
-ghost use Rattle.scan.specs.InnerView.{GoodScan, ItemRoom, Settled, ShortFork, addTo, bad, closeTo, commitTo, finishTo, forkTo, movedTo, setTo, emptyScan, stepTo, topTo, viewed, writeTo};
+ghost use Rattle.scan.specs.InnerView.{Followed, GoodScan, ItemRoom, Limits, Settled, ShortFork, addTo, bad, beginTo, closeTo, commitTo, finishTo, forkTo, movedTo, enterTo, pushTo, readTo, setTo, emptyScan, state, stepTo, topTo, writeTo};
 
 // What scanning code comes to.
 pub enum Scanned {
@@ -17,14 +17,12 @@ pub enum Scanned {
     Refused(u8, usize),
 }
 
-// How far the scan has come. An item of the stack is of kind 0, a BEGIN whose COMMIT is to come; 1, a FORK whose child's end is to
-// come; 2, a process; or 3, a transaction. Its reach is the depth that its deepest node has at least in the job. A scan that
-// is not `good` has met foreign code.
+// How far the scan has come: the numbers. Beside them go two arrays, which the loop's function holds and lends: `items`, the
+// stack, and `ends`, where the open FORKs' children end. An item of the stack has its kind at its index, and its reach 64
+// further on. Kind 0 is a BEGIN whose COMMIT is to come; 1, a FORK whose child's end is to come; 2, a process; 3, a transaction.
+// The reach is the depth that the item's deepest node has at least in the job. A scan that is not `good` has met foreign code.
 struct Scan {
-    kinds: [u8; 64],
-    reaches: [u8; 64],
     height: usize,
-    ends: [usize; 15],
     forked: usize,
     inside: bool,
     place: usize,
@@ -32,6 +30,13 @@ struct Scan {
     forks: usize,
     size: usize,
     good: bool,
+}
+
+// A byte as a number.
+fn wide(byte: u8) -> usize
+    ensures { λ r. ⌜ r ≡ byte ⌝ }
+{
+    byte as usize
 }
 
 // One level deeper.
@@ -54,13 +59,10 @@ fn greater(a: usize, b: usize) -> usize
 impl Scan {
     // Before the first instruction, behind the code's header of 5 bytes; the job has a header of 7.
     fn start() -> Scan
-        ensures { λ r. ⌜ r ≡ emptyScan ⌝ }
+        ensures { λ r. ⌜ state r (replicate 128 0) (replicate 15 0) ≡ emptyScan ⌝ }
     {
         Scan {
-            kinds: [0; 64],
-            reaches: [0; 64],
             height: 0,
-            ends: [0; 15],
             forked: 0,
             inside: false,
             place: 5,
@@ -73,7 +75,7 @@ impl Scan {
 
     // Foreign code was met.
     fn foreign(mut self) -> Scan
-        ensures { λ r. ⌜ r ≡ bad self ⌝ }
+        ensures { λ r. ⌜ ((k e : List ℕ) → state r k e ≡ bad (state self k e)) ⌝ }
     {
         self.good = false;
         self
@@ -82,6 +84,7 @@ impl Scan {
     // The items from a height on become one, with so many nodes, FORKs and bytes of the job more.
     fn set(
         mut self,
+        items: &mut [u8; 128],
         height: usize,
         kind: u8,
         reach: usize,
@@ -90,8 +93,8 @@ impl Scan {
         forks: usize,
         size: usize,
     ) -> Scan
-        requires { ⌜ GoodScan self × ItemRoom height reach × (nodes ≤ 1) × (forks ≤ 1) × (size ≤ 5) ⌝ }
-        ensures { λ r. ⌜ r ≡ setTo self height kind reach inside nodes forks size ⌝ }
+        requires { ⌜ Limits self × ItemRoom height reach × (nodes ≤ 1) × (forks ≤ 1) × (size ≤ 5) ⌝ }
+        ensures { λ r. ⌜ ((e : List ℕ) → state r (now (items .exit)) e ≡ setTo (state self (now (items .entry)) e) height kind reach inside nodes forks size) ⌝ }
     {
         if reach > 64 {
             return self.foreign();
@@ -105,8 +108,8 @@ impl Scan {
             return self.foreign();
         }
         let total = self.size + size;
-        self.kinds[height] = kind;
-        self.reaches[height] = reach as u8;
+        items[height] = kind;
+        items[64 + height] = reach as u8;
         self.height = height + 1;
         self.inside = inside;
         self.nodes = n;
@@ -116,18 +119,18 @@ impl Scan {
     }
 
     // A new item on top.
-    fn top(self, kind: u8, inside: bool, forks: usize, size: usize) -> Scan
-        requires { ⌜ GoodScan self × (forks ≤ 1) × (size ≤ 5) ⌝ }
-        ensures { λ r. ⌜ r ≡ topTo self kind inside forks size ⌝ }
+    fn top(self, items: &mut [u8; 128], kind: u8, inside: bool, forks: usize, size: usize) -> Scan
+        requires { ⌜ Limits self × (forks ≤ 1) × (size ≤ 5) ⌝ }
+        ensures { λ r. ⌜ ((e : List ℕ) → state r (now (items .exit)) e ≡ topTo (state self (now (items .entry)) e) kind inside forks size) ⌝ }
     {
         let height = self.height;
-        self.set(height, kind, height + 1, inside, 1, forks, size)
+        self.set(items, height, kind, height + 1, inside, 1, forks, size)
     }
 
     // ADD: the two topmost items are both processes or both transactions.
-    fn add(self) -> Scan
-        requires { ⌜ GoodScan self ⌝ }
-        ensures { λ r. ⌜ r ≡ addTo self ⌝ }
+    fn add(self, items: &mut [u8; 128]) -> Scan
+        requires { ⌜ Limits self ⌝ }
+        ensures { λ r. ⌜ ((e : List ℕ) → state r (now (items .exit)) e ≡ addTo (state self (now (items .entry)) e)) ⌝ }
     {
         let height = self.height;
         if height < 2 {
@@ -135,23 +138,23 @@ impl Scan {
         }
         let a = height - 2;
         let b = height - 1;
-        let kind = self.kinds[a];
+        let kind = items[a];
         if kind < 2 {
             return self.foreign();
         }
-        if self.kinds[b] != kind {
+        if items[b] != kind {
             return self.foreign();
         }
-        let low = deeper(self.reaches[a]);
-        let high = self.reaches[b] as usize;
+        let low = deeper(items[64 + a]);
+        let high = wide(items[64 + b]);
         let inside = self.inside;
-        self.set(a, kind, greater(low, high), inside, 1, 0, 1)
+        self.set(items, a, kind, greater(low, high), inside, 1, 0, 1)
     }
 
     // WRITE: the topmost item is a transaction.
-    fn write(self) -> Scan
-        requires { ⌜ GoodScan self ⌝ }
-        ensures { λ r. ⌜ r ≡ writeTo self ⌝ }
+    fn write(self, items: &mut [u8; 128]) -> Scan
+        requires { ⌜ Limits self ⌝ }
+        ensures { λ r. ⌜ ((e : List ℕ) → state r (now (items .exit)) e ≡ writeTo (state self (now (items .entry)) e)) ⌝ }
     {
         let height = self.height;
         if height < 1 {
@@ -161,17 +164,17 @@ impl Scan {
             return self.foreign();
         }
         let a = height - 1;
-        if self.kinds[a] != 3 {
+        if items[a] != 3 {
             return self.foreign();
         }
-        let reach = deeper(self.reaches[a]);
-        self.set(a, 3, reach, true, 1, 0, 2)
+        let reach = deeper(items[64 + a]);
+        self.set(items, a, 3, reach, true, 1, 0, 2)
     }
 
     // COMMIT: a transaction stands behind its BEGIN.
-    fn commit(self) -> Scan
-        requires { ⌜ GoodScan self ⌝ }
-        ensures { λ r. ⌜ r ≡ commitTo self ⌝ }
+    fn commit(self, items: &mut [u8; 128]) -> Scan
+        requires { ⌜ Limits self ⌝ }
+        ensures { λ r. ⌜ ((e : List ℕ) → state r (now (items .exit)) e ≡ commitTo (state self (now (items .entry)) e)) ⌝ }
     {
         let height = self.height;
         if height < 2 {
@@ -182,20 +185,20 @@ impl Scan {
         }
         let a = height - 2;
         let b = height - 1;
-        if self.kinds[b] != 3 {
+        if items[b] != 3 {
             return self.foreign();
         }
-        if self.kinds[a] != 0 {
+        if items[a] != 0 {
             return self.foreign();
         }
-        let reach = self.reaches[b] as usize;
-        self.set(a, 2, reach, false, 0, 0, 0)
+        let reach = wide(items[64 + b]);
+        self.set(items, a, 2, reach, false, 0, 0, 0)
     }
 
     // The end of a FORK's child: a process stands behind its FORK.
-    fn close(mut self) -> Scan
-        requires { ⌜ GoodScan self × (1 ≤ self .forked) ⌝ }
-        ensures { λ r. ⌜ r ≡ closeTo self ⌝ }
+    fn close(mut self, items: &mut [u8; 128]) -> Scan
+        requires { ⌜ Limits self × (1 ≤ self .forked) ⌝ }
+        ensures { λ r. ⌜ ((e : List ℕ) → state r (now (items .exit)) e ≡ closeTo (state self (now (items .entry)) e)) ⌝ }
     {
         let height = self.height;
         if height < 2 {
@@ -203,16 +206,16 @@ impl Scan {
         }
         let a = height - 2;
         let b = height - 1;
-        if self.kinds[b] != 2 {
+        if items[b] != 2 {
             return self.foreign();
         }
-        if self.kinds[a] != 1 {
+        if items[a] != 1 {
             return self.foreign();
         }
-        let reach = self.reaches[b];
+        let reach = items[64 + b];
         let forked = self.forked - 1;
-        self.kinds[a] = 2;
-        self.reaches[a] = reach;
+        items[a] = 2;
+        items[64 + a] = reach;
         self.height = b;
         self.forked = forked;
         self
@@ -221,7 +224,7 @@ impl Scan {
     // The next instruction is so many bytes further.
     fn moved(mut self, size: usize) -> Scan
         requires { ⌜ (self .place ≤ 5005) × (size ≤ 5) ⌝ }
-        ensures { λ r. ⌜ r ≡ movedTo self size ⌝ }
+        ensures { λ r. ⌜ ((k e : List ℕ) → state r k e ≡ movedTo (state self k e) size) ⌝ }
     {
         let place = self.place;
         self.place = place + size;
@@ -229,55 +232,78 @@ impl Scan {
     }
 
     // A FORK's child of so many bytes begins behind its three.
-    fn fork(mut self, size: usize) -> Scan
+    fn enter(mut self, ends: &mut [usize; 15], size: usize) -> Scan
         requires { ⌜ (self .place ≤ 5005) × (size ≤ 65535) × (self .good ≡ true → self .forked < 15) ⌝ }
-        ensures { λ r. ⌜ r ≡ forkTo self size ⌝ }
+        ensures { λ r. ⌜ ((k : List ℕ) → state r k (now (ends .exit)) ≡ enterTo (state self k (now (ends .entry))) size) ⌝ }
     {
         if !self.good {
             return self;
         }
         let forked = self.forked;
         let place = self.place + 3;
-        self.ends[forked] = place + size;
+        ends[forked] = place + size;
         self.forked = forked + 1;
         self.place = place;
         self
     }
 
-    // One instruction.
-    fn step(self, op: ops::Op) -> Scan
-        requires { ⌜ GoodScan self × ShortFork op ⌝ }
-        ensures { λ r. ⌜ r ≡ stepTo self op ⌝ }
+    // PUSH: a new process, or inside a transaction a new transaction.
+    fn push(self, items: &mut [u8; 128]) -> Scan
+        requires { ⌜ Limits self ⌝ }
+        ensures { λ r. ⌜ ((e : List ℕ) → state r (now (items .exit)) e ≡ pushTo (state self (now (items .entry)) e)) ⌝ }
     {
-        let inside = self.inside;
+        if self.inside {
+            return self.top(items, 3, true, 0, 5).moved(5);
+        }
+        self.top(items, 2, false, 0, 5).moved(5)
+    }
+
+    // READ: a new transaction, inside one.
+    fn read(self, items: &mut [u8; 128]) -> Scan
+        requires { ⌜ Limits self ⌝ }
+        ensures { λ r. ⌜ ((e : List ℕ) → state r (now (items .exit)) e ≡ readTo (state self (now (items .entry)) e)) ⌝ }
+    {
+        if self.inside {
+            return self.top(items, 3, true, 0, 2).moved(2);
+        }
+        self.foreign()
+    }
+
+    // BEGIN: a transaction begins, outside any.
+    fn begin(self, items: &mut [u8; 128]) -> Scan
+        requires { ⌜ Limits self ⌝ }
+        ensures { λ r. ⌜ ((e : List ℕ) → state r (now (items .exit)) e ≡ beginTo (state self (now (items .entry)) e)) ⌝ }
+    {
+        if self.inside {
+            return self.foreign();
+        }
+        self.top(items, 0, true, 0, 1).moved(1)
+    }
+
+    // FORK: a child of so many bytes begins, outside any transaction.
+    fn fork(self, items: &mut [u8; 128], ends: &mut [usize; 15], size: usize) -> Scan
+        requires { ⌜ Limits self × (size ≤ 65535) ⌝ }
+        ensures { λ r. ⌜ state r (now (items .exit)) (now (ends .exit)) ≡ forkTo (state self (now (items .entry)) (now (ends .entry))) size ⌝ }
+    {
+        if self.inside {
+            return self.foreign();
+        }
+        self.top(items, 1, false, 1, 1).enter(ends, size)
+    }
+
+    // One instruction.
+    fn step(self, items: &mut [u8; 128], ends: &mut [usize; 15], op: ops::Op) -> Scan
+        requires { ⌜ Limits self × ShortFork op ⌝ }
+        ensures { λ r. ⌜ state r (now (items .exit)) (now (ends .exit)) ≡ stepTo (state self (now (items .entry)) (now (ends .entry))) op ⌝ }
+    {
         match op {
-            ops::Op::Push(_) => {
-                if inside {
-                    return self.top(3, true, 0, 5).moved(5);
-                }
-                self.top(2, false, 0, 5).moved(5)
-            }
-            ops::Op::Add => self.add().moved(1),
-            ops::Op::Read(_) => {
-                if inside {
-                    return self.top(3, true, 0, 2).moved(2);
-                }
-                self.foreign()
-            }
-            ops::Op::Write(_) => self.write().moved(2),
-            ops::Op::Begin => {
-                if inside {
-                    return self.foreign();
-                }
-                self.top(0, true, 0, 1).moved(1)
-            }
-            ops::Op::Commit => self.commit().moved(1),
-            ops::Op::Fork(size) => {
-                if inside {
-                    return self.foreign();
-                }
-                self.top(1, false, 1, 1).fork(size)
-            }
+            ops::Op::Push(_) => self.push(items),
+            ops::Op::Add => self.add(items).moved(1),
+            ops::Op::Read(_) => self.read(items),
+            ops::Op::Write(_) => self.write(items).moved(2),
+            ops::Op::Begin => self.begin(items),
+            ops::Op::Commit => self.commit(items).moved(1),
+            ops::Op::Fork(size) => self.fork(items, ends, size),
             ops::Op::Foreign => self.foreign(),
         }
     }
@@ -285,17 +311,17 @@ impl Scan {
 
 impl Scan {
     // The children that end at this place.
-    fn settle(self) -> Scan
-        requires { ⌜ GoodScan self × (self .good ≡ true) ⌝ }
-        ensures { λ r. ⌜ Settled self r ⌝ }
+    fn settle(self, items: &mut [u8; 128], ends: &[usize; 15]) -> Scan
+        requires { ⌜ GoodScan (state self (now items) (now ends)) × (self .good ≡ true) ⌝ }
+        ensures { λ r. ⌜ Settled (state self (now (items .entry)) (now (ends .entry))) (state r (now (items .exit)) (now (ends .entry))) ⌝ }
     {
         let mut s = self;
         while s.forked > 0 {
             let last = s.forked - 1;
-            if s.ends[last] != s.place {
+            if ends[last] != s.place {
                 return s;
             }
-            s = s.close();
+            s = s.close(items);
             if !s.good {
                 return s;
             }
@@ -304,9 +330,8 @@ impl Scan {
     }
 
     // The end of the code: no FORK is open, and one process is left.
-    fn finish(self) -> Scan
-        requires { ⌜ GoodScan self ⌝ }
-        ensures { λ r. ⌜ r ≡ finishTo self ⌝ }
+    fn finish(self, items: &[u8; 128]) -> Scan
+        ensures { λ r. ⌜ ((e : List ℕ) → state r (now (items .entry)) e ≡ finishTo (state self (now (items .entry)) e)) ⌝ }
     {
         if self.forked != 0 {
             return self.foreign();
@@ -314,7 +339,7 @@ impl Scan {
         if self.height != 1 {
             return self.foreign();
         }
-        if self.kinds[0] != 2 {
+        if items[0] != 2 {
             return self.foreign();
         }
         self
@@ -324,20 +349,22 @@ impl Scan {
 // The instructions behind the header.
 fn instructions(code: &[u8]) -> Scan
     requires { ⌜ (5 ≤ length (now code)) × (length (now code) ≤ 5005) ⌝ }
-    ensures { λ r. ⌜ viewed r ≡ scanOps (suc (length (drop 5 (now (code .entry))))) scanStart (drop 5 (now (code .entry))) ⌝ }
+    ensures { λ r. ⌜ Followed (drop 5 (now (code .entry))) r ⌝ }
 {
+    let mut items = [0u8; 128];
+    let mut ends = [0usize; 15];
     let mut s = Scan::start();
     loop {
-        s = s.settle();
+        s = s.settle(&mut items, &ends);
         if !s.good {
             return s;
         }
         let place = s.place;
         if place >= code.len() {
-            return s.finish();
+            return s.finish(&items);
         }
         let op = ops::op_at(code, place);
-        s = s.step(op);
+        s = s.step(&mut items, &mut ends, op);
         if !s.good {
             return s;
         }

@@ -6,7 +6,7 @@ use Rattle.scan.proofs.Scan.foreign.Tie as tie
 
 returns : tie.Need-returns
 unfolding bad
-returns c = refl
+returns c k e = refl
 
 pub foreign-spec : {M : Type 1} → statement M
 foreign-spec = tie.close (tie.spec returns)

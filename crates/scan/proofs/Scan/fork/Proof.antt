@@ -1,35 +1,28 @@
 -- `scan::Scan::fork` meets its contract. Assumes nothing.
-use native.Mathlib.Omega.{arith}
-use borrow.Author.Tests.{not-true, not-false}
-use Rattle.scan.specs.InnerView.{opened}
-use Rattle.scan.proofs.Branches.{fork-bad, fork-done}
+use mathlib.Core.Path.{ap, _∙_}
+use mathlib.Core.Bool.{false}
+use mathlib.Core.List.{[]}
+use Rattle.scan.specs.InnerView.{ScanState, state, bad, topTo, enterTo}
+use Rattle.scan.proofs.Branches.{when-true, when-false}
+use Rattle.scan.proofs.Steps.{enter-ready}
 use borrow.Author.Needs.{needs}
 use Rattle.scan.proofs.Scan.fork.Statement.{statement}
 use Rattle.scan.proofs.Scan.fork.Tie as tie
 
+foreign-requires : tie.Need-foreign-requires
+foreign-requires c κs = tt
+
 returns : tie.Need-returns
-returns c = fork-bad (c .before .args .t1) (c .before .args .size) (not-true _ (c .if1 .taken))
+returns c = c .foreign .ensures (c .before .before .args .items .now) (c .before .before .args .ends .now) ∙ when-true (c .before .before .args .self .inside) (bad (state (c .before .before .args .self) (c .before .before .args .items .now) (c .before .before .args .ends .now))) (enterTo (topTo (state (c .before .before .args .self) (c .before .before .args .items .now) (c .before .before .args .ends .now)) 1 false 1 1) (c .before .before .args .size)) (c .before .if1 .taken)
 
-add-place : tie.Need-add-place
-add-place c = search needs
+top-requires : tie.Need-top-requires
+top-requires c κs = search needs
 
-add-self : tie.Need-add-self
-add-self c = search needs
-
-mul-self : tie.Need-mul-self
-mul-self c = omega (arith, c .before .pre .2 (not-false _ (c .if1 .left)))
-
-element-write-self : tie.Need-element-write-self
-element-write-self c = c .before .pre .2 (not-false _ (c .if1 .left))
-
-add-self-2 : tie.Need-add-self-2
-add-self-2 c = omega (arith, c .before .pre .2 (not-false _ (c .if1 .left)))
+enter-requires : tie.Need-enter-requires
+enter-requires c κs = enter-ready (state (c .before .before .before .before .args .self) (c .before .before .before .before .args .items .now) []) (c .before .top .ensures []) (c .before .before .before .before .pre .0 .early) (c .before .before .before .before .pre .0 .some) (c .before .before .before .before .pre .1)
 
 returns-2 : tie.Need-returns-2
-unfolding opened
-returns-2 c = fork-done (c .before .args .t1) (c .before .args .size) (not-false _ (c .if1 .left))
+returns-2 c = c .enter .ensures (c .before .before .top .last .1 .0) ∙ (ap (λ (t : ScanState). enterTo t (c .before .before .before .before .before .args .size)) (c .before .before .top .ensures (c .before .before .before .before .before .args .ends .now)) ∙ when-false (c .before .before .before .before .before .args .self .inside) (bad (state (c .before .before .before .before .before .args .self) (c .before .before .before .before .before .args .items .now) (c .before .before .before .before .before .args .ends .now))) (enterTo (topTo (state (c .before .before .before .before .before .args .self) (c .before .before .before .before .before .args .items .now) (c .before .before .before .before .before .args .ends .now)) 1 false 1 1) (c .before .before .before .before .before .args .size)) (c .before .before .before .before .if1 .left))
 
 pub fork-spec : {M : Type 1} → statement M
-fork-spec =
-    tie.close
-    (tie.spec returns add-place add-self mul-self element-write-self add-self-2 returns-2)
+fork-spec = tie.close (tie.spec foreign-requires returns top-requires enter-requires returns-2)

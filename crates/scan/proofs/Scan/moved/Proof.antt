@@ -10,7 +10,7 @@ add-self c = search needs
 
 returns : tie.Need-returns
 unfolding movedTo
-returns c = refl
+returns c k e = refl
 
 pub moved-spec : {M : Type 1} → statement M
 moved-spec = tie.close (tie.spec add-self returns)

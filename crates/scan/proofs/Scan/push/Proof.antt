@@ -1,0 +1,34 @@
+-- `scan::Scan::push` meets its contract. Assumes nothing.
+use mathlib.Core.Path.{ap, _∙_}
+use mathlib.Core.Bool.{true, false}
+use mathlib.Core.List.{[]}
+use native.Mathlib.Omega.{arith}
+use Rattle.scan.specs.InnerView.{ScanState, state, bad, topTo, movedTo}
+use Rattle.scan.proofs.Branches.{when-true, when-false}
+use Rattle.scan.proofs.Steps.{early, top-place}
+use borrow.Author.Needs.{needs}
+use Rattle.scan.proofs.Scan.push.Statement.{statement}
+use Rattle.scan.proofs.Scan.push.Tie as tie
+
+top-requires : tie.Need-top-requires
+top-requires c κs = search needs
+
+moved-requires : tie.Need-moved-requires
+moved-requires c κs = (early (c .top .ensures []) (top-place (state (c .before .before .before .args .self) (c .before .before .before .args .items .now) []) 3 true 0 5) (c .before .before .before .pre .early), omega arith)
+
+returns : tie.Need-returns
+returns c e = c .moved .ensures (c .before .top .last .1 .0) e ∙ (ap (λ (t : ScanState). movedTo t 5) (c .before .top .ensures e) ∙ when-true (c .before .before .before .before .args .self .inside) (movedTo (topTo (state (c .before .before .before .before .args .self) (c .before .before .before .before .args .items .now) e) 3 true 0 5) 5) (movedTo (topTo (state (c .before .before .before .before .args .self) (c .before .before .before .before .args .items .now) e) 2 false 0 5) 5) (c .before .before .before .if1 .taken))
+
+top-requires-2 : tie.Need-top-requires-2
+top-requires-2 c κs = search needs
+
+moved-requires-2 : tie.Need-moved-requires-2
+moved-requires-2 c κs = (early (c .top2 .ensures []) (top-place (state (c .before .before .before .args .self) (c .before .before .before .args .items .now) []) 2 false 0 5) (c .before .before .before .pre .early), omega arith)
+
+returns-2 : tie.Need-returns-2
+returns-2 c e = c .moved2 .ensures (c .before .top2 .last .1 .0) e ∙ (ap (λ (t : ScanState). movedTo t 5) (c .before .top2 .ensures e) ∙ when-false (c .before .before .before .before .args .self .inside) (movedTo (topTo (state (c .before .before .before .before .args .self) (c .before .before .before .before .args .items .now) e) 3 true 0 5) 5) (movedTo (topTo (state (c .before .before .before .before .args .self) (c .before .before .before .before .args .items .now) e) 2 false 0 5) 5) (c .before .before .before .if1 .left))
+
+pub push-spec : {M : Type 1} → statement M
+push-spec =
+    tie.close
+    (tie.spec top-requires moved-requires returns top-requires-2 moved-requires-2 returns-2)
