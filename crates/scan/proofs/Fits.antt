@@ -1,7 +1,7 @@
 -- A good scan stays within its arrays and its limits. Assumes nothing.
 use Prim.Native.Nat.{ℕ, _+_, _*_, _-_, _≤_, _<_, max}
 use mathlib.Core.Path.{_≡_, refl, sym, ap, subst, _∙_}
-use mathlib.Core.Bool.{Bool, true, false, cond}
+use mathlib.Core.Bool.{Bool, true, false, cond, not}
 use mathlib.Core.List.{List}
 use native.Mathlib.Decide.{decLt, ℕ-discrete}
 use native.Mathlib.Omega.{arith}
@@ -11,7 +11,7 @@ use Rattle.scan.specs.declared.Scan.{Scan}
 use Rattle.scan.specs.InnerView.{ScanState, state, GoodScan, Limits, bad, itemPut, setTo, topTo, kindAt, reachAt, addTo, writeTo, commitTo, joined, closeTo, movedTo, opened, enterTo, stepTo}
 use Rattle.ops.specs.Shown.{showOp}
 use Rattle.code.specs.Ops.{Op, push, add, read, write, begin, commit, fork, sizeOf}
-use Rattle.scan.proofs.Branches.{add-low, add-part, add-other, add-done, write-low, write-outside, write-other, write-done, commit-low, commit-outside, commit-above, commit-below, commit-done, close-low, close-above, close-below, close-done, enter-bad, enter-done, when-true, when-false}
+use Rattle.scan.proofs.Branches.{add-low, add-part, add-other, add-done, write-low, write-outside, write-other, write-done, commit-low, commit-outside, commit-above, commit-below, commit-done, close-low, close-above, close-below, close-done, enter-bad, enter-done}
 use Rattle.scan.proofs.Steps.{set-good, top-place, add-place, write-place, commit-place, top-forked, top-forks}
 
 abbrev pub good-of : ScanState → Bool
@@ -160,35 +160,24 @@ unfolding opened
 opened-fit s n t q l =
     record { items = t .items; ends = length-set (s .ends) (s .forked) (s .place + 3 + n) ∙ t .ends; low = t .low; some = q; few = t .few; noded = t .noded; sized = t .sized; early = l }
 
+-- what holds of a good scan, where the code may be foreign
+unless-bad : (s : ScanState) (b : Bool) (x : ScanState) (P : ScanState → Type 0) → (x .good ≡ true → P x) → cond b (bad s) x .good ≡ true → P (cond b (bad s) x)
+unless-bad s true x P h g = absurd (never-good s refl g)
+unless-bad s false x P h g = h g
+
+leaf-fit : (s : ScanState) (k : ℕ) (i : Bool) (z : ℕ) → GoodScan s → z ≤ 5 → s .place + z ≤ 5005 → movedTo (topTo s k i 0 z) z .good ≡ true → GoodScan (movedTo (topTo s k i 0 z) z)
+leaf-fit s k i z t w l g = moved-fit (topTo s k i 0 z) z (top-fit s k i 0 z t w (moved-good (topTo s k i 0 z) z g)) (omega (arith, top-place s k i 0 z))
+
 -- one instruction
 pub step-fit : (s : ScanState) (o : Op) → GoodScan s → stepTo s (showOp o) .good ≡ true → s .place + sizeOf o ≤ 5005 → GoodScan (stepTo s (showOp o))
 unfolding stepTo
-step-fit s (push n) t g l = go (s .inside) refl
-  where
-    topped : (k : ℕ) (i : Bool) → movedTo (topTo s k i 0 5) 5 .good ≡ true → GoodScan (movedTo (topTo s k i 0 5) 5)
-    topped k i h = moved-fit (topTo s k i 0 5) 5 (top-fit s k i 0 5 t (omega arith) (moved-good (topTo s k i 0 5) 5 h)) (omega (arith, top-place s k i 0 5))
-
-    go : (b : Bool) → s .inside ≡ b → GoodScan (cond (s .inside) (movedTo (topTo s 3 true 0 5) 5) (movedTo (topTo s 2 false 0 5) 5))
-    go true i = let d = when-true (s .inside) (movedTo (topTo s 3 true 0 5) 5) (movedTo (topTo s 2 false 0 5) 5) i in subst GoodScan d (topped 3 true (ap good-of d ∙ g))
-    go false i = let d = when-false (s .inside) (movedTo (topTo s 3 true 0 5) 5) (movedTo (topTo s 2 false 0 5) 5) i in subst GoodScan d (topped 2 false (ap good-of d ∙ g))
+step-fit s (push n) t g l = leaf-fit s (cond (s .inside) 3 2) (s .inside) 5 t (omega arith) l g
 step-fit s add t g l = moved-fit (addTo s) 1 (add-fit s t (moved-good (addTo s) 1 g)) (omega (arith, add-place s))
-step-fit s (read v) t g l = go (s .inside) refl
-  where
-    go : (b : Bool) → s .inside ≡ b → GoodScan (cond (s .inside) (movedTo (topTo s 3 true 0 2) 2) (bad s))
-    go true i =
-        let d = when-true (s .inside) (movedTo (topTo s 3 true 0 2) 2) (bad s) i in
-        subst GoodScan d (moved-fit (topTo s 3 true 0 2) 2 (top-fit s 3 true 0 2 t (omega arith) (moved-good (topTo s 3 true 0 2) 2 (ap good-of d ∙ g))) (omega (arith, top-place s 3 true 0 2)))
-    go false i = absurd (never-good s (when-false (s .inside) (movedTo (topTo s 3 true 0 2) 2) (bad s) i) g)
+step-fit s (read v) t g l = unless-bad s (not (s .inside)) _ GoodScan (leaf-fit s 3 true 2 t (omega arith) l) g
 step-fit s (write v) t g l = moved-fit (writeTo s) 2 (write-fit s t (moved-good (writeTo s) 2 g)) (omega (arith, write-place s))
-step-fit s begin t g l = go (s .inside) refl
-  where
-    go : (b : Bool) → s .inside ≡ b → GoodScan (cond (s .inside) (bad s) (movedTo (topTo s 0 true 0 1) 1))
-    go true i = absurd (never-good s (when-true (s .inside) (bad s) (movedTo (topTo s 0 true 0 1) 1) i) g)
-    go false i =
-        let d = when-false (s .inside) (bad s) (movedTo (topTo s 0 true 0 1) 1) i in
-        subst GoodScan d (moved-fit (topTo s 0 true 0 1) 1 (top-fit s 0 true 0 1 t (omega arith) (moved-good (topTo s 0 true 0 1) 1 (ap good-of d ∙ g))) (omega (arith, top-place s 0 true 0 1)))
+step-fit s begin t g l = unless-bad s (s .inside) _ GoodScan (leaf-fit s 0 true 1 t (omega arith) l) g
 step-fit s commit t g l = moved-fit (commitTo s) 1 (commit-fit s t (moved-good (commitTo s) 1 g)) (omega (arith, commit-place s))
-step-fit s (fork n) t g l = go (s .inside) refl
+step-fit s (fork n) t g l = unless-bad s (s .inside) _ GoodScan (opens (u .good) refl) g
   where
     u : ScanState
     u = topTo s 1 false 1 1
@@ -198,10 +187,6 @@ step-fit s (fork n) t g l = go (s .inside) refl
         let f = top-fit s 1 false 1 1 t (omega arith) h in
         subst GoodScan (enter-done u n h) (opened-fit u n f (omega (arith, top-forked s 1 false 1 1 h, top-forks s 1 false 1 1 h, t .some)) (omega (arith, top-place s 1 false 1 1)))
     opens false h k = absurd (let e : false ≡ true = sym h ∙ (ap good-of (enter-bad u n h) ∙ k) in let z : _≡_ {A = ℕ} 0 1 = cc in omega arith)
-
-    go : (b : Bool) → s .inside ≡ b → GoodScan (cond (s .inside) (bad s) (enterTo u n))
-    go true i = absurd (never-good s (when-true (s .inside) (bad s) (enterTo u n) i) g)
-    go false i = let d = when-false (s .inside) (bad s) (enterTo u n) i in subst GoodScan d (opens (u .good) refl (ap good-of d ∙ g))
 
 pub foreign-bad : (s : ScanState) → stepTo s op.Foreign .good ≡ true → ⊥
 unfolding stepTo
@@ -219,27 +204,18 @@ opened-place s n = refl
 abbrev place-of : ScanState → ℕ
 place-of s = s .place
 
+leaf-place : (s : ScanState) (k : ℕ) (i : Bool) (z : ℕ) → movedTo (topTo s k i 0 z) z .place ≡ s .place + z
+leaf-place s k i z = moved-place (topTo s k i 0 z) z ∙ ap (λ (n : ℕ). n + z) (top-place s k i 0 z)
+
 pub step-place : (s : ScanState) (o : Op) → stepTo s (showOp o) .good ≡ true → stepTo s (showOp o) .place ≡ s .place + sizeOf o
 unfolding stepTo
-step-place s (push n) g = go (s .inside) refl
-  where
-    go : (b : Bool) → s .inside ≡ b → cond (s .inside) (movedTo (topTo s 3 true 0 5) 5) (movedTo (topTo s 2 false 0 5) 5) .place ≡ s .place + 5
-    go true i = sym (ap place-of (when-true (s .inside) (movedTo (topTo s 3 true 0 5) 5) (movedTo (topTo s 2 false 0 5) 5) i)) ∙ (moved-place (topTo s 3 true 0 5) 5 ∙ ap (λ (n : ℕ). n + 5) (top-place s 3 true 0 5))
-    go false i = sym (ap place-of (when-false (s .inside) (movedTo (topTo s 3 true 0 5) 5) (movedTo (topTo s 2 false 0 5) 5) i)) ∙ (moved-place (topTo s 2 false 0 5) 5 ∙ ap (λ (n : ℕ). n + 5) (top-place s 2 false 0 5))
+step-place s (push n) g = leaf-place s (cond (s .inside) 3 2) (s .inside) 5
 step-place s add g = moved-place (addTo s) 1 ∙ ap (λ (n : ℕ). n + 1) (add-place s)
-step-place s (read v) g = go (s .inside) refl
-  where
-    go : (b : Bool) → s .inside ≡ b → cond (s .inside) (movedTo (topTo s 3 true 0 2) 2) (bad s) .place ≡ s .place + 2
-    go true i = sym (ap place-of (when-true (s .inside) (movedTo (topTo s 3 true 0 2) 2) (bad s) i)) ∙ (moved-place (topTo s 3 true 0 2) 2 ∙ ap (λ (n : ℕ). n + 2) (top-place s 3 true 0 2))
-    go false i = absurd (never-good s (when-false (s .inside) (movedTo (topTo s 3 true 0 2) 2) (bad s) i) g)
+step-place s (read v) g = unless-bad s (not (s .inside)) _ (λ (t : ScanState). t .place ≡ s .place + 2) (λ _. leaf-place s 3 true 2) g
 step-place s (write v) g = moved-place (writeTo s) 2 ∙ ap (λ (n : ℕ). n + 2) (write-place s)
-step-place s begin g = go (s .inside) refl
-  where
-    go : (b : Bool) → s .inside ≡ b → cond (s .inside) (bad s) (movedTo (topTo s 0 true 0 1) 1) .place ≡ s .place + 1
-    go true i = absurd (never-good s (when-true (s .inside) (bad s) (movedTo (topTo s 0 true 0 1) 1) i) g)
-    go false i = sym (ap place-of (when-false (s .inside) (bad s) (movedTo (topTo s 0 true 0 1) 1) i)) ∙ (moved-place (topTo s 0 true 0 1) 1 ∙ ap (λ (n : ℕ). n + 1) (top-place s 0 true 0 1))
+step-place s begin g = unless-bad s (s .inside) _ (λ (t : ScanState). t .place ≡ s .place + 1) (λ _. leaf-place s 0 true 1) g
 step-place s commit g = moved-place (commitTo s) 1 ∙ ap (λ (n : ℕ). n + 1) (commit-place s)
-step-place s (fork n) g = go (s .inside) refl
+step-place s (fork n) g = unless-bad s (s .inside) _ (λ (t : ScanState). t .place ≡ s .place + 3) (opens (u .good) refl) g
   where
     u : ScanState
     u = topTo s 1 false 1 1
@@ -247,7 +223,3 @@ step-place s (fork n) g = go (s .inside) refl
     opens : (b : Bool) → u .good ≡ b → enterTo u n .good ≡ true → enterTo u n .place ≡ s .place + 3
     opens true h k = sym (ap place-of (enter-done u n h)) ∙ (opened-place u n ∙ ap (λ (m : ℕ). m + 3) (top-place s 1 false 1 1))
     opens false h k = absurd (let e : false ≡ true = sym h ∙ (ap good-of (enter-bad u n h) ∙ k) in let z : _≡_ {A = ℕ} 0 1 = cc in omega arith)
-
-    go : (b : Bool) → s .inside ≡ b → cond (s .inside) (bad s) (enterTo u n) .place ≡ s .place + 3
-    go true i = absurd (never-good s (when-true (s .inside) (bad s) (enterTo u n) i) g)
-    go false i = let d = when-false (s .inside) (bad s) (enterTo u n) i in sym (ap place-of d) ∙ opens (u .good) refl (ap good-of d ∙ g)

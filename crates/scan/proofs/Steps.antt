@@ -1,7 +1,7 @@
 -- One instruction of the scan, branch by branch: its place, and what `stepTo` is. Assumes nothing.
 use Prim.Native.Nat.{ℕ, _+_, _-_, _≤_, _<_, max}
 use mathlib.Core.Path.{_≡_, refl, sym, ap, _∙_}
-use mathlib.Core.Bool.{Bool, true, false, cond}
+use mathlib.Core.Bool.{Bool, true, false, cond, not}
 use mathlib.Core.List.{List}
 use native.Mathlib.Omega.{arith}
 use lib.Dec.{eqb, ltb}
@@ -9,7 +9,7 @@ use lib.IntN.{ℤ}
 use borrow.Author.Tests.{ltb-false}
 use Rattle.ops.specs.declared.Op.{Op}
 use Rattle.ops.specs.declared.Op.the-variants as op
-use Rattle.scan.specs.InnerView.{ScanState, bad, itemPut, setTo, topTo, kindAt, reachAt, addTo, writeTo, commitTo, joined, closeTo, movedTo, pushTo, readTo, beginTo, forkTo, stepTo}
+use Rattle.scan.specs.InnerView.{ScanState, bad, itemPut, setTo, topTo, kindAt, reachAt, addTo, writeTo, commitTo, joined, closeTo, movedTo, leafTo, forkTo, stepTo}
 
 -- a choice between scans at one place is at that place
 two : (b : Bool) (x y : ScanState) (p : ℕ) → x .place ≡ p → y .place ≡ p → cond b x y .place ≡ p
@@ -101,15 +101,15 @@ enter-ready s {t} e low some m = (early e (top-place s 1 false 1 1) low, m, few)
 
 -- what `stepTo` is for each instruction
 module _ (s : ScanState) (o : Op) where
-  pub a-push : (n : ℤ) → o ≡ op.Push n → pushTo s ≡ stepTo s o
+  pub a-push : (n : ℤ) → o ≡ op.Push n → {k : ℕ} → k ≡ cond (s .inside) 3 2 → leafTo s false k (s .inside) 5 ≡ stepTo s o
   unfolding stepTo
-  a-push n e = rw e
+  a-push n e q = rw e (ap (λ (k : ℕ). leafTo s false k (s .inside) 5) q)
 
   pub an-add : o ≡ op.Add → movedTo (addTo s) 1 ≡ stepTo s o
   unfolding stepTo
   an-add e = rw e
 
-  pub a-read : (v : ℕ) → o ≡ op.Read v → readTo s ≡ stepTo s o
+  pub a-read : (v : ℕ) → o ≡ op.Read v → leafTo s (not (s .inside)) 3 true 2 ≡ stepTo s o
   unfolding stepTo
   a-read v e = rw e
 
@@ -117,7 +117,7 @@ module _ (s : ScanState) (o : Op) where
   unfolding stepTo
   a-write v e = rw e
 
-  pub a-begin : o ≡ op.Begin → beginTo s ≡ stepTo s o
+  pub a-begin : o ≡ op.Begin → leafTo s (s .inside) 0 true 1 ≡ stepTo s o
   unfolding stepTo
   a-begin e = rw e
 

@@ -16,7 +16,7 @@ use Rattle.code.specs.Ops.{foreign, Op, push, add, read, write, begin, commit, 
 use Rattle.code.specs.InnerScan.{ScanItem, bounded, topped, merged, twoTop, oneTop, scanOp, movedPast}
 use Rattle.code.specs.InnerScan as list
 use Rattle.script.specs.Outcome.{Outcome, done, refuse, mapped}
-use Rattle.scan.proofs.Branches.{add-low, add-part, add-other, add-done, write-low, write-outside, write-other, write-done, commit-low, commit-outside, commit-above, commit-below, commit-done, enter-bad, enter-done, when-true, when-false}
+use Rattle.scan.proofs.Branches.{add-low, add-part, add-other, add-done, write-low, write-outside, write-other, write-done, commit-low, commit-outside, commit-above, commit-below, commit-done, enter-bad, enter-done}
 use Rattle.scan.proofs.Steps.{top-few, top-forked, top-ends}
 
 -- ---- the stack in the arrays
@@ -291,37 +291,22 @@ module _ (t : ScanState) where
           ap viewed (sym (enter-done t n g)) ∙ (on-good (t .good) (view t) (view (opened t n)) (movedPast (fork n)) (ap (λ (e : List ℕ). record { stack = stackOf (t .items) (t .height); inside = t .inside; ends = e; place = t .place + 3; nodes = t .nodes; forks = t .forks; size = t .size }) (ends-push (t .ends) (t .forked) (t .place + 3 + n) (room g))))
       go false g = ap viewed (sym (enter-bad t n g)) ∙ (ap (λ (b : Bool). ifGood b (view t)) g ∙ ap (λ (b : Bool). mapped (movedPast (fork n)) (ifGood b (view t))) (sym g))
 
+-- where the code is foreign the lists refuse it
+or-bad : (s : ScanState) (b : Bool) (x : ScanState) (f : list.ListScan → list.ListScan) (o : Outcome list.ListScan) → viewed x ≡ mapped f o → viewed (cond b (bad s) x) ≡ mapped f (refuse b 11 0 o)
+or-bad s true x f o e = bad-viewed s
+or-bad s false x f o e = e
+
 module _ (s : ScanState) (g : s .good ≡ true) (fit : GoodScan s) where
   pub step-viewed : (o : Op) → viewed (stepTo s (showOp o)) ≡ mapped (movedPast o) (scanOp o (view s))
   unfolding stepTo scanOp
-  step-viewed (push n) = go (s .inside) refl
-    where
-      go : (b : Bool) → s .inside ≡ b → viewed (cond (s .inside) (movedTo (topTo s 3 true 0 5) 5) (movedTo (topTo s 2 false 0 5) 5)) ≡ mapped (movedPast (push n)) (topped (view s) (cond (s .inside) 3 2) (s .inside) 0 5)
-      go true i =
-          ap viewed (sym (when-true (s .inside) _ _ i)) ∙ (push-moved (topTo s 3 true 0 5) n ∙ (ap (mapped (movedPast (push n))) (top-viewed s g fit 3 true 0 5) ∙ ap (λ (b : Bool). mapped (movedPast (push n)) (topped (view s) (cond b 3 2) b 0 5)) (sym i)))
-      go false i =
-          ap viewed (sym (when-false (s .inside) _ _ i)) ∙ (push-moved (topTo s 2 false 0 5) n ∙ (ap (mapped (movedPast (push n))) (top-viewed s g fit 2 false 0 5) ∙ ap (λ (b : Bool). mapped (movedPast (push n)) (topped (view s) (cond b 3 2) b 0 5)) (sym i)))
+  step-viewed (push n) =
+      push-moved (topTo s (cond (s .inside) 3 2) (s .inside) 0 5) n ∙ ap (mapped (movedPast (push n))) (top-viewed s g fit (cond (s .inside) 3 2) (s .inside) 0 5)
   step-viewed add = add-moved (addTo s) ∙ ap (mapped (movedPast add)) (add-viewed s g fit)
-  step-viewed (read v) = go (s .inside) refl
-    where
-      go : (b : Bool) → s .inside ≡ b → viewed (cond (s .inside) (movedTo (topTo s 3 true 0 2) 2) (bad s)) ≡ mapped (movedPast (read v)) (refuse (not (s .inside)) 11 0 (topped (view s) 3 true 0 2))
-      go true i =
-          ap viewed (sym (when-true (s .inside) _ _ i)) ∙ (read-moved (topTo s 3 true 0 2) v ∙ (ap (mapped (movedPast (read v))) (top-viewed s g fit 3 true 0 2) ∙ ap (λ (b : Bool). mapped (movedPast (read v)) (refuse (not b) 11 0 (topped (view s) 3 true 0 2))) (sym i)))
-      go false i = ap viewed (sym (when-false (s .inside) _ _ i)) ∙ (bad-viewed s ∙ ap (λ (b : Bool). mapped (movedPast (read v)) (refuse (not b) 11 0 (topped (view s) 3 true 0 2))) (sym i))
+  step-viewed (read v) = or-bad s (not (s .inside)) (movedTo (topTo s 3 true 0 2) 2) (movedPast (read v)) (topped (view s) 3 true 0 2) (read-moved (topTo s 3 true 0 2) v ∙ ap (mapped (movedPast (read v))) (top-viewed s g fit 3 true 0 2))
   step-viewed (write v) = write-moved (writeTo s) v ∙ ap (mapped (movedPast (write v))) (write-viewed s g fit v)
-  step-viewed begin = go (s .inside) refl
-    where
-      go : (b : Bool) → s .inside ≡ b → viewed (cond (s .inside) (bad s) (movedTo (topTo s 0 true 0 1) 1)) ≡ mapped (movedPast begin) (refuse (s .inside) 11 0 (topped (view s) 0 true 0 1))
-      go true i = ap viewed (sym (when-true (s .inside) _ _ i)) ∙ (bad-viewed s ∙ ap (λ (b : Bool). mapped (movedPast begin) (refuse b 11 0 (topped (view s) 0 true 0 1))) (sym i))
-      go false i =
-          ap viewed (sym (when-false (s .inside) _ _ i)) ∙ (begin-moved (topTo s 0 true 0 1) ∙ (ap (mapped (movedPast begin)) (top-viewed s g fit 0 true 0 1) ∙ ap (λ (b : Bool). mapped (movedPast begin) (refuse b 11 0 (topped (view s) 0 true 0 1))) (sym i)))
+  step-viewed begin = or-bad s (s .inside) (movedTo (topTo s 0 true 0 1) 1) (movedPast begin) (topped (view s) 0 true 0 1) (begin-moved (topTo s 0 true 0 1) ∙ ap (mapped (movedPast begin)) (top-viewed s g fit 0 true 0 1))
   step-viewed commit = commit-moved (commitTo s) ∙ ap (mapped (movedPast commit)) (commit-viewed s g fit)
-  step-viewed (fork n) = go (s .inside) refl
+  step-viewed (fork n) = or-bad s (s .inside) (enterTo (topTo s 1 false 1 1) n) (movedPast (fork n)) (topped (view s) 1 false 1 1) (fork-moved (topTo s 1 false 1 1) n room ∙ ap (mapped (movedPast (fork n))) (top-viewed s g fit 1 false 1 1))
     where
       room : topTo s 1 false 1 1 .good ≡ true → topTo s 1 false 1 1 .forked < length (topTo s 1 false 1 1 .ends)
       room h = omega (arith, top-forked s 1 false 1 1 h, top-few s 1 false 1 1 h, ap length (top-ends s 1 false 1 1 h), fit .ends, fit .some)
-
-      go : (b : Bool) → s .inside ≡ b → viewed (cond (s .inside) (bad s) (enterTo (topTo s 1 false 1 1) n)) ≡ mapped (movedPast (fork n)) (refuse (s .inside) 11 0 (topped (view s) 1 false 1 1))
-      go true i = ap viewed (sym (when-true (s .inside) _ _ i)) ∙ (bad-viewed s ∙ ap (λ (b : Bool). mapped (movedPast (fork n)) (refuse b 11 0 (topped (view s) 1 false 1 1))) (sym i))
-      go false i =
-          ap viewed (sym (when-false (s .inside) _ _ i)) ∙ (fork-moved (topTo s 1 false 1 1) n room ∙ (ap (mapped (movedPast (fork n))) (top-viewed s g fit 1 false 1 1) ∙ ap (λ (b : Bool). mapped (movedPast (fork n)) (refuse b 11 0 (topped (view s) 1 false 1 1))) (sym i)))

@@ -1,6 +1,6 @@
 -- For the proof of `scan_code` only: what its functions do, the arrays standing for the lists of code/specs/InnerScan.antt.
 use Prim.Native.Nat.{ℕ, zero, suc, _+_, _*_, _-_, _≤_, _<_, max}
-use mathlib.Core.Bool.{Bool, true, false, cond}
+use mathlib.Core.Bool.{Bool, true, false, cond, not}
 use mathlib.Core.Path.{_≡_}
 use mathlib.Core.List.{List, [], _∷_}
 use lib.Dec.{eqb, ltb}
@@ -264,24 +264,19 @@ opened s size =
 unfoldable pub enterTo : ScanState → ℕ → ScanState
 enterTo s size = cond (s .good) (opened s size) s
 
-abbrev pub pushTo : ScanState → ScanState
-pushTo s = cond (s .inside) (movedTo (topTo s 3 true 0 5) 5) (movedTo (topTo s 2 false 0 5) 5)
-
-abbrev pub readTo : ScanState → ScanState
-readTo s = cond (s .inside) (movedTo (topTo s 3 true 0 2) 2) (bad s)
-
-abbrev pub beginTo : ScanState → ScanState
-beginTo s = cond (s .inside) (bad s) (movedTo (topTo s 0 true 0 1) 1)
+-- a new item, if it is not refused, with as many bytes in the job as in the code
+abbrev pub leafTo : ScanState → (refused : Bool) → (kind : ℕ) → Bool → (size : ℕ) → ScanState
+leafTo s refused kind inside size = cond refused (bad s) (movedTo (topTo s kind inside 0 size) size)
 
 abbrev pub forkTo : ScanState → ℕ → ScanState
 forkTo s size = cond (s .inside) (bad s) (enterTo (topTo s 1 false 1 1) size)
 
 unfoldable pub stepTo : ScanState → Op → ScanState
-stepTo s (op.Push n) = pushTo s
+stepTo s (op.Push n) = leafTo s false (cond (s .inside) 3 2) (s .inside) 5
 stepTo s op.Add = movedTo (addTo s) 1
-stepTo s (op.Read v) = readTo s
+stepTo s (op.Read v) = leafTo s (not (s .inside)) 3 true 2
 stepTo s (op.Write v) = movedTo (writeTo s) 2
-stepTo s op.Begin = beginTo s
+stepTo s op.Begin = leafTo s (s .inside) 0 true 1
 stepTo s op.Commit = movedTo (commitTo s) 1
 stepTo s (op.Fork size) = forkTo s size
 stepTo s op.Foreign = bad s

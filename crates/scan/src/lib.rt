@@ -2,12 +2,12 @@
 ghost use Prim.Native.Nat.{ℕ, _+_, _<_, _≤_, max};
 ghost use lib.Dec.{eqb};
 ghost use lib.ListN.{drop, length, replicate};
-ghost use mathlib.Core.Bool.{_&&_, true};
+ghost use mathlib.Core.Bool.{_&&_, cond, true};
 ghost use mathlib.Core.List.{List};
 ghost use mathlib.Core.Path.{_≡_};
 ghost use Rattle.code.specs.Reader.{readCode};
 ghost use Rattle.scan.specs.Answer.{told};
-ghost use Rattle.scan.specs.InnerView.{Followed, GoodScan, ItemRoom, Limits, Settled, ShortFork, addTo, bad, beginTo, closeTo, commitTo, finishTo, forkTo, movedTo, enterTo, pushTo, readTo, setTo, emptyScan, state, stepTo, topTo, writeTo};
+ghost use Rattle.scan.specs.InnerView.{Followed, GoodScan, ItemRoom, Limits, Settled, ShortFork, addTo, bad, closeTo, commitTo, finishTo, forkTo, leafTo, movedTo, enterTo, setTo, emptyScan, state, stepTo, topTo, writeTo};
 
 // What scanning code comes to.
 pub enum Scanned {
@@ -46,12 +46,23 @@ fn deeper(reach: u8) -> usize
     reach as usize + 1
 }
 
-// The greater of two numbers.
-fn greater(a: usize, b: usize) -> usize
+// The kind of a value: a process, or inside a transaction a transaction.
+fn value_kind(inside: bool) -> u8
+    ensures { λ r. ⌜ r ≡ cond inside 3 2 ⌝ }
+{
+    if inside {
+        return 3;
+    }
+    2
+}
+
+// The greater of a number and a byte.
+fn greater(a: usize, b: u8) -> usize
     ensures { λ r. ⌜ r ≡ max a b ⌝ }
 {
-    if a < b {
-        return b;
+    let number = b as usize;
+    if a < number {
+        return number;
     }
     a
 }
@@ -146,7 +157,7 @@ impl Scan {
             return self.foreign();
         }
         let low = deeper(items[64 + a]);
-        let high = wide(items[64 + b]);
+        let high = items[64 + b];
         let inside = self.inside;
         self.set(items, a, kind, greater(low, high), inside, 1, 0, 1)
     }
@@ -247,37 +258,15 @@ impl Scan {
         self
     }
 
-    // PUSH: a new process, or inside a transaction a new transaction.
-    fn push(self, items: &mut [u8; 128]) -> Scan
-        requires { ⌜ Limits self ⌝ }
-        ensures { λ r. ⌜ ((e : List ℕ) → state r (now (items .exit)) e ≡ pushTo (state self (now (items .entry)) e)) ⌝ }
+    // PUSH, READ, BEGIN: a new item, if it is not refused. It has as many bytes in the job as in the code.
+    fn leaf(self, items: &mut [u8; 128], refused: bool, kind: u8, inside: bool, size: usize) -> Scan
+        requires { ⌜ Limits self × (size ≤ 5) ⌝ }
+        ensures { λ r. ⌜ ((e : List ℕ) → state r (now (items .exit)) e ≡ leafTo (state self (now (items .entry)) e) refused kind inside size) ⌝ }
     {
-        if self.inside {
-            return self.top(items, 3, true, 0, 5).moved(5);
-        }
-        self.top(items, 2, false, 0, 5).moved(5)
-    }
-
-    // READ: a new transaction, inside one.
-    fn read(self, items: &mut [u8; 128]) -> Scan
-        requires { ⌜ Limits self ⌝ }
-        ensures { λ r. ⌜ ((e : List ℕ) → state r (now (items .exit)) e ≡ readTo (state self (now (items .entry)) e)) ⌝ }
-    {
-        if self.inside {
-            return self.top(items, 3, true, 0, 2).moved(2);
-        }
-        self.foreign()
-    }
-
-    // BEGIN: a transaction begins, outside any.
-    fn begin(self, items: &mut [u8; 128]) -> Scan
-        requires { ⌜ Limits self ⌝ }
-        ensures { λ r. ⌜ ((e : List ℕ) → state r (now (items .exit)) e ≡ beginTo (state self (now (items .entry)) e)) ⌝ }
-    {
-        if self.inside {
+        if refused {
             return self.foreign();
         }
-        self.top(items, 0, true, 0, 1).moved(1)
+        self.top(items, kind, inside, 0, size).moved(size)
     }
 
     // FORK: a child of so many bytes begins, outside any transaction.
@@ -296,12 +285,13 @@ impl Scan {
         requires { ⌜ Limits self × ShortFork op ⌝ }
         ensures { λ r. ⌜ state r (now (items .exit)) (now (ends .exit)) ≡ stepTo (state self (now (items .entry)) (now (ends .entry))) op ⌝ }
     {
+        let inside = self.inside;
         match op {
-            ops::Op::Push(_) => self.push(items),
+            ops::Op::Push(_) => self.leaf(items, false, value_kind(inside), inside, 5),
             ops::Op::Add => self.add(items).moved(1),
-            ops::Op::Read(_) => self.read(items),
+            ops::Op::Read(_) => self.leaf(items, !inside, 3, true, 2),
             ops::Op::Write(_) => self.write(items).moved(2),
-            ops::Op::Begin => self.begin(items),
+            ops::Op::Begin => self.leaf(items, inside, 0, true, 1),
             ops::Op::Commit => self.commit(items).moved(1),
             ops::Op::Fork(size) => self.fork(items, ends, size),
             ops::Op::Foreign => self.foreign(),

@@ -1,6 +1,6 @@
 -- `scan::Scan::add` meets its contract. Assumes nothing.
 use Prim.Native.Nat.{max}
-use mathlib.Core.Path.{ap₂, _∙_}
+use mathlib.Core.Path.{refl, ap₂, _∙_}
 use Rattle.scan.specs.InnerView.{state}
 use Rattle.scan.proofs.Branches.{add-low, add-part, add-other, add-set}
 use borrow.Author.Needs.{needs}
@@ -43,14 +43,11 @@ element-copy-out-deeper c = search needs
 deeper-requires : tie.Need-deeper-requires
 deeper-requires c κs = tt
 
-add-wide : tie.Need-add-wide
-add-wide c = search needs
+add-high : tie.Need-add-high
+add-high c = search needs
 
-element-copy-out-wide : tie.Need-element-copy-out-wide
-element-copy-out-wide c = search needs
-
-wide-requires : tie.Need-wide-requires
-wide-requires c κs = tt
+element-copy-out-high : tie.Need-element-copy-out-high
+element-copy-out-high c = search needs
 
 greater-requires : tie.Need-greater-requires
 greater-requires c κs = tt
@@ -59,7 +56,7 @@ set-requires : tie.Need-set-requires
 set-requires c κs = search needs
 
 returns-4 : tie.Need-returns-4
-returns-4 c e = c .set .ensures e ∙ add-set (state (c .before .before .before .before .before .before .before .before .before .before .before .before .args .self) (c .before .before .before .before .before .before .before .before .before .before .before .before .args .items .now) e) (c .before .before .before .before .before .before .before .before .before .before .before .if1 .left) (c .before .before .before .before .before .before .before .before .before .if2 .left) (c .before .before .before .before .before .before .before .if3 .left) (c .before .greater .ensures ∙ ap₂ max (c .before .before .before .before .before .deeper .ensures) (c .before .before .before .wide .ensures))
+returns-4 c e = c .set .ensures e ∙ add-set (state (c .before .before .before .before .before .before .before .before .before .before .before .args .self) (c .before .before .before .before .before .before .before .before .before .before .before .args .items .now) e) (c .before .before .before .before .before .before .before .before .before .before .if1 .left) (c .before .before .before .before .before .before .before .before .if2 .left) (c .before .before .before .before .before .before .if3 .left) (c .before .greater .ensures ∙ ap₂ max (c .before .before .before .before .deeper .ensures) refl)
 
 pub add-spec : {M : Type 1} → statement M
 add-spec =
@@ -77,9 +74,8 @@ add-spec =
     add-deeper
     element-copy-out-deeper
     deeper-requires
-    add-wide
-    element-copy-out-wide
-    wide-requires
+    add-high
+    element-copy-out-high
     greater-requires
     set-requires
     returns-4)

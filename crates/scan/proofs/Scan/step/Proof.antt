@@ -11,8 +11,11 @@ use Rattle.scan.proofs.Scan.step.Tie as tie
 enum-told : tie.Need-enum-told
 enum-told c = search needs
 
-push-requires : tie.Need-push-requires
-push-requires c κs = c .before .before .before .pre .0
+value-kind-requires : tie.Need-value-kind-requires
+value-kind-requires c κs = tt
+
+leaf-requires : tie.Need-leaf-requires
+leaf-requires c κs = (c .before .before .before .before .pre .0, omega arith)
 
 enum-told-2 : tie.Need-enum-told-2
 enum-told-2 c = search needs
@@ -26,8 +29,8 @@ moved-requires c κs = (early (c .add .ensures []) (add-place (state (c .before 
 enum-told-3 : tie.Need-enum-told-3
 enum-told-3 c = search needs
 
-read-requires : tie.Need-read-requires
-read-requires c κs = c .before .before .before .pre .0
+leaf-requires-2 : tie.Need-leaf-requires-2
+leaf-requires-2 c κs = (c .before .before .before .pre .0, omega arith)
 
 enum-told-4 : tie.Need-enum-told-4
 enum-told-4 c = search needs
@@ -41,8 +44,8 @@ moved-requires-2 c κs = (early (c .write .ensures []) (write-place (state (c .b
 enum-told-5 : tie.Need-enum-told-5
 enum-told-5 c = search needs
 
-begin-requires : tie.Need-begin-requires
-begin-requires c κs = c .before .before .before .pre .0
+leaf-requires-3 : tie.Need-leaf-requires-3
+leaf-requires-3 c κs = (c .before .before .before .pre .0, omega arith)
 
 enum-told-6 : tie.Need-enum-told-6
 enum-told-6 c = search needs
@@ -66,19 +69,19 @@ foreign-requires : tie.Need-foreign-requires
 foreign-requires c κs = tt
 
 returns : tie.Need-returns
-returns c = c .push .ensures (c .before .before .before .before .args .ends .now) ∙ a-push (state (c .before .before .before .before .args .self) (c .before .before .before .before .args .items .now) (c .before .before .before .before .args .ends .now)) (c .before .before .before .before .args .op) _ (c .before .before .enum-told .given .1)
+returns c = c .leaf .ensures (c .before .before .before .before .before .args .ends .now) ∙ a-push (state (c .before .before .before .before .before .args .self) (c .before .before .before .before .before .args .items .now) (c .before .before .before .before .before .args .ends .now)) (c .before .before .before .before .before .args .op) _ (c .before .before .before .enum-told .given .1) (c .before .value-kind .ensures)
 
 returns-2 : tie.Need-returns-2
 returns-2 c = c .moved .ensures (c .before .add .last .1 .0) (c .before .before .before .before .before .args .ends .now) ∙ (ap (λ (t : ScanState). movedTo t 1) (c .before .add .ensures (c .before .before .before .before .before .args .ends .now)) ∙ an-add (state (c .before .before .before .before .before .args .self) (c .before .before .before .before .before .args .items .now) (c .before .before .before .before .before .args .ends .now)) (c .before .before .before .before .before .args .op) (c .before .before .before .enum-told2 .given .1))
 
 returns-3 : tie.Need-returns-3
-returns-3 c = c .read .ensures (c .before .before .before .before .args .ends .now) ∙ a-read (state (c .before .before .before .before .args .self) (c .before .before .before .before .args .items .now) (c .before .before .before .before .args .ends .now)) (c .before .before .before .before .args .op) _ (c .before .before .enum-told3 .given .1)
+returns-3 c = c .leaf2 .ensures (c .before .before .before .before .args .ends .now) ∙ a-read (state (c .before .before .before .before .args .self) (c .before .before .before .before .args .items .now) (c .before .before .before .before .args .ends .now)) (c .before .before .before .before .args .op) _ (c .before .before .enum-told3 .given .1)
 
 returns-4 : tie.Need-returns-4
 returns-4 c = c .moved2 .ensures (c .before .write .last .1 .0) (c .before .before .before .before .before .args .ends .now) ∙ (ap (λ (t : ScanState). movedTo t 2) (c .before .write .ensures (c .before .before .before .before .before .args .ends .now)) ∙ a-write (state (c .before .before .before .before .before .args .self) (c .before .before .before .before .before .args .items .now) (c .before .before .before .before .before .args .ends .now)) (c .before .before .before .before .before .args .op) _ (c .before .before .before .enum-told4 .given .1))
 
 returns-5 : tie.Need-returns-5
-returns-5 c = c .begin .ensures (c .before .before .before .before .args .ends .now) ∙ a-begin (state (c .before .before .before .before .args .self) (c .before .before .before .before .args .items .now) (c .before .before .before .before .args .ends .now)) (c .before .before .before .before .args .op) (c .before .before .enum-told5 .given .1)
+returns-5 c = c .leaf3 .ensures (c .before .before .before .before .args .ends .now) ∙ a-begin (state (c .before .before .before .before .args .self) (c .before .before .before .before .args .items .now) (c .before .before .before .before .args .ends .now)) (c .before .before .before .before .args .op) (c .before .before .enum-told5 .given .1)
 
 returns-6 : tie.Need-returns-6
 returns-6 c = c .moved3 .ensures (c .before .commit .last .1 .0) (c .before .before .before .before .before .args .ends .now) ∙ (ap (λ (t : ScanState). movedTo t 1) (c .before .commit .ensures (c .before .before .before .before .before .args .ends .now)) ∙ a-commit (state (c .before .before .before .before .before .args .self) (c .before .before .before .before .before .args .items .now) (c .before .before .before .before .before .args .ends .now)) (c .before .before .before .before .before .args .op) (c .before .before .before .enum-told6 .given .1))
@@ -94,17 +97,18 @@ step-spec =
     tie.close
     (tie.spec
     enum-told
-    push-requires
+    value-kind-requires
+    leaf-requires
     enum-told-2
     add-requires
     moved-requires
     enum-told-3
-    read-requires
+    leaf-requires-2
     enum-told-4
     write-requires
     moved-requires-2
     enum-told-5
-    begin-requires
+    leaf-requires-3
     enum-told-6
     commit-requires
     moved-requires-3
