@@ -31,7 +31,7 @@ digits (suc most) n =
       | false ↦ digits most (n / 10) ++ ((48 + n % 10) ∷ [])
     ]
 
--- a number has fewer digits than one more than itself
+-- a number n has at most n + 1 digits
 unfoldable pub decimal : ℕ → List ℕ
 decimal n = digits (suc n) n
 

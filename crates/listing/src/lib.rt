@@ -239,9 +239,10 @@ fn deliver(out: &mut [u8], text: &[u8])
     }
 }
 
-// What the run program prints for an input, into the front of `out`. Total: any input, any output.
+// What the run program prints for an input, into the front of `out`. Total: any input, any output. An output of 4,423 bytes is always long enough.
 pub fn report(input: &[u8], out: &mut [u8]) -> Answer
     ensures { λ r. ⌜ delivered (done (listed (now (input .entry)))) (now (out .entry)) ≡ record { answer = r; output = now (out .exit) } ⌝ }
+    ensures { λ _. ⌜ length (listed (now (input .entry))) ≤ 4423 ⌝ }
 {
     let mut page = [0u8; 4423];
     let length = print(&mut page, input);

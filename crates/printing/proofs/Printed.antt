@@ -1,13 +1,13 @@
 -- What an input prints: the refusal of its job, 13, or the listing of its run. Assumes nothing.
-use Prim.Native.Nat.{ℕ, suc, _+_, _<_, _≤_}
-use mathlib.Core.Bool.{Bool, not}
-use mathlib.Core.Path.{_≡_, ap, _∙_}
-use mathlib.Core.List.{List, _++_}
+use Prim.Native.Nat.{ℕ, suc, _+_, _*_, _<_, _≤_}
+use mathlib.Core.Bool.{Bool, true, false, cond, not, _||_}
+use mathlib.Core.Path.{_≡_, refl, sym, ap, _∙_}
+use mathlib.Core.List.{List, [], _∷_, _++_}
 use native.Mathlib.Omega.{arith}
-use borrow.Author.Tests.{le-ltb}
+use borrow.Author.Tests.{lt-ltb, le-ltb}
 use lib.Dec.{ltb}
-use lib.ListN.{length, take, drop, length-append}
-use lib.Seq.{take-append-seam, drop-append-seam}
+use lib.ListN.{length, take, drop, length-append, take-append-drop}
+use lib.Seq.{length-take-le, take-append-seam, drop-append-seam}
 use Rattle.code.proofs.Foreign.{there-and-back}
 use Rattle.code.specs.Bytes.{compiled}
 use Rattle.machine.proofs.FitTests.{fits-exactly}
@@ -15,7 +15,7 @@ use Rattle.machine.proofs.Fresh.{fresh-typed, fresh-fits}
 use Rattle.machine.specs.Answers.{sumOf, fitting, runOf}
 use Rattle.machine.specs.Steps.{Ran, run, fresh}
 use Rattle.script.proofs.Accepts.{accepted-is-job}
-use Rattle.script.proofs.Numbers.{number16-bytes16}
+use Rattle.script.proofs.Numbers.{number16-bytes16, bytes16-number16, bytes-head, bytes-tail}
 use Rattle.script.specs.Bytes.{Bytes, bytes16}
 use Rattle.script.specs.Jobs.{Job, number16}
 use Rattle.script.specs.Outcome.{Outcome, refused, done, onward, refuse}
@@ -45,6 +45,28 @@ listed-job job picks small =
 
     behind : drop (2 + length job) (inputOf job picks) ≡ picks
     behind = ap (λ (m : ℕ). drop m (inputOf job picks)) (let z : 2 + length job ≡ suc (suc (length job)) = omega arith in z) ∙ drop-append-seam job picks
+
+-- every input that is at least as long as it says is of that form
+pub input-splits : (input : List ℕ) → Bytes input → 2 + number16 input 0 ≤ length input → input ≡ inputOf (take (number16 input 0) (drop 2 input)) (drop (2 + number16 input 0) input)
+input-splits [] b h = absurd (omega (arith, h))
+input-splits (x ∷ []) b h = absurd (omega (arith, h))
+input-splits (x ∷ y ∷ rest) b h =
+    let l : length (take (x * 256 + y) rest) ≡ x * 256 + y = length-take-le (x * 256 + y) rest (omega (arith, h)) in
+    let e : bytes16 (length (take (x * 256 + y) rest)) ≡ x ∷ y ∷ [] = ap bytes16 l ∙ bytes16-number16 x y (bytes-head b) (bytes-head (bytes-tail b)) in
+    let d : drop (2 + (x * 256 + y)) (x ∷ y ∷ rest) ≡ drop (x * 256 + y) rest = ap (λ (m : ℕ). drop m (x ∷ y ∷ rest)) (let z : 2 + (x * 256 + y) ≡ suc (suc (x * 256 + y)) = omega arith in z) in
+    sym
+    (ap (_++ (take (x * 256 + y) rest ++ drop (2 + (x * 256 + y)) (x ∷ y ∷ rest))) e
+    ∙ ap (λ (r : List ℕ). x ∷ y ∷ (take (x * 256 + y) rest ++ r)) d
+    ∙ ap (λ (r : List ℕ). x ∷ y ∷ r) (take-append-drop (x * 256 + y) rest))
+
+-- any other input: "`refused 1 at` and the input's length"
+pub cut-listed : (input : List ℕ) → length input < 2 + number16 input 0 → listed input ≡ refusalLine 1 (length input)
+unfolding listed
+cut-listed input h = rw (lt-ltb (length input) (2 + number16 input 0) h) (either (ltb (length input) 2))
+  where
+    either : (a : Bool) → cond (a || true) (refusalLine 1 (length input)) (printed (jobRun (take (number16 input 0) (drop 2 input)) (drop (2 + number16 input 0) input))) ≡ refusalLine 1 (length input)
+    either true = refl
+    either false = refl
 
 -- a job that is refused, with any picks: "`refused N at P`"
 pub refused-listed : (job picks : List ℕ) (number place : ℕ) → length job < 65536 → readJob job ≡ refused number place → listed (inputOf job picks) ≡ refusalLine number place

@@ -16,7 +16,7 @@ same-length : tie.Need-same-length
 same-length c = search needs
 
 returns : tie.Need-returns
-returns c = ap written (c .before .before .before .report .ensures) ∙ ap {B = Returned} (λ (w : numbers.Written). record { reply = w; output = c .before .before .before .report .last .1 .0 }) (sym (c .numbers .ensures))
+returns c = ap written (c .before .before .before .report .ensures .0) ∙ ap {B = Returned} (λ (w : numbers.Written). record { reply = w; output = c .before .before .before .report .last .1 .0 }) (sym (c .numbers .ensures))
 
 pub kuspigo-report-spec : {M : Type 1} → statement M
 kuspigo-report-spec = tie.close (tie.spec report-requires numbers-requires same-length returns)

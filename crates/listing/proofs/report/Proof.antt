@@ -23,7 +23,7 @@ print-requires c κs = search needs
 
 -- src/lib.rt:249:9
 returns : tie.Need-returns
-returns c = let w = whole (c .before .before .print .ensures) in too-short _ _ (omega (arith, w .size, c .if1 .taken))
+returns c = let w = whole (c .before .before .print .ensures) in (too-short _ _ (omega (arith, w .size, c .if1 .taken)), omega (arith, w .size, w .within))
 
 -- src/lib.rt:251:18
 array-share-prefix-page : tie.Need-array-share-prefix-page
@@ -43,7 +43,7 @@ same-length c = search needs
 
 -- src/lib.rt:243:1
 returns-2 : tie.Need-returns-2
-returns-2 c = page-delivered _ _ _ _ _ (whole (c .before .before .before .before .before .before .before .print .ensures)) (omega (arith, c .before .before .before .before .before .if1 .left)) (c .before .before .deliver .ensures)
+returns-2 c = let w = whole (c .before .before .before .before .before .before .before .print .ensures) in (page-delivered _ _ _ _ _ w (omega (arith, c .before .before .before .before .before .if1 .left)) (c .before .before .deliver .ensures), omega (arith, w .size, w .within))
 
 pub report-spec : {M : Type 1} → statement M
 report-spec =
