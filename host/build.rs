@@ -2,7 +2,7 @@
 
 use std::path::Path;
 
-/// The archives, in the order in which they are linked. If they cannot be linked together: `&["exports"]`.
+/// The archives, in the order in which they are linked.
 const ARCHIVES: &[&str] = &["exports", "engine"];
 
 fn main() {

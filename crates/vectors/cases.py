@@ -2,7 +2,7 @@
 """Writes the files stdin and stdout of this program, beside this one; with a seed and a folder as arguments, other random cases into that
 folder.
 
-In front stand the cases of jobs.py and machine.py, whose answers are also stated by hand. Every answer comes from a second implementation, which
+In front stand the cases of jobs.py and machine.py, most of whose answers are also stated by hand. Every answer comes from a second implementation, which
 is written from the papers (document 01) and not from the definitions or the code of this repository: the job reader, the compiler and the
 way back are in jobs.py, the machine is in machine.py, and what the run program prints is here.
 """

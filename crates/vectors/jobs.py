@@ -1,7 +1,7 @@
 """Cases of the job reader, the compiler and the way back, for cases.py, which writes them.
 
 The job reader, the compiler and the way back here are a second implementation, written from document
-01 alone. Each case also states its answer by hand, and the two are compared before anything is written.
+01 alone. Most cases also state their answer by hand, and the two are compared before anything is written.
 """
 import os
 import sys

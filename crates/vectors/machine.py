@@ -1,6 +1,6 @@
 """Cases of fresh, step and run, for cases.py, which writes them.
 
-The machine here is a second implementation, written from document 01 alone; jobs, their code and what code is foreign come from the
+The machine here is a second implementation, written from document 01; the fields of a record and the numbers of the events are those of the library's interface. Jobs, their code and what code is foreign come from the
 second implementation in jobs.py. Where a case states its answer by hand, the two are compared before anything is written.
 """
 import copy

@@ -109,7 +109,7 @@ fn full(
     out.progress
 }
 
-// A pick that changes the stack of its record alone. It has a way of its own up to the store, so that the logs are not copied.
+// A pick that changes the stack of its record alone, or nothing. It has a way of its own up to the store, so that the logs are not copied.
 fn brief(
     code: &[u8],
     registers: &mut [i32],
@@ -131,7 +131,7 @@ fn brief(
     out.progress
 }
 
-// One pick: one that changes the stack of its record alone, or any other.
+// One pick: one that changes the stack of its record alone, or nothing, or any other.
 fn turn(
     code: &[u8],
     registers: &mut [i32],

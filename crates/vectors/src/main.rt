@@ -9,7 +9,7 @@
 //     report N label: BYTES     puts what the run program prints for an input into an output of N bytes
 //
 // BYTES are in hex, spaces between them being ignored; behind a ';' more of them may stand in decimal, as PICKS do. An output is full of AA
-// beforehand. `kept` or `altered` tells whether what lies behind the result, or on a refusal the whole, still is. Of what is printed, ' /' is
+// beforehand, and N is at most 6,000; of a result of more than 64 bytes its length and a sum of 16 bits are written. `kept` or `altered` tells whether what lies behind the result, or on a refusal the whole, still is. Of what is printed, ' /' is
 // an end of line.
 //
 // These run calls on a state:

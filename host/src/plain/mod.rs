@@ -1,6 +1,6 @@
 //! A second implementation, in plain Rust. Unproved; written from document 01 alone, for comparison with the library.
 //!
-//! It works on the library's record ([`Thread`](crate::Thread)), so that whole memory can be compared. Two calls have
+//! It works on the library's record ([`Thread`](crate::Thread)), so that whole memory can be compared. Four calls have
 //! two forms, for the benchmark: compiling and reading back without a tree (the ones named here) or by a tree
 //! ([`tree`]); running with the records changed in place (the one named here) or by value ([`by_value`]).
 
