@@ -222,7 +222,7 @@ fn print(page: &mut [u8], input: &[u8]) -> usize
     let n = word::number16(input[0], input[1]) as usize;
     let end = n + 2;
     if input.len() < end {
-        return put_refusal(page, 1, input.len());
+        return put_refusal(page, 1, input.len()); // bytes of the input, not of the job
     }
     put_job(page, &input[2..end], &input[end..])
 }
