@@ -1,4 +1,4 @@
-//! A second implementation, in plain Rust. Unproved; written from document 01 alone, for comparison with the library.
+//! A second implementation, in plain Rust. Unproved; written from document 01, for comparison with the library.
 //!
 //! It works on the library's record ([`Thread`](crate::Thread)), so that whole memory can be compared. Four calls have
 //! two forms, for the benchmark: compiling and reading back without a tree (the ones named here) or by a tree
