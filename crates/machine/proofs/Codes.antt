@@ -150,7 +150,7 @@ valued-tran (AddT a b) c v k = valued-tran a (compileT b (ADD ⨾ c)) (v .0) (va
 valued-tran (Read r) c v k = (v, k)
 valued-tran (Write r t) c v k = valued-tran t (WRITE r ⨾ c) (v .1) (v .0, k)
 
-child-length : (p : Proc) → length (instructionsBytes (compileP p ε)) ≡ codeP p
+pub child-length : (p : Proc) → length (instructionsBytes (compileP p ε)) ≡ codeP p
 unfolding instructionsBytes
 child-length p = rw (flat-proc p ε, append-nil (flatP p)) (flat-lengthP p)
 

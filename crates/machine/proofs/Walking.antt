@@ -24,6 +24,9 @@ next-after code.begin q = omega arith
 next-after code.commit q = omega arith
 next-after (code.fork size) q = omega arith
 
+done-same : {a b : Op} → _≡_ {A = Outcome Op} (done a) (done b) → a ≡ b
+done-same e = cc
+
 module _ (bytes : List ℕ) (start end : ℕ) where
   -- the same, told from the front
   data Ahead : ℕ → Walked → ℕ → Walked → Type 0 where
@@ -45,6 +48,20 @@ module _ (bytes : List ℕ) (start end : ℕ) where
   -- no place is before the start
   pub not-before : {p : ℕ} {w : Walked} → Walks bytes start end p w → start ≤ p
   not-before ws = rises (ahead ws)
+
+  between : {p q r : ℕ} {u w v : Walked} {op : Op} → Ahead r u p w → Ahead r u q v → opAt (drop p bytes) ≡ done op → p < q → nextPlace op p ≤ q
+  between stop stop o l = absurd (omega arith)
+  between {p} {q} {op = op} stop (go {op = op′} lt e a) o l =
+      let s : op′ ≡ op = done-same (sym e ∙ o) in
+      subst (λ (x : Op). nextPlace x p ≤ q) s (rises a)
+  between {p} {q} (go {op = op′} lt e a) stop o l = absurd (let r = rises a in let n = next-after op′ q in omega arith)
+  between {q = q} {r = r} {u = u} {v = v} (go {op = a′} lt e a) (go {op = b′} lt′ e′ b) o l =
+      let s : b′ ≡ a′ = done-same (sym e′ ∙ e) in
+      between a (subst (λ (x : Op). Ahead (nextPlace x r) (walkOp x r u) q v) s b) o l
+
+  -- no place lies between one and the next
+  pub none-between : {p q : ℕ} {w v : Walked} {op : Op} → Walks bytes start end p w → opAt (drop p bytes) ≡ done op → Walks bytes start end q v → p < q → nextPlace op p ≤ q
+  none-between a o b l = between (ahead a) (ahead b) o l
 
   finds : {p q : ℕ} {w v : Walked} → Ahead p w q v → (fuel : ℕ) → q < p + fuel → walk fuel bytes end q p w ≡ some v
   unfolding walk

@@ -3,7 +3,7 @@ use Prim.Native.Nat.{ℕ, zero, suc, _+_, _*_, _-_, _<_, _≤_}
 use mathlib.Core.Bool.{Bool, true, false, cond, not}
 use mathlib.Core.Path.{_≡_, refl, ap, sym, subst, _∙_}
 use mathlib.Core.List.{List, [], _∷_, _++_}
-use native.Mathlib.Nat.{mul-suc, mul-comm, mul-le-mul-left}
+use native.Mathlib.Nat.{mul-suc, mul-comm, mul-le-mul-left, mul-zero}
 use native.Mathlib.Omega.{arith}
 use borrow.Author.Tests.{ltb-true, ltb-false}
 use lib.Dec.{ltb}
@@ -174,6 +174,7 @@ module _ (K : Cells) (M : ℕ) where
   -- what a step does to what is to come
   pub record Moves (t : Task K) (d : Did K) : Type 0 where
     pub work : one (not (isIdle (d .event))) + (toCome K (d .task) + total (toCome K) (started K (d .children))) ≤ toCome K t + cond (isBack (d .event)) M 0
+    pub least : toCome K t + one (isBack (d .event)) ≤ one (not (isIdle (d .event))) + (toCome K (d .task) + total (toCome K) (started K (d .children)))
     pub commit : one (isCommit (d .event)) + (commitsToCome K (d .task) + total (commitsToCome K) (started K (d .children))) ≡ commitsToCome K t
     pub fork : length (started K (d .children)) + (forksToCome K (d .task) + total (forksToCome K) (started K (d .children))) ≡ forksToCome K t
     pub formed : Formed K M (d .task)
@@ -185,27 +186,28 @@ module _ (K : Cells) (M : ℕ) where
 
   idles : (h : List (K .Cell)) (t : Task K) → Formed K M t → Moves t (stays K t h)
   unfolding total
-  idles h t f = record { work = omega arith; commit = omega arith; fork = omega arith; formed = f; children-formed = λ k. over-formed }
+  idles h t f = record { work = omega arith; least = omega arith; commit = omega arith; fork = omega arith; formed = f; children-formed = λ k. over-formed }
 
   -- a step of an instruction other than FORK and COMMIT
-  passes : (h : List (K .Cell)) (t u : Task K) (e : Event) → isIdle e ≡ false → isCommit e ≡ false → toCome K t ≡ suc (toCome K u) → commitsToCome K u ≡ commitsToCome K t → forksToCome K u ≡ forksToCome K t → Formed K M u → Moves t (goes K u h e)
+  passes : (h : List (K .Cell)) (t u : Task K) (e : Event) → isIdle e ≡ false → isCommit e ≡ false → isBack e ≡ false → toCome K t ≡ suc (toCome K u) → commitsToCome K u ≡ commitsToCome K t → forksToCome K u ≡ forksToCome K t → Formed K M u → Moves t (goes K u h e)
   unfolding total
-  passes h t u e i c x y z f = record { work = rw (i, x) (omega arith); commit = rw (c, y) (omega arith); fork = rw z (omega arith); formed = f; children-formed = λ k. over-formed }
+  passes h t u e i c b x y z f = record { work = rw (i, x) (omega arith); least = rw (i, x, b) (omega arith); commit = rw (c, y) (omega arith); fork = rw z (omega arith); formed = f; children-formed = λ k. over-formed }
 
   module _ (sum : Rule) where
     outside-moves : (h : List (K .Cell)) (c : Code) (σ : List ℤ) → Formed K M (outside c σ) → Moves (outside c σ) (stepOutside K sum h c σ)
     unfolding stepOutside Outside TakesOutside codeCount instructionCount begins beginsIn forksOf forksIn longestIn longestAt total
     outside-moves h ε σ f = idles h _ f
-    outside-moves h (PUSH n ⨾ c) σ f = passes h _ _ _ refl refl (omega arith) (omega arith) (omega arith) (f .0, omega (arith, f .1))
+    outside-moves h (PUSH n ⨾ c) σ f = passes h _ _ _ refl refl refl (omega arith) (omega arith) (omega arith) (f .0, omega (arith, f .1))
     outside-moves h (ADD ⨾ c) [] f = idles h _ f
     outside-moves h (ADD ⨾ c) (n ∷ []) f = idles h _ f
-    outside-moves h (ADD ⨾ c) (n ∷ m ∷ σ) f = passes h _ _ _ refl refl (omega arith) (omega arith) (omega arith) (f .0, omega (arith, f .1))
+    outside-moves h (ADD ⨾ c) (n ∷ m ∷ σ) f = passes h _ _ _ refl refl refl (omega arith) (omega arith) (omega arith) (f .0, omega (arith, f .1))
     outside-moves h (READ v ⨾ c) σ f = idles h _ f
     outside-moves h (WRITE v ⨾ c) σ f = idles h _ f
-    outside-moves h (BEGIN ⨾ c) σ f = passes h _ _ _ refl refl (omega arith) (omega arith) (omega arith) (record { goes-on = f .0; ready = f .0; same-behind = refl; body-longest = omega (arith, f .1); code-longest = omega (arith, f .1) })
+    outside-moves h (BEGIN ⨾ c) σ f = passes h _ _ _ refl refl refl (omega arith) (omega arith) (omega arith) (record { goes-on = f .0; ready = f .0; same-behind = refl; body-longest = omega (arith, f .1); code-longest = omega (arith, f .1) })
     outside-moves h (COMMIT ⨾ c) σ f = idles h _ f
     outside-moves h (FORK k ⨾ c) σ f = record {
       work = omega arith;
+      least = omega arith;
       commit = omega arith;
       fork = omega arith;
       formed = (f .0 .1, omega (arith, f .1));
@@ -244,6 +246,7 @@ module _ (K : Cells) (M : ℕ) where
         go : (b : Bool) → Moves (inside body base (COMMIT ⨾ c) (n ∷ σ) r w) (result b)
         go true = record {
           work = omega (arith, x, f .body-longest);
+          least = omega (arith, x);
           commit = omega (arith, y);
           fork = omega (arith, z);
           formed = (f .ready, omega (arith, l, f .body-longest, f .code-longest));
@@ -251,6 +254,7 @@ module _ (K : Cells) (M : ℕ) where
         }
         go false = record {
           work = omega arith;
+          least = omega arith;
           commit = omega arith;
           fork = omega arith;
           formed = (f .goes-on .1, omega (arith, f .code-longest));
@@ -260,13 +264,13 @@ module _ (K : Cells) (M : ℕ) where
     inside-moves : (h : List (K .Cell)) (body : Code) (base : List ℤ) (c : Code) (σ : List ℤ) (r : Log (K .Cell)) (w : Log ℤ) → Begun M body base c σ → Moves (inside body base c σ r w) (stepInside K sum h body base c σ r w)
     unfolding stepInside Inside TakesInside codeCount instructionCount begins beginsIn forksOf forksIn longestIn longestAt behind total
     inside-moves h body base ε σ r w f = idles h _ f
-    inside-moves h body base (PUSH n ⨾ c) σ r w f = passes h _ _ _ refl refl (omega arith) (omega arith) (omega arith) (record { goes-on = f .goes-on; ready = f .ready; same-behind = f .same-behind; body-longest = f .body-longest; code-longest = omega (arith, f .code-longest) })
+    inside-moves h body base (PUSH n ⨾ c) σ r w f = passes h _ _ _ refl refl refl (omega arith) (omega arith) (omega arith) (record { goes-on = f .goes-on; ready = f .ready; same-behind = f .same-behind; body-longest = f .body-longest; code-longest = omega (arith, f .code-longest) })
     inside-moves h body base (ADD ⨾ c) [] r w f = idles h _ f
     inside-moves h body base (ADD ⨾ c) (n ∷ []) r w f = idles h _ f
-    inside-moves h body base (ADD ⨾ c) (n ∷ m ∷ σ) r w f = passes h _ _ _ refl refl (omega arith) (omega arith) (omega arith) (record { goes-on = f .goes-on; ready = f .ready; same-behind = f .same-behind; body-longest = f .body-longest; code-longest = omega (arith, f .code-longest) })
-    inside-moves h body base (READ v ⨾ c) σ r w f = passes h _ _ _ refl refl (omega arith) (omega arith) (omega arith) (record { goes-on = f .goes-on .1; ready = f .ready; same-behind = f .same-behind; body-longest = f .body-longest; code-longest = omega (arith, f .code-longest) })
+    inside-moves h body base (ADD ⨾ c) (n ∷ m ∷ σ) r w f = passes h _ _ _ refl refl refl (omega arith) (omega arith) (omega arith) (record { goes-on = f .goes-on; ready = f .ready; same-behind = f .same-behind; body-longest = f .body-longest; code-longest = omega (arith, f .code-longest) })
+    inside-moves h body base (READ v ⨾ c) σ r w f = passes h _ _ _ refl refl refl (omega arith) (omega arith) (omega arith) (record { goes-on = f .goes-on .1; ready = f .ready; same-behind = f .same-behind; body-longest = f .body-longest; code-longest = omega (arith, f .code-longest) })
     inside-moves h body base (WRITE v ⨾ c) [] r w f = idles h _ f
-    inside-moves h body base (WRITE v ⨾ c) (n ∷ σ) r w f = passes h _ _ _ refl refl (omega arith) (omega arith) (omega arith) (record { goes-on = f .goes-on .1; ready = f .ready; same-behind = f .same-behind; body-longest = f .body-longest; code-longest = omega (arith, f .code-longest) })
+    inside-moves h body base (WRITE v ⨾ c) (n ∷ σ) r w f = passes h _ _ _ refl refl refl (omega arith) (omega arith) (omega arith) (record { goes-on = f .goes-on .1; ready = f .ready; same-behind = f .same-behind; body-longest = f .body-longest; code-longest = omega (arith, f .code-longest) })
     inside-moves h body base (BEGIN ⨾ c) σ r w f = idles h _ f
     inside-moves h body base (COMMIT ⨾ c) [] r w f = idles h _ f
     inside-moves h body base (COMMIT ⨾ c) (n ∷ σ) r w f = commit-moves h body base c n σ r w f
@@ -294,6 +298,7 @@ module _ (K : Cells) where
   -- had this many picks that were not idle, commits, and send-backs.
   pub record Bounded (L M A T : ℕ) (steps commits backs : ℕ) (s : System K) : Type 0 where
     pub work : steps + total (toCome K) (s .tasks) ≤ L + M * backs
+    pub least : L + backs ≤ steps + total (toCome K) (s .tasks)
     pub commit : commits + total (commitsToCome K) (s .tasks) ≡ A
     pub fork : length (s .tasks) + total (forksToCome K) (s .tasks) ≡ T
     -- each send-back, and each that is due, is by a commit and a thread that did not commit, and the last commit brings none
@@ -312,6 +317,7 @@ module _ (K : Cells) where
   unfolding start total
   start-bounded c o = record {
     work = omega arith;
+    least = omega arith;
     commit = omega arith;
     fork = omega arith;
     by-commits = omega arith;
@@ -414,6 +420,13 @@ module _ (K : Cells) where
             let e = more M backs (isBack (d .event)) in
             omega arith
 
+        least-kept : L + (backs + one (isBack (d .event))) ≤ steps + one (not (isIdle (d .event))) + total (toCome K) after
+        least-kept =
+            let t = total-next (toCome K) (s .tasks) i (d .task) (started K (d .children)) l in
+            let w = m .least in
+            let o = b .least in
+            omega arith
+
         commit-kept : commits + one (isCommit (d .event)) + total (commitsToCome K) after ≡ A
         commit-kept =
             let t = total-next (commitsToCome K) (s .tasks) i (d .task) (started K (d .children)) l in
@@ -476,6 +489,7 @@ module _ (K : Cells) where
         somebody-keeps : After d
         somebody-keeps = record {
           work = work-kept;
+          least = least-kept;
           commit = commit-kept;
           fork = fork-kept;
           by-commits = by-commits-kept;
@@ -523,6 +537,54 @@ module _ (K : Cells) where
     -- a script's code alone, after any picks
     pub script-run : (p : Proc) → ValuedP p → (is : List ℕ) → Bounded (instructions p) (longest p) (atomics p) (threads p) (0 + counted (λ e. not (isIdle e)) (eventsOf K sum (start K (compileP p ε)) is)) (0 + counted isCommit (eventsOf K sum (start K (compileP p ε)) is)) (0 + counted isBack (eventsOf K sum (start K (compileP p ε)) is)) (endOf K sum (start K (compileP p ε)) is)
     script-run p v is = run-bounded (instructions p) (longest p) (atomics p) (threads p) 0 0 0 (start K (compileP p ε)) (script-bounded p v) is
+
+    -- ---- when every task has ended
+    module _ (p : Proc) (v : ValuedP p) (is : List ℕ) where
+      -- every task of a system has ended
+      abbrev AllOver : System K → Type 0
+      AllOver s = (i : ℕ) → i < length (s .tasks) → (σ : List ℤ) × (taskAt K s i ≡ outside ε σ)
+
+      over-none : (f : Task K → ℕ) → ((σ : List ℤ) → f (outside ε σ) ≡ 0) → (ts : List (Task K)) → ((i : ℕ) → i < length ts → (σ : List ℤ) × (getD ts i (over K) ≡ outside ε σ)) → total f ts ≡ 0
+      unfolding total
+      over-none f z [] a = refl
+      over-none f z (t ∷ ts) a =
+          let e = a 0 (omega arith) in
+          let x : f t ≡ 0 = ap f (e .1) ∙ z (e .0) in
+          let y = over-none f z ts (λ i l. a (suc i) (omega arith)) in
+          omega arith
+
+      abbrev last : System K
+      last = endOf K sum (start K (compileP p ε)) is
+
+      -- all commits were made, and all threads are there
+      pub all-commits : AllOver (endOf K sum (start K (compileP p ε)) is) → counted isCommit (eventsOf K sum (start K (compileP p ε)) is) ≡ atomics p
+      unfolding begins
+      all-commits a =
+          let f = script-run p v is .commit in
+          let z = over-none (commitsToCome K) (λ σ. refl) (last .tasks) a in
+          omega arith
+
+      pub all-threads : AllOver (endOf K sum (start K (compileP p ε)) is) → length (endOf K sum (start K (compileP p ε)) is .tasks) ≡ threads p
+      unfolding forksOf
+      all-threads a =
+          let f = script-run p v is .fork in
+          let z = over-none (forksToCome K) (λ σ. refl) (last .tasks) a in
+          omega arith
+
+      -- no fewer picks were not idle than there are instructions and send-backs, and as many as instructions if nothing was sent back
+      pub steps-least : AllOver (endOf K sum (start K (compileP p ε)) is) → instructions p + counted isBack (eventsOf K sum (start K (compileP p ε)) is) ≤ counted (λ e. not (isIdle e)) (eventsOf K sum (start K (compileP p ε)) is)
+      unfolding codeCount
+      steps-least a =
+          let f = script-run p v is .least in
+          let z = over-none (toCome K) (λ σ. refl) (last .tasks) a in
+          omega arith
+
+      pub steps-exact : AllOver (endOf K sum (start K (compileP p ε)) is) → counted isBack (eventsOf K sum (start K (compileP p ε)) is) ≡ 0 → counted (λ e. not (isIdle e)) (eventsOf K sum (start K (compileP p ε)) is) ≡ instructions p
+      steps-exact a b =
+          let l = steps-least a in
+          let w = script-run p v is .work in
+          let m : longest p * (0 + counted isBack (eventsOf K sum (start K (compileP p ε)) is)) ≡ 0 = ap (λ (n : ℕ). longest p * (0 + n)) b ∙ mul-zero (longest p) in
+          omega arith
 
     -- there are never more tasks than threads in the script
     pub thread-count : (p : Proc) → ValuedP p → (is : List ℕ) → length (endOf K sum (start K (compileP p ε)) is .tasks) ≤ threads p

@@ -1,4 +1,4 @@
--- Every list of turns that the script can take is the order of a run of the tasks, at whose end each result of the script is a task's. Assumes nothing.
+-- Every list of turns that the script can take is the order of a run of the tasks, at whose end each result of the script is a task's, and in which nothing is sent back. Assumes nothing.
 use Prim.Native.Nat.{ℕ, zero, suc, _<_, _≤_}
 use mathlib.Core.Bool.{Bool, true, false}
 use mathlib.Core.Path.{_≡_, refl, sym, ap, subst, _∙_}
@@ -16,8 +16,8 @@ use Rattle.stm.specs.InnerMeaning.{processOf, Outside, Inside, Good, Lin
 use Rattle.stm.proofs.Logs.{logged-same, logged-other, none-found}
 use Rattle.stm.proofs.Sound.{meant-length, meant-at, turns-one, run-linked}
 use Rattle.code.specs.Compile.{Code, PUSH, ADD, READ, WRITE, BEGIN, COMMIT, FORK, ε, _⨾_, compileP}
-use Rattle.stm.specs.Events.{Event, pushed, summed, forked, begun, looked, wrote, committed, isTurn, order}
-use Rattle.stm.proofs.Counts.{order-append}
+use Rattle.stm.specs.Events.{Event, pushed, summed, forked, begun, looked, wrote, committed, isTurn, isBack, counted, order}
+use Rattle.stm.proofs.Counts.{order-append, counted-append}
 use Rattle.script.specs.Tree.{Proc, ValP, AddP, Atomic, Fork}
 use Rattle.script.specs.Turns.{reduce, Script, turned, turn, turns, CanTake}
 use Rattle.script.specs.Turns as script
@@ -69,6 +69,9 @@ module _ (K : Cells) (sum : Rule) where
 
   pub orders-append : (s : System K) (is js : List ℕ) → order (eventsOf K sum s (is ++ js)) ≡ order (eventsOf K sum s is) ++ order (eventsOf K sum (endOf K sum s is) js)
   orders-append s is js = rw (events-append s is js) (order-append (eventsOf K sum s is) (eventsOf K sum (endOf K sum s is) js))
+
+  calm-append : (s : System K) (is js : List ℕ) → counted isBack (eventsOf K sum s is) ≡ 0 → counted isBack (eventsOf K sum (endOf K sum s is) js) ≡ 0 → counted isBack (eventsOf K sum s (is ++ js)) ≡ 0
+  calm-append s is js a b = rw (events-append s is js) (let c = counted-append isBack (eventsOf K sum s is) (eventsOf K sum (endOf K sum s is) js) in omega arith)
 
   next-length : (s : System K) (i : ℕ) → length (s .tasks) ≤ length (next K sum s i .tasks)
   unfolding next
@@ -139,6 +142,7 @@ module _ (K : Cells) (sum : Rule) where
       pub picks : List ℕ
       pub only : (n : ℕ) → i < n → Below n picks
       pub once : order (eventsOf K sum s picks) ≡ i ∷ []
+      pub calm : counted isBack (eventsOf K sum s picks) ≡ 0
       pub outer : AllOutside K (endOf K sum s picks)
 
     -- or has ended
@@ -146,6 +150,7 @@ module _ (K : Cells) (sum : Rule) where
       pub picks : List ℕ
       pub only : (n : ℕ) → i < n → Below n picks
       pub never : order (eventsOf K sum s picks) ≡ []
+      pub calm : counted isBack (eventsOf K sum s picks) ≡ 0
       pub outer : AllOutside K (endOf K sum s picks)
       pub number : ℤ
       pub ended : taskAt K (endOf K sum s picks) i ≡ outside ε (number ∷ [])
@@ -155,32 +160,39 @@ module _ (K : Cells) (sum : Rule) where
       took : Turned s → Went s
       stopped : Ended s → Went s
 
-    turned-later : (s : System K) (e : Event) → did K sum s i .event ≡ e → isTurn e ≡ false → Turned (next K sum s i) → Turned s
-    unfolding endOf
-    turned-later s e f q t =
-        record { picks = i ∷ t .picks; only = λ n l. (l, t .only n l); once = order-on s e (t .picks) f q ∙ t .once; outer = t .outer }
+    -- a pick that is not sent back, and then picks of which none is
+    calm-on : (s : System K) (e : Event) (is : List ℕ) → did K sum s i .event ≡ e → isBack e ≡ false → counted isBack (eventsOf K sum (next K sum s i) is) ≡ 0 → counted isBack (eventsOf K sum s (i ∷ is)) ≡ 0
+    unfolding eventsOf counted
+    calm-on s e is f b z = rw (f, b) z
 
-    went-later : (s : System K) (t : Task K) (e : Event) → did K sum s i .event ≡ e → isTurn e ≡ false → Changed s (next K sum s i) t → Went (next K sum s i) → Went s
+    turned-later : (s : System K) (e : Event) → did K sum s i .event ≡ e → isTurn e ≡ false → isBack e ≡ false → Turned (next K sum s i) → Turned s
     unfolding endOf
-    went-later s t e f q c (took x) = took (turned-later s e f q x)
-    went-later s t e f q c (stopped x) =
+    turned-later s e f q b t =
+        record { picks = i ∷ t .picks; only = λ n l. (l, t .only n l); once = order-on s e (t .picks) f q ∙ t .once; calm = calm-on s e (t .picks) f b (t .calm); outer = t .outer }
+
+    went-later : (s : System K) (t : Task K) (e : Event) → did K sum s i .event ≡ e → isTurn e ≡ false → isBack e ≡ false → Changed s (next K sum s i) t → Went (next K sum s i) → Went s
+    unfolding endOf
+    went-later s t e f q b c (took x) = took (turned-later s e f q b x)
+    went-later s t e f q b c (stopped x) =
         stopped (record {
           picks = i ∷ x .picks;
           only = λ n l. (l, x .only n l);
           never = order-on s e (x .picks) f q ∙ x .never;
+          calm = calm-on s e (x .picks) f b (x .calm);
           outer = x .outer;
           number = x .number;
           ended = x .ended;
           others = λ j n. x .others j n ∙ c .others j n;
         })
 
-    turned-now : (s : System K) (e : Event) (c : Code) (σ : List ℤ) → i < length (s .tasks) → AllBut s → did K sum s i .event ≡ e → isTurn e ≡ true → did K sum s i .task ≡ outside c σ → Turned s
-    unfolding endOf
-    turned-now s e c σ l o f q t =
+    turned-now : (s : System K) (e : Event) (c : Code) (σ : List ℤ) → i < length (s .tasks) → AllBut s → did K sum s i .event ≡ e → isTurn e ≡ true → isBack e ≡ false → did K sum s i .task ≡ outside c σ → Turned s
+    unfolding endOf eventsOf counted
+    turned-now s e c σ l o f q b t =
         record {
           picks = i ∷ [];
           only = λ n x. (x, tt);
           once = order-one s e f q;
+          calm = calm-on s e [] f b refl;
           outer = all-outside (next K sum s i) (others-outside s o) (c, σ, self s l ∙ t);
         }
 
@@ -229,7 +241,7 @@ module _ (K : Cells) (sum : Rule) where
         let t : Task K = inside body base c (n ∷ σ) r w in
         let d : did K sum s i ≡ goes K t (s .table) pushed = did-is s (inside body base (PUSH n ⨾ c) σ r w) e in
         let x = changed s t pushed l d in
-        turned-later s pushed (event-is s (goes K t (s .table) pushed) d) refl
+        turned-later s pushed (event-is s (goes K t (s .table) pushed) d) refl refl
         (inner body base c (n ∷ σ) r w (next K sum s i) (x .now) (x .exists) k (subst (Fresh r) (sym (x .table-kept)) f) (others-outside s o))
     inner body base (ADD ⨾ c) [] r w s e l k f o = absurd k
     inner body base (ADD ⨾ c) (n ∷ []) r w s e l k f o = absurd k
@@ -237,28 +249,28 @@ module _ (K : Cells) (sum : Rule) where
         let t : Task K = inside body base c (sum m n ∷ σ) r w in
         let d : did K sum s i ≡ goes K t (s .table) (summed true) = did-is s (inside body base (ADD ⨾ c) (n ∷ m ∷ σ) r w) e in
         let x = changed s t (summed true) l d in
-        turned-later s (summed true) (event-is s (goes K t (s .table) (summed true)) d) refl
+        turned-later s (summed true) (event-is s (goes K t (s .table) (summed true)) d) refl refl
         (inner body base c (sum m n ∷ σ) r w (next K sum s i) (x .now) (x .exists) k (subst (Fresh r) (sym (x .table-kept)) f) (others-outside s o))
     inner body base (READ v ⨾ c) σ r w s e l k f o =
         let y = found K (s .table) r w v in
         let t : Task K = inside body base c (y .value ∷ σ) (y .reads) w in
         let d : did K sum s i ≡ goes K t (s .table) (looked (y .source)) = did-is s (inside body base (READ v ⨾ c) σ r w) e in
         let x = changed s t (looked (y .source)) l d in
-        turned-later s (looked (y .source)) (event-is s (goes K t (s .table) (looked (y .source))) d) refl
+        turned-later s (looked (y .source)) (event-is s (goes K t (s .table) (looked (y .source))) d) refl refl
         (inner body base c (y .value ∷ σ) (y .reads) w (next K sum s i) (x .now) (x .exists) (k .1) (subst (Fresh (y .reads)) (sym (x .table-kept)) (fresh-found (s .table) r w v f)) (others-outside s o))
     inner body base (WRITE v ⨾ c) [] r w s e l k f o = absurd (k .1)
     inner body base (WRITE v ⨾ c) (n ∷ σ) r w s e l k f o =
         let t : Task K = inside body base c (n ∷ σ) r (logged w v n) in
         let d : did K sum s i ≡ goes K t (s .table) wrote = did-is s (inside body base (WRITE v ⨾ c) (n ∷ σ) r w) e in
         let x = changed s t wrote l d in
-        turned-later s wrote (event-is s (goes K t (s .table) wrote) d) refl
+        turned-later s wrote (event-is s (goes K t (s .table) wrote) d) refl refl
         (inner body base c (n ∷ σ) r (logged w v n) (next K sum s i) (x .now) (x .exists) (k .1) (subst (Fresh r) (sym (x .table-kept)) f) (others-outside s o))
     inner body base (BEGIN ⨾ c) σ r w s e l k f o = absurd k
     inner body base (COMMIT ⨾ c) [] r w s e l k f o = absurd (let z : _≡_ {A = ℕ} 0 1 = k .0 in omega arith)
     inner body base (COMMIT ⨾ c) (n ∷ σ) r w s e l k f o =
         let y : Did K = record { task = outside c (n ∷ base); table = overwritten K 64 0 w (s .table); children = []; event = committed } in
         let d : did K sum s i ≡ y = did-is s (inside body base (COMMIT ⨾ c) (n ∷ σ) r w) e ∙ commit-is body base c n σ r w (s .table) f in
-        turned-now s committed c (n ∷ base) l o (event-is s y d) refl (ap {B = Task K} (λ (z : Did K). z .task) d)
+        turned-now s committed c (n ∷ base) l o (event-is s y d) refl refl (ap {B = Task K} (λ (z : Did K). z .task) d)
     inner body base (FORK x ⨾ c) σ r w s e l k f o = absurd k
 
     one-number : {A : Type 0} (P : List ℤ → Type 0) (σ : List ℤ) → length σ ≡ 1 → ((n : ℤ) → P (n ∷ []) → A) → P σ → A
@@ -268,36 +280,36 @@ module _ (K : Cells) (sum : Rule) where
 
     -- task i, picked alone, takes its turn or ends
     pub goes-alone : (c : Code) (σ : List ℤ) (s : System K) → taskAt K s i ≡ outside c σ → i < length (s .tasks) → Outside c (length σ) → AllOutside K s → Went s
-    unfolding stepTask stepOutside Outside endOf eventsOf order
+    unfolding stepTask stepOutside Outside endOf eventsOf order counted
     goes-alone ε σ s e l k o =
         one-number (λ τ. taskAt K s i ≡ outside ε τ) σ k
-        (λ n f. stopped (record { picks = []; only = λ m x. tt; never = refl; outer = o; number = n; ended = f; others = λ j d. refl }))
+        (λ n f. stopped (record { picks = []; only = λ m x. tt; never = refl; calm = refl; outer = o; number = n; ended = f; others = λ j d. refl }))
         e
     goes-alone (PUSH n ⨾ c) σ s e l k o =
         let t : Task K = outside c (n ∷ σ) in
         let d : did K sum s i ≡ goes K t (s .table) pushed = did-is s (outside (PUSH n ⨾ c) σ) e in
         let x = changed s t pushed l d in
-        went-later s t pushed (event-is s (goes K t (s .table) pushed) d) refl x
+        went-later s t pushed (event-is s (goes K t (s .table) pushed) d) refl refl x
         (goes-alone c (n ∷ σ) (next K sum s i) (x .now) (x .exists) k (all-outside (next K sum s i) (others-outside s (λ j z. o j)) (c, n ∷ σ, x .now)))
     goes-alone (ADD ⨾ c) [] s e l k o = absurd k
     goes-alone (ADD ⨾ c) (n ∷ []) s e l k o = absurd k
     goes-alone (ADD ⨾ c) (n ∷ m ∷ σ) s e l k o =
         let y : Did K = goes K (outside c (sum m n ∷ σ)) (s .table) (summed false) in
         let d : did K sum s i ≡ y = did-is s (outside (ADD ⨾ c) (n ∷ m ∷ σ)) e in
-        took (turned-now s (summed false) c (sum m n ∷ σ) l (λ j z. o j) (event-is s y d) refl (ap {B = Task K} (λ (z : Did K). z .task) d))
+        took (turned-now s (summed false) c (sum m n ∷ σ) l (λ j z. o j) (event-is s y d) refl refl (ap {B = Task K} (λ (z : Did K). z .task) d))
     goes-alone (READ v ⨾ c) σ s e l k o = absurd k
     goes-alone (WRITE v ⨾ c) σ s e l k o = absurd k
     goes-alone (BEGIN ⨾ c) σ s e l k o =
         let t : Task K = inside c σ c [] nothing nothing in
         let d : did K sum s i ≡ goes K t (s .table) begun = did-is s (outside (BEGIN ⨾ c) σ) e in
         let x = changed s t begun l d in
-        took (turned-later s begun (event-is s (goes K t (s .table) begun) d) refl
+        took (turned-later s begun (event-is s (goes K t (s .table) begun) d) refl refl
         (inner c σ c [] nothing nothing (next K sum s i) (x .now) (x .exists) k (λ v y q. absurd (let z : _≡_ {A = ℕ} 0 1 = cc in omega arith)) (others-outside s (λ j z. o j))))
     goes-alone (COMMIT ⨾ c) σ s e l k o = absurd k
     goes-alone (FORK x ⨾ c) σ s e l k o =
         let y : Did K = record { task = outside c (pos 0 ∷ σ); table = s .table; children = x ∷ []; event = forked } in
         let d : did K sum s i ≡ y = did-is s (outside (FORK x ⨾ c) σ) e in
-        took (turned-now s forked c (pos 0 ∷ σ) l (λ j z. o j) (event-is s y d) refl (ap {B = Task K} (λ (z : Did K). z .task) d))
+        took (turned-now s forked c (pos 0 ∷ σ) l (λ j z. o j) (event-is s y d) refl refl (ap {B = Task K} (λ (z : Did K). z .task) d))
 
   -- ---- the script's side
   -- a thread that is a VALP takes no turn
@@ -344,13 +356,14 @@ module _ (K : Cells) (sum : Rule) where
   record Settled (s : System K) (q : Script) (k : ℕ) : Type 0 where
     picks : List ℕ
     never : order (eventsOf K sum s picks) ≡ []
+    calm : counted isBack (eventsOf K sum s picks) ≡ 0
     below : Below (length (s .tasks)) picks
     outer : AllOutside K (endOf K sum s picks)
     ended : (j : ℕ) (n : ℤ) → j < k → getD (q .threads) j (ValP (pos 0)) ≡ ValP n → taskAt K (endOf K sum s picks) j ≡ outside ε (n ∷ [])
 
   -- a task that is no VALP is not picked
   leave : (k : ℕ) (s : System K) (q : Script) → Settled s q k → ((n : ℤ) → getD (q .threads) k (ValP (pos 0)) ≡ ValP n → ⊥) → Settled s q (suc k)
-  leave k s q b no-value = record { picks = b .picks; never = b .never; below = b .below; outer = b .outer; ended = λ j n m e. go j n m e (eqb j k) refl }
+  leave k s q b no-value = record { picks = b .picks; never = b .never; calm = b .calm; below = b .below; outer = b .outer; ended = λ j n m e. go j n m e (eqb j k) refl }
     where
       go : (j : ℕ) (n : ℤ) → j < suc k → getD (q .threads) j (ValP (pos 0)) ≡ ValP n → (t : Bool) → eqb j k ≡ t → taskAt K (endOf K sum s (b .picks)) j ≡ outside ε (n ∷ [])
       go j n m e true f = absurd (no-value n (ap {B = Proc} (λ (x : ℕ). getD (q .threads) x (ValP (pos 0))) (sym (eqb-true j k f)) ∙ e))
@@ -389,6 +402,7 @@ module _ (K : Cells) (sum : Rule) where
       record {
         picks = b .picks ++ w .picks;
         never = nothing-taken;
+        calm = calm-append s (b .picks) (w .picks) (b .calm) (w .calm);
         below = below-append (length (s .tasks)) (b .picks) (w .picks) (b .below) (w .only (length (s .tasks)) l);
         outer = rw (end-append s (b .picks) (w .picks)) (w .outer);
         ended = λ j n m e. rw (end-append s (b .picks) (w .picks)) (go j n m e (eqb j k) refl);
@@ -416,8 +430,8 @@ module _ (K : Cells) (sum : Rule) where
           w .others j d ∙ b .ended j n (omega arith) e
 
   settle : (k : ℕ) (s : System K) (q : Script) → Linked K sum s q → AllOutside K s → k ≤ length (s .tasks) → Settled s q k
-  unfolding eventsOf endOf order
-  settle zero s q x o l = record { picks = []; never = refl; below = tt; outer = o; ended = λ j n m. absurd (omega arith) }
+  unfolding eventsOf endOf order counted
+  settle zero s q x o l = record { picks = []; never = refl; calm = refl; below = tt; outer = o; ended = λ j n m. absurd (omega arith) }
   settle (suc k) s q x o l = go (settle k s q x o (omega arith)) (getD (q .threads) k (ValP (pos 0))) refl
     where
       go : Settled s q k → (p : Proc) → getD (q .threads) k (ValP (pos 0)) ≡ p → Settled s q (suc k)
@@ -430,6 +444,7 @@ module _ (K : Cells) (sum : Rule) where
   pub record Realised (s : System K) (q : Script) (is : List ℕ) : Type 0 where
     pub picks : List ℕ
     pub taken : order (eventsOf K sum s picks) ≡ is
+    pub calm : counted isBack (eventsOf K sum s picks) ≡ 0
     pub exist : Below (length (endOf K sum s picks .tasks)) picks
     pub results : (i : ℕ) (n : ℤ) → getD (turns sum q is .threads) i (ValP (pos 0)) ≡ ValP n → taskAt K (endOf K sum s picks) i ≡ outside ε (n ∷ [])
 
@@ -439,6 +454,7 @@ module _ (K : Cells) (sum : Rule) where
       record {
         picks = b .picks;
         taken = b .never;
+        calm = b .calm;
         exist = below-more (length (s .tasks)) (length (endOf K sum s (b .picks) .tasks)) (b .picks) (end-length (b .picks) s) (b .below);
         results = λ i n e. go i n e (ltb i (length (s .tasks))) refl;
       }
@@ -483,6 +499,7 @@ module _ (K : Cells) (sum : Rule) where
       record {
         picks = w .picks ++ r .picks;
         taken = orders-append s (w .picks) (r .picks) ∙ rw (w .once, r .taken);
+        calm = calm-append s (w .picks) (r .picks) (w .calm) (r .calm);
         exist = rw (end-append s (w .picks) (r .picks)) (below-append last (w .picks) (r .picks) (w .only last small) (r .exist));
         results = λ j n e. rw (end-append s (w .picks) (r .picks)) (r .results j n (rw (turns-one K sum q q′ i is t) at e));
       }
@@ -498,7 +515,8 @@ module _ (K : Cells) (sum : Rule) where
           let d = end-length (r .picks) (endOf K sum s (w .picks)) in
           omega arith
 
-  -- every list of turns that the script can take is the order of a run of the tasks, at whose end each result of the script is a task's
+  -- every list of turns that the script can take is the order of a run of the tasks, at whose end each result of the script is a task's, and in
+  -- which nothing is sent back
   pub complete : (is : List ℕ) (s : System K) (q : Script) → Linked K sum s q → AllOutside K s → CanTake sum q is → Realised s q is
   complete is s q x o script.none = at-end s q x o
   complete is s q x o (script.one {s′ = q′} {i = i} {is = js} t c) =

@@ -1,0 +1,1 @@
+// What every finished run of a job shows: no functions, definitions and theorems only.
