@@ -2,6 +2,7 @@
 use Prim.Native.Nat.{ℕ, suc, _+_, _*_, _-_, max}
 use mathlib.Core.List.{List, [], _∷_, _++_}
 use Rattle.script.specs.Tree.{Tran, ValT, AddT, Read, Write, Proc, ValP, AddP, Atomic, Fork, Sort, process, transaction, Tree}
+use Rattle.word.specs.Registers.{none, with}
 
 -- nodes
 unfoldable pub nodesT : Tran → ℕ
@@ -101,6 +102,37 @@ childHeights (Fork p) = heightP p ∷ childHeights p
 
 unfoldable pub heights : Proc → List ℕ
 heights p = heightP p ∷ childHeights p
+
+-- document 02 No. 1: "the set of registers named by READ and the set named by WRITE"; a set with those of a tree besides, and those of a tree
+unfoldable pub withReadsT : Tran → (set : ℕ) → ℕ
+withReadsT (ValT n) set = set
+withReadsT (AddT a b) set = withReadsT b (withReadsT a set)
+withReadsT (Read v) set = with set v
+withReadsT (Write v t) set = withReadsT t set
+
+unfoldable pub withReads : Proc → (set : ℕ) → ℕ
+withReads (ValP n) set = set
+withReads (AddP a b) set = withReads b (withReads a set)
+withReads (Atomic t) set = withReadsT t set
+withReads (Fork p) set = withReads p set
+
+unfoldable pub withWritesT : Tran → (set : ℕ) → ℕ
+withWritesT (ValT n) set = set
+withWritesT (AddT a b) set = withWritesT b (withWritesT a set)
+withWritesT (Read v) set = set
+withWritesT (Write v t) set = withWritesT t (with set v)
+
+unfoldable pub withWrites : Proc → (set : ℕ) → ℕ
+withWrites (ValP n) set = set
+withWrites (AddP a b) set = withWrites b (withWrites a set)
+withWrites (Atomic t) set = withWritesT t set
+withWrites (Fork p) set = withWrites p set
+
+unfoldable pub readSet : Proc → ℕ
+readSet p = withReads p none
+
+unfoldable pub writeSet : Proc → ℕ
+writeSet p = withWrites p none
 
 -- nodes, depth, FORKs and code bytes of a tree of either sort
 abbrev pub nodes : (s : Sort) → Tree s → ℕ

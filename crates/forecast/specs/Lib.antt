@@ -1,0 +1,3 @@
+-- What the contracts of `forecast` cite.
+pub mod Figures
+pub mod InnerWalk
