@@ -1,2 +1,3 @@
 -- The worked cases hold.
 pub mod Cases
+pub mod Forecasts

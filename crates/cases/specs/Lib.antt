@@ -1,2 +1,3 @@
--- The worked cases of document 01: "Slides for the bench", its figures, and a state that fits or does not for each sentence on fitting.
+-- The worked cases of document 01: "Slides for the bench", its figures, and a state that fits or does not for each sentence on fitting; those of the forecast.
 pub mod Cases
+pub mod Forecasts

@@ -19,7 +19,7 @@ use Rattle.code.proofs.Foreign.{there-and-back, code-bytes}
 use Rattle.thread.specs.declared.Thread.{Thread}
 use Rattle.machine.specs.Steps as steps
 use Rattle.machine.specs.Steps.{State, Stepped, numberOf, threadAt, pick, fresh, Ran}
-use Rattle.stm.specs.Events.{Happened, counted, isIdle, isCommit, backs, order, countsOf, Counts, together}
+use Rattle.stm.specs.Events.{Happened, counted, isIdle, isCommit, isBack, backs, order, countsOf, Counts, together}
 use Rattle.machine.specs.Fits.{Exists, Fits, Typed, Ranged}
 use Rattle.machine.specs.FitTest.{fits}
 use Rattle.machine.specs.Answers.{sumOf, fitting, Returned, stepOf, runOf}
@@ -51,7 +51,7 @@ use Rattle.stm.specs.InnerMeaning.{Outside, Inside, processOf, values, meant, v
 use Rattle.stm.proofs.Sound.{start-linked, run-linked, meant-length, meant-at}
 use Rattle.stm.proofs.Complete.{Below, Realised, start-outside, complete}
 use Rattle.stm.proofs.Bound.{outside-proc, thread-count, steps-bound}
-use Rattle.stm.proofs.Counts.{steps-counted, counts-append, together-none, none-together, together-assoc}
+use Rattle.stm.proofs.Counts.{steps-counted, back-counted, counts-append, together-none, none-together, together-assoc}
 use Rattle.stm.proofs.SentBack as sent
 use Rattle.word.specs.Sum.{Rule}
 
@@ -337,7 +337,7 @@ module _ (job : List ℕ) (j : Job) (b : Bytes job) (accepted : readJob job ≡ 
   -- Every list of turns that the script can take is the order of one list of calls, which ends every thread that is then a VALP.
   pub every-order : (is : List ℕ) → CanTake (sumOf j) (initial (j .tree)) is → IsOrder j is
   unfolding scriptAfter
-  every-order is can = record { now = on (ran .state); events = ran .events; history = history′; its-order = order′; ends = ends′ }
+  every-order is can = record { now = on (ran .state); events = ran .events; history = history′; its-order = order′; calm = calm′; ends = ends′ }
     where
       real : Realised registerCells (sumOf j) (start registerCells (compileP (j .tree) ε)) (initial (j .tree)) is
       real = complete registerCells (sumOf j) is (start registerCells (compileP (j .tree) ε)) (initial (j .tree)) (start-linked registerCells (sumOf j) (j .tree) (is-job .within .valued)) (start-outside registerCells (j .tree)) can
@@ -356,6 +356,9 @@ module _ (job : List ℕ) (j : Job) (b : Bytes job) (accepted : readJob job ≡ 
 
       order′ : order (ran .events) ≡ is
       order′ = ap order (k .events) ∙ real .taken
+
+      calm′ : countsOf (ran .events) .back ≡ 0
+      calm′ = back-counted (ran .events) ∙ (ap (counted isBack) (k .events) ∙ real .calm)
 
       sys : System registerCells
       sys = endOf registerCells (sumOf j) (start registerCells (compileP (j .tree) ε)) (real .picks)

@@ -121,11 +121,13 @@ pub record Whole (j : Job) (s : State) (events : List Happened) : Type 0 where
 
 -- "Every list of turns that the script can take is the order of some such list of calls", which "also ends every thread that is then a VALP in
 -- the script"
+-- (and sends no thread back)
 pub record IsOrder (j : Job) (is : List ℕ) : Type 0 where
   pub now : Session
   pub events : List Happened
   pub history : History (compiled j) now events
   pub its-order : order events ≡ is
+  pub calm : countsOf events .back ≡ 0
   pub ends : (i : ℕ) (n : ℤ) → Result (scriptAfter j is) i n → Ended (now .state) i n
 
 -- "no thread is sent back twice between neighbouring commits or after the last, nor at all before the first"
