@@ -99,8 +99,28 @@ typedef struct kuspigo_run_reply {
     size_t back;    /* commits that were sent back */
 } kuspigo_run_reply;
 
+/* What a job will need; on a refusal the rest is 0. A run is here all steps and runs on one state, from kuspigo_fresh on,
+ * their counts added up, whatever the picks. It is finished when every thread has ended. */
+typedef struct kuspigo_forecast_reply {
+    size_t refusal;
+    size_t place;
+    size_t length;       /* bytes of its code, mark and version included */
+    size_t transactions; /* a finished run has so many commits that took effect, */
+    size_t threads;      /* and so many threads: the root, and a child for each FORK */
+    size_t instructions; /* a finished run in which nothing was sent back has so many steps */
+    size_t longest;      /* instructions of the longest transaction, BEGIN and COMMIT included; 0 if there is none */
+    size_t bound;        /* no run has more steps */
+    uint64_t reads;      /* the registers that READ names, bit 0 being register 0, */
+    uint64_t writes;     /* and those that WRITE names */
+    uint8_t heights[KUSPIGO_THREADS]; /* greatest stack height of the root, then of each FORK's child in the order of
+                                         the FORKs in the job; 0 behind them */
+} kuspigo_forecast_reply;
+
 /* The job's stack code, at the front of out. Refusals 1 to 9, then 10. */
 kuspigo_written kuspigo_compile(const uint8_t *job, size_t job_count, uint8_t *out, size_t out_count);
+
+/* What the job will need, from its bytes alone. Refusals 1 to 9. */
+kuspigo_forecast_reply kuspigo_forecast(const uint8_t *job, size_t job_count);
 
 /* The job that compiles to the code, at the front of out. Refusals 11, then 10. */
 kuspigo_written kuspigo_read_back(const uint8_t *code, size_t code_count, uint8_t *out, size_t out_count);

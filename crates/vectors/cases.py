@@ -3,8 +3,8 @@
 folder.
 
 In front stand the cases of jobs.py and machine.py, most of whose answers are also stated by hand. Every answer comes from a second implementation, which
-is written from the papers (document 01) and not from the definitions or the code of this repository: the job reader, the compiler and the
-way back are in jobs.py, the machine is in machine.py, and what the run program prints is here.
+is written from the papers (documents 01 and 02) and not from the definitions or the code of this repository: the job reader, the compiler, the
+way back and the forecast are in jobs.py, the machine is in machine.py, and what the run program prints is here.
 """
 import os
 import random
@@ -463,6 +463,51 @@ def a_code(code, size, kind=""):
     add(said, ("back %d %s" % (size, kind)).strip(), code.hex(), jobs.show_output("job", answer))
 
 
+def a_forecast(data):
+    """The forecast of a job; of an accepted one its figures are compared with its code and a finished run."""
+    answer = jobs.forecast(data)
+    if answer[0] == "refused":
+        add("damaged job", "forecast", data.hex(), jobs.show_forecast(answer))
+        seen["forecast"]["refused %d" % answer[1]] += 1
+        return
+    compare_run(jobs.tree_at(data, 7)[0], answer)
+    add("forecast", "forecast", data.hex(), jobs.show_forecast(answer))
+
+
+def compare_run(tree, answer):
+    """Runs the tree's code until all threads have ended, and compares what that shows with a forecast."""
+    length, k, t, l, m, bound, reads, writes, heights = answer
+    code, memory = whole(tree), machine.Memory()
+    machine.call_fresh(code, memory)
+    # by the start of a thread's code its greatest height; by its number the instructions of its attempt
+    highest, attempt = Counter(), Counter()
+    commits = steps = back = longest = 0
+    named = {3: set(), 4: set()}
+    while live := [i for i in range(16) if memory.threads[i].start and memory.threads[i].place != memory.threads[i].end]:
+        i = rng.choice(live)
+        thread = memory.threads[i]
+        op, operand, _ = machine.instruction(code, thread.place)
+        event = machine.pick(code, memory, i)[0]
+        highest[thread.start] = max(highest[thread.start], thread.height)
+        steps += 1
+        if op in named:
+            named[op].add(operand)
+        attempt[i] = 1 if op == 5 else attempt[i] + 1
+        if op == 6:
+            longest = max(longest, attempt[i])
+            commits += event == 9
+            back += event == 10
+    assert (length, k, m, l) == (len(code), commits, longest, len(op_places(code)))
+    assert t == len(highest) == sum(memory.threads[i].start != 0 for i in range(16))
+    assert (set(reads), set(writes)) == (named[3], named[4])
+    assert heights == [highest[start] for start in [5] + [at + 3 for at in op_places(code) if code[at] == 7]]
+    assert l < steps <= bound if back else steps == l
+    note = seen["forecast"]
+    note["sent back"] += back > 0
+    for name, n in (("no transaction", k == 0), ("several transactions", k > 1), ("several threads", t > 1), ("a greater bound", bound > l)):
+        note[name] += n
+
+
 def room(n):
     """A size of an output in which n bytes have room."""
     return n + rng.choice((0, 0, 0, 1, 2, 50))
@@ -647,9 +692,21 @@ def the_large():
         seen["large"][len(data) // 1000] += 1
 
 
+def the_forecasts():
+    cases.section("forecasts")
+    for k in range(300):
+        a_forecast(job((small, busy, any_tree, many)[k % 4 if k % 20 else 3]()))
+    for most in (70, 150, 500, 1000):
+        a_forecast(job(large(most)))
+    cases.section("forecasts of jobs that are turned down")
+    for number in JOB_DAMAGE:
+        for _ in range(10):
+            a_forecast(damaged_job(number))
+
+
 def check():
     """All that the cases are to have."""
-    for kind in ("job", "damaged job", "code", "damaged code", "in calls", "foreign state", "input"):
+    for kind in ("job", "damaged job", "code", "damaged code", "in calls", "foreign state", "input", "forecast"):
         assert kinds[kind] >= 300, (kind, kinds[kind])
     tests = ["1 fewer than 7", "1 no byte", "1 operand", *"2345678", "9 count used up", "9 nodes", "9 bytes"]
     assert sorted(seen["test"]) == sorted(tests) and min(seen["test"].values()) >= 5, seen["test"]
@@ -664,6 +721,8 @@ def check():
     assert set(seen["fresh"]) == {"laid", "refused 12 at 0 kept"}
     for name in ("refused", "taken", "sent back", "left open", "of 2", "of 3", "of 4", "of 5"):
         assert seen["calls"][name] >= 10, (name, seen["calls"])
+    for name in ("no transaction", "several transactions", "several threads", "a greater bound", "sent back", *("refused %d" % n for n in JOB_DAMAGE)):
+        assert seen["forecast"][name] >= 10, (name, seen["forecast"])
     for name in ("short", "longer", "steps", "idle", "commits", "back", "thread open", "thread negative", "thread least", "thread of two digits",
                  "register negative", "register least", "register of two digits", *("refused %d" % n for n in (1, 2, 3, 4, 5, 6, 7, 8, 9, 13))):
         assert seen["report"][name] >= 1, (name, seen["report"])
@@ -676,7 +735,7 @@ def main(seed=SEED, folder=HERE):
         cases.lines += stated.cases.lines + [""]
         cases.answers += stated.cases.answers
     cases.lines.append("# Random cases of every call.")
-    for part in (the_jobs, the_damaged_jobs, the_codes, the_damaged_codes, the_states, the_calls, the_inputs, the_large):
+    for part in (the_jobs, the_damaged_jobs, the_codes, the_damaged_codes, the_states, the_calls, the_inputs, the_large, the_forecasts):
         part()
     check()
     cases.save(folder, ROOM)

@@ -1,7 +1,7 @@
-"""Cases of the job reader, the compiler and the way back, for cases.py, which writes them.
+"""Cases of the job reader, the compiler, the way back and the forecast, for cases.py, which writes them.
 
-The job reader, the compiler and the way back here are a second implementation, written from document
-01 alone. Most cases also state their answer by hand, and the two are compared before anything is written.
+The job reader, the compiler, the way back and the forecast here are a second implementation, written from documents
+01 and 02 alone. Most cases also state their answer by hand, and the two are compared before anything is written.
 """
 import os
 import sys
@@ -284,6 +284,48 @@ def read_back(code, size):
     return data
 
 
+# ---- the forecast: (code length, K, T, L, M, bound, registers of READ, of WRITE, heights), the registers as lists
+
+
+def each_node(tree):
+    """All nodes in job order."""
+    yield tree
+    for part in tree[2]:
+        yield from each_node(part)
+
+
+def parts_of(tree, kind):
+    """The parts of all nodes of a kind that has one, in job order."""
+    return [node[2][0] for node in each_node(tree) if node[0] == kind]
+
+
+def named(tree, kind):
+    return sorted({node[1][0] for node in each_node(tree) if node[0] == kind})
+
+
+def height(tree):
+    """The greatest stack height while the tree's own code is run; a FORK pushes 0, and its child has another stack."""
+    kind, _, parts = tree
+    if kind == FORK_KIND or not parts:
+        return 1
+    if len(parts) == 1:
+        return height(parts[0])
+    return max(height(parts[0]), 1 + height(parts[1]))
+
+
+def forecast(data):
+    reading = read_job(data)
+    if reading[0] == "refused":
+        return reading
+    tree = tree_at(data, 7)[0]
+    threads = [tree] + parts_of(tree, FORK_KIND)
+    transactions = parts_of(tree, ATOMIC_KIND)
+    k, t, l = len(transactions), len(threads), nodes(tree) + len(transactions)
+    m = max((nodes(part) + 2 for part in transactions), default=0)
+    bound = l + (k - 1) * (t - 1) * m if k else l
+    return (reading[2], k, t, l, m, bound, named(tree, READ_KIND), named(tree, WRITE_KIND), [height(thread) for thread in threads])
+
+
 # ---- shapes of trees
 
 
@@ -303,9 +345,15 @@ def right_comb(add, leaf, depth):
 
 
 def balanced(add, leaf, leaves):
-    if leaves == 1:
-        return leaf
-    return add(balanced(add, leaf, leaves // 2), balanced(add, leaf, leaves - leaves // 2))
+    return flat(add, [leaf] * leaves)
+
+
+def flat(add, parts):
+    """The sum of the parts, its left half being as large as its right one or one smaller."""
+    if len(parts) == 1:
+        return parts[0]
+    half = len(parts) // 2
+    return add(flat(add, parts[:half]), flat(add, parts[half:]))
 
 
 def chain(node, times, tree):
@@ -403,6 +451,22 @@ def back(label, size, code, answer):
     code, answer = to_bytes(code), to_bytes(answer)
     assert read_back(code, size) == answer, (label, code.hex(" "), read_back(code, size), answer)
     line("back %d %s" % (size, label), to_text(code), show_output("job", answer))
+
+
+def show_forecast(answer):
+    if answer[0] == "refused":
+        return show(answer)
+    *numbers, reads, writes, heights = answer
+    numbers += [sum(1 << v for v in names) for names in (reads, writes)]
+    heights = " ".join(str(n) for n in heights + [0] * (16 - len(heights)))
+    return "code %d transactions %d threads %d instructions %d longest %d bound %d reads %d writes %d" % tuple(numbers) + " heights " + heights
+
+
+def foretold(label, data, answer):
+    """A job and its forecast, or its refusal."""
+    data = to_bytes(data)
+    assert forecast(data) == answer, (label, data.hex(" "), forecast(data), answer)
+    line("forecast " + label, to_text(data), show_forecast(answer))
 
 
 def both(label, tree):
@@ -616,6 +680,8 @@ ONE_CODE = "57 53 43 00 01 01 00 00 00 07"
 P = "01 00 00 00 07"  # the code of V, and in a transaction of T
 READS = atomic(balanced(addt, read(5), 500))
 LONG = fork(balanced(addp, valp(-2), 500))
+# 161 transactions, one of them of 485 nodes, and 16 threads
+MILLION = flat(addp, [fork(atomic(read(1)))] * 15 + [atomic(read(1))] * 145 + [atomic(balanced(addt, read(2), 243))])
 FEW = addp(fork(left_comb(addp, valp(258), 50)), V)  # its child's code has 299 bytes
 MANY = addp(fork(addp(atomic(read(1)), left_comb(addp, valp(258), 51))), V)  # and here 310
 
@@ -690,6 +756,54 @@ def there_and_back():
     compiling("1000 nodes, the longest code", 6000, job(LONG), whole(LONG))
     back("1000 nodes, an output one short", len(job(LONG)) - 1, whole(LONG), refused(10, 0))
     back("1000 nodes, the longest code", 6000, whole(LONG), job(LONG))
+
+
+def the_forecasts():
+    section("forecasts")
+    for label, tree, answer in (
+        ("document 01's whole case", WHOLE, (36, 2, 3, 15, 6, 27, [0], [0], [2, 2, 2])),
+        ("one number", V, (10, 0, 1, 1, 0, 1, [], [], [1])),
+        ("no ATOMIC, a FORK", addp(fork(V), V), (19, 0, 2, 4, 0, 4, [], [], [2, 1])),
+        ("one ATOMIC, a READ that the write log answers", atomic(addt(write(0, T), read(0))), (17, 1, 1, 6, 6, 6, [0], [0], [2])),
+        ("one ATOMIC in a FORK", fork(atomic(T)), (15, 1, 2, 4, 3, 4, [], [], [1, 1])),
+        ("two ATOMICs, one thread", addp(atomic(read(1)), atomic(read(1))), (14, 2, 1, 7, 3, 7, [1], [], [2])),
+        ("the longer transaction in front", addp(fork(atomic(write(63, write(9, read(8))))), atomic(read(62))), (21, 2, 2, 10, 5, 15, [8, 62], [9, 63], [2, 1])),
+        ("the longer transaction behind", addp(fork(atomic(read(62))), atomic(write(63, write(9, read(8))))), (21, 2, 2, 10, 5, 15, [8, 62], [9, 63], [2, 1])),
+        ("registers 0 and 63", atomic(write(63, write(0, addt(read(0), read(63))))), (16, 1, 1, 7, 7, 7, [0, 63], [0, 63], [2])),
+        ("registers 31, 32 and 33", atomic(write(32, addt(read(31), read(33)))), (14, 1, 1, 6, 6, 6, [31, 33], [32], [2])),
+        ("fork (fork (1 + 1)) + fork 1", addp(fork(fork(addp(V, V))), fork(V)), (31, 0, 4, 8, 0, 8, [], [], [2, 1, 2, 1])),
+        ("a sum in the left part", addp(addp(V, V), V), (22, 0, 1, 5, 0, 5, [], [], [2])),
+        ("a sum in the right part", addp(V, addp(V, V)), (22, 0, 1, 5, 0, 5, [], [], [3])),
+        ("a transaction above two numbers", addp(V, addp(V, atomic(addt(T, addt(T, T))))), (36, 1, 1, 11, 7, 11, [], [], [5])),
+        ("a FORK above two numbers", addp(V, addp(V, fork(addp(V, V)))), (31, 0, 2, 8, 0, 8, [], [], [3, 2])),
+        ("WRITEs in each other", atomic(chain(write0, 5, T)), (22, 1, 1, 8, 8, 8, [], [0], [1])),
+        ("sums to depth 64 on the left", left_comb(addp, V, 64), (388, 0, 1, 127, 0, 127, [], [], [2])),
+        ("sums to depth 64 on the right", right_comb(addp, V, 64), (388, 0, 1, 127, 0, 127, [], [], [64])),
+        ("sums to depth 64 in a FORK", fork(right_comb(addp, V, 63)), (385, 0, 2, 126, 0, 126, [], [], [1, 63])),
+        ("sums to depth 64 in a transaction", atomic(right_comb(addt, read(1), 63)), (195, 1, 1, 127, 127, 127, [1], [], [63])),
+        ("15 FORKs in each other", chain(fork, 15, V), (55, 0, 16, 16, 0, 16, [], [], [1] * 16)),
+        ("15 FORKs side by side", balanced(addp, fork(V), 15), (139, 0, 16, 44, 0, 44, [], [], [5] + [1] * 15)),
+        ("every register", flat(addp, [atomic(write(63 - v, read(v))) for v in range(64)]), (452, 64, 1, 319, 4, 319, list(range(64)), list(range(64)), [7])),
+        ("a bound above a million", MILLION, (1580, 161, 16, 1142, 487, 1169942, [1, 2], [], [17] + [1] * 15)),
+        ("1000 nodes, the longest code", LONG, (3007, 0, 2, 1000, 0, 1000, [], [], [1, 10])),
+        ("1000 nodes in one transaction", READS, (1506, 1, 1, 1001, 1001, 1001, [5], [], [10])),
+    ):
+        foretold(label, job(tree), answer)
+    section("forecasts: a refused job")
+    for label, data, answer in (
+        ("no bytes", "", refused(1, 0)),
+        ("cut at its last byte", job(WHOLE)[:-1], refused(1, 31)),
+        ("mark", "57 53 43 00 01 00 01 01 00 00 00 07", refused(2, 0)),
+        ("version", job(V, version=2), refused(3, 3)),
+        ("count", job(V, count=0), refused(4, 5)),
+        ("kind", job(addp(V, T)), refused(5, 13)),
+        ("register", job(addp(V, atomic(read(64)))), refused(6, 15)),
+        ("depth", job(left_comb(addp, V, 65)), refused(7, 71)),
+        ("forks", job(chain(fork, 16, V)), refused(8, 22)),
+        ("bytes left over", job(WHOLE) + b"\x00", refused(9, 32)),
+        ("nodes left over", job(WHOLE, count=14), refused(9, 32)),
+    ):
+        foretold("refused, " + label, data, answer)
 
 
 def foreign_heads():
@@ -841,6 +955,8 @@ def the_text():
         ("another word", ONE_CODE),
         ("another 12 word", ONE_CODE),
         ("job", ONE_CODE),
+        ("forecast", ONE_CODE),
+        ("forecast a lone digit", "57 5"),
         ("compile", ONE_CODE),
         ("compile one number", ONE_CODE),
         ("compile 6001 one number", ONE_CODE),
@@ -868,6 +984,7 @@ def make():
         the_first_of_two,
         there,
         there_and_back,
+        the_forecasts,
         foreign_heads,
         foreign_instructions,
         foreign_transactions,

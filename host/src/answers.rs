@@ -1,4 +1,4 @@
-//! Refusals, and what steps and runs answer.
+//! Refusals, and what forecasts, steps and runs answer.
 
 use std::fmt;
 
@@ -126,5 +126,67 @@ impl Counts {
         self.steps += usize::from(event != Event::Idle);
         self.commits += usize::from(event == Event::Commit);
         self.back += usize::from(event == Event::SentBack);
+    }
+}
+
+/// A set of registers.
+#[derive(Clone, Copy, PartialEq, Eq, Hash, Default)]
+pub struct RegisterSet {
+    /// One bit for each register, bit 0 being register 0.
+    pub bits: u64,
+}
+
+impl RegisterSet {
+    pub fn contains(self, register: u8) -> bool {
+        register < 64 && self.bits >> register & 1 == 1
+    }
+
+    /// Its registers, ascending.
+    pub fn iter(self) -> impl Iterator<Item = u8> {
+        (0..64).filter(move |&register| self.contains(register))
+    }
+
+    /// Puts a register in. One of 64 or above leaves the set as it is.
+    pub fn insert(&mut self, register: u8) {
+        if register < 64 {
+            self.bits |= 1 << register;
+        }
+    }
+}
+
+impl fmt::Debug for RegisterSet {
+    fn fmt(&self, f: &mut fmt::Formatter<'_>) -> fmt::Result {
+        f.debug_set().entries(self.iter()).finish()
+    }
+}
+
+/// What a job will need. A run is here all steps and runs on one state, from a fresh one on, their counts added up, whatever the picks. It is finished when
+/// every thread has ended.
+#[derive(Clone, Copy, PartialEq, Eq, Hash, Debug)]
+pub struct Forecast {
+    /// Bytes of its code, mark and version included.
+    pub length: usize,
+    /// A finished run has so many commits (K).
+    pub transactions: usize,
+    /// A finished run has so many threads (T).
+    pub threads: usize,
+    /// A finished run in which nothing was sent back has so many steps (L).
+    pub instructions: usize,
+    /// Instructions of the longest transaction, BEGIN and COMMIT included; 0 if there is none (M).
+    pub longest: usize,
+    /// No run has more steps.
+    pub bound: usize,
+    /// The registers that READ names.
+    pub reads: RegisterSet,
+    /// The registers that WRITE names.
+    pub writes: RegisterSet,
+    /// All 16 heights, 0 behind those of the job's threads.
+    pub(crate) all_heights: [u8; 16],
+}
+
+impl Forecast {
+    /// Greatest stack height of the root, then of each FORK's child in the order of the FORKs in the job.
+    pub fn heights(&self) -> &[u8] {
+        &self.all_heights[..self.threads]
     }
 }

@@ -70,9 +70,35 @@ pub struct RunReply {
     pub back: usize,
 }
 
+/// The answer of forecast; on a refusal all behind `place` is 0.
+#[repr(C)]
+#[derive(Clone, Copy, PartialEq, Eq, Debug)]
+pub struct ForecastReply {
+    pub refusal: usize,
+    pub place: usize,
+    /// Bytes of code, mark and version included.
+    pub length: usize,
+    /// ATOMIC nodes.
+    pub transactions: usize,
+    /// 1 + FORK nodes.
+    pub threads: usize,
+    /// Of all threads together, each counted once.
+    pub instructions: usize,
+    /// Instructions of the longest transaction, BEGIN and COMMIT included; 0 if there is none.
+    pub longest: usize,
+    /// No run from a fresh state has more steps.
+    pub bound: usize,
+    /// The registers that READ names, bit 0 being register 0, and those that WRITE names.
+    pub reads: u64,
+    pub writes: u64,
+    /// Greatest stack height of the root, then of each FORK's child in job order; 0 behind them.
+    pub heights: [u8; 16],
+}
+
 extern "C" {
     pub fn kuspigo_compile(job: *const u8, job_count: usize, out: *mut u8, out_count: usize) -> Written;
     pub fn kuspigo_read_back(code: *const u8, code_count: usize, out: *mut u8, out_count: usize) -> Written;
+    pub fn kuspigo_forecast(job: *const u8, job_count: usize) -> ForecastReply;
     pub fn kuspigo_report(input: *const u8, input_count: usize, out: *mut u8, out_count: usize) -> Written;
     pub fn kuspigo_fresh(
         code: *const u8,

@@ -15,7 +15,7 @@ pub mod plain;
 pub mod raw;
 pub mod samples;
 
-pub use answers::{Counts, Event, Refusal, Step};
+pub use answers::{Counts, Event, Forecast, Refusal, RegisterSet, Step};
 pub use ffi::Thread;
 
 use ffi::Written;
@@ -33,6 +33,23 @@ pub fn compile(job: &[u8]) -> Result<Vec<u8>, Refusal> {
 /// Writes the job's stack code to the front of `out` and gives its length. Nothing behind it is altered.
 pub fn compile_into(job: &[u8], out: &mut [u8]) -> Result<usize, Refusal> {
     written(raw::compile(job, out))
+}
+
+/// What the job will need, from its bytes alone.
+pub fn forecast(job: &[u8]) -> Result<Forecast, Refusal> {
+    let reply = raw::forecast(job);
+    taken(reply.refusal, reply.place)?;
+    Ok(Forecast {
+        length: reply.length,
+        transactions: reply.transactions,
+        threads: reply.threads,
+        instructions: reply.instructions,
+        longest: reply.longest,
+        bound: reply.bound,
+        reads: RegisterSet { bits: reply.reads },
+        writes: RegisterSet { bits: reply.writes },
+        all_heights: reply.heights,
+    })
 }
 
 /// The job that compiles to the code.

@@ -1,8 +1,8 @@
-//! The library's six functions on slices of any length, with their answers as they come.
+//! The library's seven functions on slices of any length, with their answers as they come.
 //!
 //! A Rust slice's pointer is never null, also if the slice is empty.
 
-use crate::ffi::{self, FreshReply, RunReply, StepReply, Thread, Written};
+use crate::ffi::{self, ForecastReply, FreshReply, RunReply, StepReply, Thread, Written};
 
 pub fn compile(job: &[u8], out: &mut [u8]) -> Written {
     // SAFETY: both pointers come from slices of the counts beside them, `out` being lent to this call alone.
@@ -12,6 +12,11 @@ pub fn compile(job: &[u8], out: &mut [u8]) -> Written {
 pub fn read_back(code: &[u8], out: &mut [u8]) -> Written {
     // SAFETY: both pointers come from slices of the counts beside them, `out` being lent to this call alone.
     unsafe { ffi::kuspigo_read_back(code.as_ptr(), code.len(), out.as_mut_ptr(), out.len()) }
+}
+
+pub fn forecast(job: &[u8]) -> ForecastReply {
+    // SAFETY: the pointer comes from a slice of the count beside it.
+    unsafe { ffi::kuspigo_forecast(job.as_ptr(), job.len()) }
 }
 
 pub fn report(input: &[u8], out: &mut [u8]) -> Written {

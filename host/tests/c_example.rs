@@ -1,7 +1,7 @@
-//! The C header and the C example, built and run with the system's C compiler.
+//! The C header and the C examples, built and run with the system's C compiler.
 
 use core::mem::{offset_of, size_of};
-use kuspigo::ffi::{FreshReply, RunReply, StepReply, Written};
+use kuspigo::ffi::{ForecastReply, FreshReply, RunReply, StepReply, Written};
 use kuspigo::Thread;
 use std::path::{Path, PathBuf};
 use std::process::Command;
@@ -40,6 +40,15 @@ fn the_example_prints_the_whole_case() {
     assert_eq!(printed, expected);
 }
 
+#[test]
+fn the_example_prints_the_whole_cases_forecast() {
+    let Some(printed) = output_of("examples/forecast.c") else { return };
+    let expected = "36 bytes of code, 2 transactions, 3 threads\n\
+        15 instructions, 6 in the longest transaction, at most 27 steps\n\
+        READ names 0\nWRITE names 0\nheights 2 2 2\n";
+    assert_eq!(printed, expected);
+}
+
 macro_rules! layout {
     ($($name:literal $type:ty { $($c:literal $field:ident),* })*) => {
         [$(
@@ -64,6 +73,11 @@ fn the_header_has_the_same_layout() {
         }
         "kuspigo_run_reply" RunReply {
             "refusal" refusal, "place" place, "steps" steps, "idle" idle, "commits" commits, "back" back
+        }
+        "kuspigo_forecast_reply" ForecastReply {
+            "refusal" refusal, "place" place, "length" length, "transactions" transactions, "threads" threads,
+            "instructions" instructions, "longest" longest, "bound" bound, "reads" reads, "writes" writes,
+            "heights" heights
         }
     };
     assert_eq!(printed, expected);

@@ -1,11 +1,12 @@
-//! The library beside the plain implementation, on random cases of each call: answers and all memory must be equal.
+//! The library beside the plain implementation, on random cases of each call: answers and all memory must be equal. And
+//! its forecasts beside its own code and finished runs.
 //!
 //! KUSPIGO_SEED and KUSPIGO_CASES (for each call) choose the cases. An argument runs only the calls whose name has it.
 
-use kuspigo::ffi::{FreshReply, RunReply, StepReply, Written};
+use kuspigo::ffi::{ForecastReply, FreshReply, RunReply, StepReply, Written};
 use kuspigo::plain::{self, by_value, tree};
 use kuspigo::samples::{chain, many_small, sum, Lean, Rng, Shape};
-use kuspigo::{raw, Counts, Event, Refusal, Step, Thread};
+use kuspigo::{raw, Counts, Event, Forecast, Refusal, RegisterSet, Step, Thread};
 use std::collections::BTreeMap;
 use std::fmt::{Debug, Write};
 use std::time::Instant;
@@ -26,7 +27,7 @@ struct Call {
     reaches: &'static [&'static str],
 }
 
-const CALLS: [Call; 6] = [
+const CALLS: [Call; 8] = [
     Call {
         name: "compile",
         case: compile,
@@ -110,6 +111,52 @@ const CALLS: [Call; 6] = [
             "prints refused 08",
             "prints refused 09",
             "prints refused 13",
+        ],
+    },
+    Call {
+        name: "forecast",
+        case: forecast,
+        reaches: &[
+            "accepted",
+            "refused 01",
+            "refused 02",
+            "refused 03",
+            "refused 04",
+            "refused 05",
+            "refused 06",
+            "refused 07",
+            "refused 08",
+            "refused 09",
+            "told: 1,000 nodes",
+            "told: 3,007 bytes",
+            "told: 16 threads",
+            "told: height 64",
+            "told: height above 60 of a child",
+            "told: no transaction",
+            "told: READ of register 63",
+            "told: WRITE of register 63",
+            "told: bound above 10,000",
+        ],
+    },
+    Call {
+        name: "finished",
+        case: finished,
+        reaches: &[
+            "job any",
+            "job at a limit",
+            "job contested",
+            "job tall",
+            "picks all of a thread",
+            "picks in turns",
+            "picks at random",
+            "picks against the threads",
+            "runs: 16 threads",
+            "runs: no transaction",
+            "runs: nothing sent back",
+            "runs: sent back",
+            "runs: beyond half of the bound",
+            "runs: the bound itself",
+            "runs: READ of the write log only",
         ],
     },
 ];
@@ -328,6 +375,73 @@ fn outputs(rng: &mut Rng, input: &[u8], calls: &[Writes]) -> Result<Written, Str
     Ok(first.unwrap().0)
 }
 
+fn forecast(rng: &mut Rng, tally: &mut Tally) -> Result<(), String> {
+    let job = match rng.below(20) {
+        0 => tall(rng).job(),
+        1 => many_small(rng.between(200, 1_000), rng.between(2, 16)).job(),
+        _ => any_job(rng),
+    };
+    // the job starts at any alignment
+    let from = rng.below(9);
+    let memory = [bytes(rng, from), job, bytes(rng, 9)].concat();
+    let job = &memory[from..memory.len() - 9];
+    let answer = raw::forecast(job);
+    for (name, expected) in [("plain", plain::forecast(job)), ("plain by a tree", tree::forecast(job))] {
+        let expected = forecast_reply(expected);
+        if expected != answer {
+            return Err(format!("job {}\n{name}: {expected:?}\nlibrary: {answer:?}", hex(job)));
+        }
+    }
+    tally.refusal(answer.refusal);
+    if answer.refusal == 0 {
+        for (what, met) in [
+            ("told: 1,000 nodes", answer.instructions - answer.transactions == 1_000),
+            ("told: 3,007 bytes", answer.length == 3_007),
+            ("told: 16 threads", answer.threads == 16),
+            ("told: height 64", answer.heights[0] == 64),
+            ("told: height above 60 of a child", answer.heights[1..].iter().any(|&height| height > 60)),
+            ("told: no transaction", answer.transactions == 0),
+            ("told: READ of register 63", answer.reads >> 63 == 1),
+            ("told: WRITE of register 63", answer.writes >> 63 == 1),
+            ("told: bound above 10,000", answer.bound > 10_000),
+        ] {
+            tally.add_if(met, what);
+        }
+    }
+    Ok(())
+}
+
+fn forecast_reply(result: Result<Forecast, Refusal>) -> ForecastReply {
+    let mut reply = ForecastReply {
+        refusal: 0,
+        place: 0,
+        length: 0,
+        transactions: 0,
+        threads: 0,
+        instructions: 0,
+        longest: 0,
+        bound: 0,
+        reads: 0,
+        writes: 0,
+        heights: [0; 16],
+    };
+    match result {
+        Ok(told) => {
+            reply.length = told.length;
+            reply.transactions = told.transactions;
+            reply.threads = told.threads;
+            reply.instructions = told.instructions;
+            reply.longest = told.longest;
+            reply.bound = told.bound;
+            reply.reads = told.reads.bits;
+            reply.writes = told.writes.bits;
+            reply.heights[..told.threads].copy_from_slice(told.heights());
+        }
+        Err(refusal) => (reply.refusal, reply.place) = (refusal.number.into(), refusal.place),
+    }
+    reply
+}
+
 fn written(result: Result<usize, Refusal>) -> Written {
     match result {
         Ok(length) => Written { refusal: 0, place: 0, length },
@@ -540,6 +654,307 @@ fn run_reply(result: Result<Counts, Refusal>) -> RunReply {
             RunReply { refusal: refusal.number.into(), place: refusal.place, steps: 0, idle: 0, commits: 0, back: 0 }
         }
     }
+}
+
+// The forecast beside finished runs.
+
+/// How the next pick is chosen until every thread has ended.
+#[derive(Clone, Copy, PartialEq, Eq)]
+enum Policy {
+    /// A thread is picked until it has ended.
+    Each,
+    /// Threads take turns of so many picks.
+    Turns(usize),
+    /// Any thread, so many picks at a time, and now and then a pick that is idle.
+    Random(usize),
+    /// Every thread goes on to a COMMIT before one of them takes effect, and those that it makes stale are sent back at
+    /// once.
+    Against,
+}
+
+/// What a finished run showed.
+struct Shown {
+    picks: Vec<u8>,
+    steps: usize,
+    commits: usize,
+    back: usize,
+    /// Instructions of the longest attempt, BEGIN and COMMIT included.
+    longest: usize,
+    reads: RegisterSet,
+    writes: RegisterSet,
+    /// Of the reads, those that once were answered by the table or the read log.
+    logged: RegisterSet,
+    /// By the starts of the threads' codes, the greatest height.
+    heights: BTreeMap<usize, usize>,
+    state: kuspigo::State,
+}
+
+fn finished(rng: &mut Rng, tally: &mut Tally) -> Result<(), String> {
+    let (kind, tree) = match rng.below(8) {
+        0 | 1 => ("job contested", contested(rng)),
+        2 => ("job at a limit", accepted(rng, limit_tree)),
+        3 if rng.one_in(8) => ("job tall", accepted(rng, tall)),
+        _ => ("job any", accepted(rng, any_tree)),
+    };
+    let job = tree.job();
+    let told = kuspigo::forecast(&job).map_err(|refusal| format!("job {}\n{refusal}", hex(&job)))?;
+    let code = kuspigo::compile(&job).map_err(|refusal| format!("job {}\n{refusal}", hex(&job)))?;
+    let (policy, word) = match rng.below(6) {
+        0 => (Policy::Each, "picks all of a thread"),
+        1 => (Policy::Turns(rng.choose(&[1, 1, 2, 5])), "picks in turns"),
+        // this can take all the steps that the bound allows
+        2..=4 if told.bound <= 4_000 => (Policy::Against, "picks against the threads"),
+        _ => (Policy::Random(rng.choose(&[1, 1, 2, 5, 9])), "picks at random"),
+    };
+    let shown = run_to_the_end(rng, &code, policy, told.bound)
+        .map_err(|what| format!("job {}\n{told:?}\n{word}: {what}", hex(&job)))?;
+    let differs = |what: String| {
+        Err(format!("job {}\ncode {}\npicks {}\n{told:?}\n{what}", hex(&job), hex(&code), hex(&shown.picks)))
+    };
+
+    // the code of each thread by where it starts
+    let mut starts = vec![5];
+    let end = code_of(&tree, 5, &mut starts);
+    if (told.length, end) != (code.len(), code.len()) {
+        return differs(format!("the code has {} bytes", code.len()));
+    }
+    let heights: Vec<usize> = starts.iter().map(|start| shown.heights.get(start).copied().unwrap_or(0)).collect();
+    if heights != told.heights().iter().map(|&height| height.into()).collect::<Vec<usize>>() {
+        return differs(format!("the run's heights are {heights:?}"));
+    }
+    let existing = shown.state.threads.iter().filter(|thread| thread.exists()).count();
+    let figures = (shown.commits, existing, shown.heights.len(), shown.longest);
+    if figures != (told.transactions, told.threads, told.threads, told.longest) {
+        return differs(format!("commits, threads, their codes, longest attempt: {figures:?}"));
+    }
+    if (shown.reads, shown.writes) != (told.reads, told.writes) {
+        return differs(format!("read {:?}, written {:?}", shown.reads, shown.writes));
+    }
+    let steps_agree = match shown.back {
+        0 => shown.steps == told.instructions,
+        _ => shown.steps > told.instructions,
+    };
+    if !steps_agree || shown.steps > told.bound {
+        return differs(format!("{} steps, {} sent back", shown.steps, shown.back));
+    }
+    if let Err(what) = run_in_calls(rng, &code, &shown) {
+        return differs(what);
+    }
+
+    tally.add(kind, 1);
+    tally.add(word, 1);
+    tally.add("steps", shown.steps);
+    tally.add("threads sent back", shown.back);
+    let beyond = shown.steps - told.instructions;
+    for (what, met) in [
+        ("runs: 16 threads", told.threads == 16),
+        ("runs: no transaction", told.transactions == 0),
+        ("runs: nothing sent back", shown.back == 0),
+        ("runs: sent back", shown.back > 0),
+        // counted from L, which every finished run has
+        ("runs: beyond half of the bound", beyond > 0 && 2 * beyond > told.bound - told.instructions),
+        ("runs: the bound itself", beyond > 0 && shown.steps == told.bound),
+        ("runs: READ of the write log only", shown.logged != shown.reads),
+    ] {
+        tally.add_if(met, what);
+    }
+    Ok(())
+}
+
+/// Steps a job from its fresh state, pick by pick, until every thread has ended.
+fn run_to_the_end(rng: &mut Rng, code: &[u8], policy: Policy, bound: usize) -> Result<Shown, String> {
+    let state = kuspigo::State::fresh(code).map_err(|refusal| refusal.to_string())?;
+    let mut shown = Shown {
+        picks: Vec::new(),
+        steps: 0,
+        commits: 0,
+        back: 0,
+        longest: 0,
+        reads: RegisterSet::default(),
+        writes: RegisterSet::default(),
+        logged: RegisterSet::default(),
+        heights: BTreeMap::from([(state.threads[0].start, 0)]),
+        state,
+    };
+    // instructions of each thread's attempt so far
+    let mut attempts = [0; 16];
+    let mut pick = 0;
+    let mut again = 0;
+    loop {
+        let open: Vec<u8> = (0..16).filter(|&i| is_open(&shown.state.threads[usize::from(i)])).collect();
+        if open.is_empty() {
+            return Ok(shown);
+        }
+        pick = match policy {
+            Policy::Each if open.contains(&pick) => pick,
+            Policy::Each => rng.choose(&open),
+            Policy::Turns(_) | Policy::Random(_) if again > 0 && open.contains(&pick) => {
+                again -= 1;
+                pick
+            }
+            Policy::Turns(burst) => {
+                again = burst - 1;
+                open.iter().copied().find(|&i| i > pick).unwrap_or(open[0])
+            }
+            Policy::Random(_) if rng.one_in(32) => rng.byte(),
+            Policy::Random(burst) => {
+                again = rng.below(burst);
+                rng.choose(&open)
+            }
+            Policy::Against => against(rng, code, &shown.state, &open),
+        };
+        let before = shown.state.threads.get(usize::from(pick)).copied().unwrap_or(Thread::ABSENT);
+        let step = shown.state.step(code, pick).map_err(|refusal| refusal.to_string())?;
+        shown.picks.push(pick);
+        if is_open(&before) != (step.event != Event::Idle) {
+            return Err(format!("{:?} of {before:?}", step.event));
+        }
+        for thread in shown.state.threads.iter().filter(|thread| thread.exists()) {
+            let height = shown.heights.entry(thread.start).or_insert(0);
+            *height = thread.height.max(*height);
+        }
+        if step.event == Event::Idle {
+            continue;
+        }
+        shown.steps += 1;
+        if shown.steps > bound {
+            return Err(format!("the picks {} have more steps than the bound", hex(&shown.picks)));
+        }
+        // the instruction that was done, and its register
+        let instruction = &code[before.place..];
+        match (step.event, instruction) {
+            (Event::ReadWriteLog, &[3, register, ..]) => shown.reads.insert(register),
+            (Event::ReadReadLog | Event::ReadTable, &[3, register, ..]) => {
+                shown.reads.insert(register);
+                shown.logged.insert(register);
+            }
+            (Event::Write, &[4, register, ..]) => shown.writes.insert(register),
+            (Event::Commit, [6, ..]) => shown.commits += 1,
+            (Event::SentBack, [6, ..]) => shown.back += 1,
+            (Event::Push, [1, ..]) | (Event::Sum, [2, ..]) | (Event::Begin, [5, ..]) | (Event::Fork, [7, ..]) => {}
+            (event, _) => return Err(format!("{event:?} at {} of the code {}", before.place, hex(code))),
+        }
+        let attempt = &mut attempts[usize::from(pick)];
+        *attempt = if step.event == Event::Begin { 1 } else { *attempt + 1 };
+        if matches!(step.event, Event::Commit | Event::SentBack) {
+            shown.longest = shown.longest.max(*attempt);
+        }
+    }
+}
+
+fn is_open(thread: &Thread) -> bool {
+    thread.exists() && thread.place != thread.end
+}
+
+/// The pick of [`Policy::Against`].
+fn against(rng: &mut Rng, code: &[u8], state: &kuspigo::State, open: &[u8]) -> u8 {
+    let (waiting, going): (Vec<u8>, Vec<u8>) =
+        open.iter().partition(|&&i| code[state.threads[usize::from(i)].place] == 6);
+    let stale = |&&i: &&u8| {
+        let thread = &state.threads[usize::from(i)];
+        (0..64)
+            .any(|register| thread.reads >> register & 1 == 1 && thread.readlog[register] != state.registers[register])
+    };
+    if let Some(&pick) = waiting.iter().find(stale) {
+        return pick;
+    }
+    if !going.is_empty() {
+        return rng.choose(&going);
+    }
+    // the one with most of its code to come
+    let left = |&&i: &&u8| state.threads[usize::from(i)].end - state.threads[usize::from(i)].place;
+    *waiting.iter().max_by_key(left).unwrap()
+}
+
+/// The same picks in several run calls: the same counts in all, and the same state.
+fn run_in_calls(rng: &mut Rng, code: &[u8], shown: &Shown) -> Result<(), String> {
+    let mut state = kuspigo::State::fresh(code).map_err(|refusal| refusal.to_string())?;
+    let mut all = Counts::default();
+    let mut left = &shown.picks[..];
+    while !left.is_empty() {
+        let most = left.len().min(32_768);
+        let count = if rng.one_in(3) { most } else { rng.below(most + 1) };
+        let (picks, rest) = left.split_at(count);
+        let counts = state.run(code, picks).map_err(|refusal| refusal.to_string())?;
+        all.steps += counts.steps;
+        all.idle += counts.idle;
+        all.commits += counts.commits;
+        all.back += counts.back;
+        left = rest;
+    }
+    let idle = shown.picks.len() - shown.steps;
+    if all != (Counts { steps: shown.steps, idle, commits: shown.commits, back: shown.back }) {
+        return Err(format!("run calls count {all:?}"));
+    }
+    if state != shown.state {
+        return Err(String::from("run calls leave another state than steps"));
+    }
+    Ok(())
+}
+
+/// Adds where the code of each FORK's child starts, in job order, if the process's own code starts at a place; gives the
+/// place behind it.
+fn code_of(process: &Process, at: usize, starts: &mut Vec<usize>) -> usize {
+    match process {
+        Process::Val(_) => at + 5,
+        Process::Add(a, b) => {
+            let at = code_of(a, at, starts);
+            code_of(b, at, starts) + 1
+        }
+        Process::Atomic(t) => at + 1 + bytes_of(t) + 1,
+        Process::Fork(p) => {
+            starts.push(at + 3);
+            code_of(p, at + 3, starts)
+        }
+    }
+}
+
+/// Bytes of a transaction's code.
+fn bytes_of(transaction: &Transaction) -> usize {
+    match transaction {
+        Transaction::Val(_) => 5,
+        Transaction::Add(a, b) => bytes_of(a) + bytes_of(b) + 1,
+        Transaction::Read(_) => 2,
+        Transaction::Write(_, t) => bytes_of(t) + 2,
+    }
+}
+
+/// Threads with transactions that add to the same register; the root mostly has more of them than the others.
+fn contested(rng: &mut Rng) -> Process {
+    let register = rng.choose(&[0, 1, 63]);
+    let increments = |count: usize| {
+        let parts = (0..count).map(|_| {
+            let sum = Transaction::Add(Box::new(Transaction::Read(register)), Box::new(Transaction::Val(1)));
+            Process::Atomic(Box::new(Transaction::Write(register, Box::new(sum))))
+        });
+        sum(parts.collect())
+    };
+    let mut parts: Vec<Process> = Vec::new();
+    for _ in 0..rng.between(1, 4) {
+        parts.push(Process::Fork(Box::new(increments(rng.between(1, 2)))));
+    }
+    parts.push(increments(rng.between(1, 8)));
+    sum(parts)
+}
+
+/// Sums that lean to the right, so that the stack grows with each, below some FORKs and sums.
+fn tall(rng: &mut Rng) -> Process {
+    let beside = |rng: &mut Rng| Box::new(Process::Val(rng.number()));
+    let mut tree = match rng.one_in(2) {
+        true => Process::Val(rng.number()),
+        false => Process::Atomic(Box::new(Transaction::Read(rng.below(64) as u8))),
+    };
+    for _ in 0..rng.between(58, 63) {
+        tree = Process::Add(beside(rng), Box::new(tree));
+    }
+    for _ in 0..rng.below(4) {
+        tree = match rng.below(3) {
+            0 => Process::Fork(Box::new(tree)),
+            1 => Process::Add(Box::new(tree), beside(rng)),
+            _ => Process::Add(beside(rng), Box::new(tree)),
+        };
+    }
+    tree
 }
 
 // Jobs, codes and inputs.
@@ -964,10 +1379,15 @@ fn busy_scene(rng: &mut Rng) -> Scene {
 }
 
 fn any_accepted(rng: &mut Rng) -> Vec<u8> {
+    accepted(rng, |rng| if rng.one_in(12) { limit_tree(rng) } else { any_tree(rng) }).code()
+}
+
+/// The first tree of an accepted job.
+fn accepted(rng: &mut Rng, tree: fn(&mut Rng) -> Process) -> Process {
     loop {
-        let tree = if rng.one_in(12) { limit_tree(rng) } else { any_tree(rng) };
+        let tree = tree(rng);
         if plain::compile(&tree.job(), &mut [0; 3_100]).is_ok() {
-            return tree.code();
+            return tree;
         }
     }
 }

@@ -38,5 +38,17 @@ int main(void) {
     FIELD(kuspigo_run_reply, idle);
     FIELD(kuspigo_run_reply, commits);
     FIELD(kuspigo_run_reply, back);
+    SIZE(kuspigo_forecast_reply);
+    FIELD(kuspigo_forecast_reply, refusal);
+    FIELD(kuspigo_forecast_reply, place);
+    FIELD(kuspigo_forecast_reply, length);
+    FIELD(kuspigo_forecast_reply, transactions);
+    FIELD(kuspigo_forecast_reply, threads);
+    FIELD(kuspigo_forecast_reply, instructions);
+    FIELD(kuspigo_forecast_reply, longest);
+    FIELD(kuspigo_forecast_reply, bound);
+    FIELD(kuspigo_forecast_reply, reads);
+    FIELD(kuspigo_forecast_reply, writes);
+    FIELD(kuspigo_forecast_reply, heights);
     return 0;
 }

@@ -1,7 +1,8 @@
 //! The records' layout as numbers, and that the library writes its fields there.
 
 use core::mem::{align_of, offset_of, size_of};
-use kuspigo::ffi::{FreshReply, RunReply, StepReply, Written};
+use kuspigo::ffi::{ForecastReply, FreshReply, RunReply, StepReply, Written};
+use kuspigo::plain::tree::{Process, Transaction};
 use kuspigo::{raw, Thread};
 
 #[test]
@@ -45,6 +46,19 @@ fn answers() {
     assert_eq!(offset_of!(RunReply, idle), 24);
     assert_eq!(offset_of!(RunReply, commits), 32);
     assert_eq!(offset_of!(RunReply, back), 40);
+
+    assert_eq!((size_of::<ForecastReply>(), align_of::<ForecastReply>()), (96, 8));
+    assert_eq!(offset_of!(ForecastReply, refusal), 0);
+    assert_eq!(offset_of!(ForecastReply, place), 8);
+    assert_eq!(offset_of!(ForecastReply, length), 16);
+    assert_eq!(offset_of!(ForecastReply, transactions), 24);
+    assert_eq!(offset_of!(ForecastReply, threads), 32);
+    assert_eq!(offset_of!(ForecastReply, instructions), 40);
+    assert_eq!(offset_of!(ForecastReply, longest), 48);
+    assert_eq!(offset_of!(ForecastReply, bound), 56);
+    assert_eq!(offset_of!(ForecastReply, reads), 64);
+    assert_eq!(offset_of!(ForecastReply, writes), 72);
+    assert_eq!(offset_of!(ForecastReply, heights), 80);
 }
 
 /// ADDP (ADDP (VALP 1) (ATOMIC (ADDT (ADDT (VALT 9) (READ 2)) (WRITE 3 (READ 63))))) (FORK (VALP 7))
@@ -124,6 +138,58 @@ fn the_library_writes_each_field_at_its_place() {
     expected[1].place = 29;
     assert_eq!(threads, expected);
     assert_eq!(registers[3], 631);
+}
+
+/// A sum of so many processes, each sum the right part of the one before.
+fn right_sum(parts: impl DoubleEndedIterator<Item = Process>) -> Process {
+    parts.rev().reduce(|right, left| Process::Add(Box::new(left), Box::new(right))).unwrap()
+}
+
+#[test]
+fn the_forecast_has_each_figure_at_its_place() {
+    // 15 FORKs, the k-th one's child with the height k, and behind them a transaction that is three times there
+    let fork = |k: usize| Process::Fork(Box::new(right_sum((0..k).map(|_| Process::Val(7)))));
+    let atomic = |register| {
+        let write = Transaction::Write(register, Box::new(Transaction::Val(5)));
+        Process::Atomic(Box::new(Transaction::Add(Box::new(write), Box::new(Transaction::Read(63)))))
+    };
+    let tree = right_sum((1..=15).map(fork).chain([1, 2, 40].map(atomic)));
+    // ADDP 17, FORK 15, in the children VALP 120 and ADDP 105; three of ATOMIC, ADDT, WRITE, VALT, READ
+    let nodes = 17 + 15 + 120 + 105 + 3 * 5;
+    let heights = [19, 1, 2, 3, 4, 5, 6, 7, 8, 9, 10, 11, 12, 13, 14, 15];
+    let expected = ForecastReply {
+        refusal: 0,
+        place: 0,
+        length: 5 + 17 + 15 * 3 + 120 * 5 + 105 + 3 * 12,
+        transactions: 3,
+        threads: 16,
+        instructions: nodes + 3,
+        longest: 6,
+        bound: nodes + 3 + 2 * 15 * 6,
+        reads: 1 << 63,
+        writes: 1 << 1 | 1 << 2 | 1 << 40,
+        heights,
+    };
+    let job = tree.job();
+    assert_eq!(raw::forecast(&job), expected);
+
+    let refused = |refusal, place| ForecastReply {
+        refusal,
+        place,
+        length: 0,
+        transactions: 0,
+        threads: 0,
+        instructions: 0,
+        longest: 0,
+        bound: 0,
+        reads: 0,
+        writes: 0,
+        heights: [0; 16],
+    };
+    // one byte too few, behind all that was counted
+    assert_eq!(raw::forecast(&job[..job.len() - 1]), refused(1, job.len() - 1));
+    assert_eq!(raw::forecast(&[&job[..], &[0]].concat()), refused(9, job.len()));
+    assert_eq!(raw::forecast(&[]), refused(1, 0));
 }
 
 #[test]

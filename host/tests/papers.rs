@@ -1,8 +1,8 @@
-//! Document 01's own cases, of the library through its wrapper and of the plain implementation.
+//! Document 01's own cases and some of document 02's, of the library through its wrapper and of the plain implementation.
 
 use kuspigo::plain::{self, tree};
 use kuspigo::samples::{chain, Lean, Rng, Shape};
-use kuspigo::{Counts, Event, Refusal, State, Step};
+use kuspigo::{Counts, Event, Forecast, Refusal, State, Step};
 use tree::{Process, Transaction};
 
 /// Two threads each add 1 to register 0.
@@ -37,8 +37,26 @@ fn compiled(job: &[u8]) -> Result<Vec<u8>, Refusal> {
     code
 }
 
-fn refused(number: u8, place: usize) -> Result<Vec<u8>, Refusal> {
+fn refused<T>(number: u8, place: usize) -> Result<T, Refusal> {
     Err(Refusal { number, place })
+}
+
+/// The forecast of a job, the three implementations agreeing.
+fn forecast(job: &[u8]) -> Result<Forecast, Refusal> {
+    let told = kuspigo::forecast(job);
+    assert_eq!(plain::forecast(job), told);
+    assert_eq!(tree::forecast(job), told);
+    told
+}
+
+/// K, T, L, M and the step bound.
+fn numbers(told: &Forecast) -> [usize; 5] {
+    [told.transactions, told.threads, told.instructions, told.longest, told.bound]
+}
+
+/// The registers that READ names and those that WRITE names.
+fn names(told: &Forecast) -> [Vec<u8>; 2] {
+    [told.reads, told.writes].map(|set| set.iter().collect())
 }
 
 fn result_of(job: &[u8]) -> (usize, Option<i32>, State) {
@@ -205,6 +223,121 @@ fn the_run_programs_refusals() {
     assert_eq!(kuspigo::report(&input).unwrap(), b"refused 13 at 0\n");
     input[2] = 0;
     assert_eq!(kuspigo::report(&input).unwrap(), b"refused 2 at 0\n");
+}
+
+fn sum(left: Process, right: Process) -> Process {
+    Process::Add(Box::new(left), Box::new(right))
+}
+
+fn fork(process: Process) -> Process {
+    Process::Fork(Box::new(process))
+}
+
+fn atomic(transaction: Transaction) -> Process {
+    Process::Atomic(Box::new(transaction))
+}
+
+fn write(register: u8, transaction: Transaction) -> Transaction {
+    Transaction::Write(register, Box::new(transaction))
+}
+
+#[test]
+fn forecasts() {
+    let told = forecast(&whole_case()).unwrap();
+    assert_eq!((told.length, told.heights()), (36, &[2, 2, 2][..]));
+    assert_eq!((numbers(&told), names(&told)), ([2, 3, 15, 6, 27], [vec![0], vec![0]]));
+
+    let told = forecast(b"WSJ\x00\x01\x00\x01\x01\x00\x00\x00\x07").unwrap();
+    assert_eq!((told.length, told.heights()), (10, &[1][..]));
+    assert_eq!((numbers(&told), names(&told)), ([0, 1, 1, 0, 1], [vec![], vec![]]));
+
+    // no ATOMIC
+    let told = forecast(&sum(fork(Process::Val(1)), Process::Val(2)).job()).unwrap();
+    assert_eq!((told.length, told.heights()), (5 + 3 + 5 + 5 + 1, &[2, 1][..]));
+    assert_eq!((numbers(&told), names(&told)), ([0, 2, 4, 0, 4], [vec![], vec![]]));
+
+    // a READ that the write log answers, and one ATOMIC
+    let own = Transaction::Add(Box::new(write(0, Transaction::Val(5))), Box::new(Transaction::Read(0)));
+    let told = forecast(&atomic(own).job()).unwrap();
+    assert_eq!((told.length, told.heights()), (5 + 12, &[2][..]));
+    assert_eq!((numbers(&told), names(&told)), ([1, 1, 6, 6, 6], [vec![0], vec![0]]));
+
+    // fork (fork (1 + 1)) + fork 1
+    let inner = fork(sum(Process::Val(1), Process::Val(1)));
+    let told = forecast(&sum(fork(inner), fork(Process::Val(1))).job()).unwrap();
+    assert_eq!(told.heights(), [2, 1, 2, 1]);
+    assert_eq!(numbers(&told), [0, 4, 8, 0, 8]);
+
+    // transactions of several lengths, with registers of their own
+    let long = atomic(write(63, write(9, Transaction::Read(8))));
+    let told = forecast(&sum(fork(long), atomic(Transaction::Read(62))).job()).unwrap();
+    assert_eq!((told.length, told.heights()), (5 + 3 + 8 + 4 + 1, &[2, 1][..]));
+    assert_eq!((numbers(&told), names(&told)), ([2, 2, 10, 5, 15], [vec![8, 62], vec![9, 63]]));
+    assert!(told.reads.contains(62) && !told.reads.contains(63) && !told.reads.contains(64));
+}
+
+#[test]
+fn forecasts_at_the_limits() {
+    // sums 64 deep: on the left two cells are enough, on the right each level takes one
+    let comb = |right: bool| {
+        (1..64).fold(
+            Process::Val(1),
+            |tree, _| {
+                if right {
+                    sum(Process::Val(1), tree)
+                } else {
+                    sum(tree, Process::Val(1))
+                }
+            },
+        )
+    };
+    assert_eq!(forecast(&comb(false).job()).unwrap().heights(), [2]);
+    assert_eq!(forecast(&comb(true).job()).unwrap().heights(), [64]);
+
+    // FORKs in each other
+    let nest = (0..15).fold(Process::Val(1), |tree, _| fork(tree));
+    let told = forecast(&nest.job()).unwrap();
+    assert_eq!((told.heights(), numbers(&told)), (&[1; 16][..], [0, 16, 16, 0, 16]));
+
+    // every register
+    let all = (0..64).map(|register| atomic(write(63 - register, Transaction::Read(register))));
+    let told = forecast(&kuspigo::samples::sum(all.collect()).job()).unwrap();
+    assert_eq!((told.reads.bits, told.writes.bits), (u64::MAX, u64::MAX));
+
+    // a bound above a million: 15 FORKs, 160 small transactions and a long one
+    let mut parts = vec![atomic(flat_reads(243))];
+    parts.extend((0..145).map(|_| atomic(Transaction::Read(0))));
+    parts.extend((0..15).map(|_| fork(atomic(Transaction::Read(0)))));
+    let tree = kuspigo::samples::sum(parts);
+    let told = forecast(&tree.job()).unwrap();
+    let nodes = 1 + 485 + 160 * 2 + 15 + 160;
+    assert_eq!(tree.nodes(), nodes);
+    assert_eq!(numbers(&told), [161, 16, nodes + 161, 487, nodes + 161 + 160 * 15 * 487]);
+    assert!(told.bound > 1_000_000);
+}
+
+/// A sum of so many READs, as flat as it can be.
+fn flat_reads(reads: usize) -> Transaction {
+    match reads {
+        1 => Transaction::Read(1),
+        _ => Transaction::Add(Box::new(flat_reads(reads / 2)), Box::new(flat_reads(reads - reads / 2))),
+    }
+}
+
+#[test]
+fn forecasts_that_are_refused() {
+    assert_eq!(forecast(&[]), refused(1, 0));
+    assert_eq!(forecast(b"WSK\x00\x01\x00\x01\x01\x00\x00\x00\x07"), refused(2, 0));
+    assert_eq!(forecast(b"WSJ\x00\x02\x00\x01\x01\x00\x00\x00\x07"), refused(3, 3));
+    assert_eq!(forecast(b"WSJ\x00\x01\x03\xE9\x01\x00\x00\x00\x07"), refused(4, 5));
+    assert_eq!(forecast(b"WSJ\x00\x01\x00\x02\x03\x01"), refused(5, 8));
+    assert_eq!(forecast(b"WSJ\x00\x01\x00\x02\x03\x07\x40"), refused(6, 9));
+    let deep = (1..65).fold(Process::Val(1), |tree, _| sum(tree, Process::Val(1)));
+    assert_eq!(forecast(&deep.job()), refused(7, 71));
+    let sixteen = (0..16).fold(Process::Val(1), |tree, _| fork(tree));
+    assert_eq!(forecast(&sixteen.job()), refused(8, 22));
+    assert_eq!(forecast(&[whole_case(), vec![0]].concat()), refused(9, 32));
+    assert_eq!(forecast(&whole_case()[..31]), refused(1, 31));
 }
 
 #[test]

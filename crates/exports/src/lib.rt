@@ -1,13 +1,16 @@
-// The calls that write to a lent output, for C and Rust: numbers and slices only, answers as structs of numbers.
+// The calls that write to a lent output, and the forecast, for C and Rust: numbers and slices only, answers as structs of numbers.
 ghost use mathlib.Core.Path.{_≡_};
 ghost use mathlib.Core.List.{List};
 ghost use Rattle.exports.specs.Written.{written, writing};
 ghost use Rattle.compiler.specs.CompileTo.{compileTo};
 ghost use Rattle.decompiler.specs.ReadBackTo.{readBackTo};
 ghost use Rattle.delivery.specs.Delivered.{delivered};
+ghost use Rattle.forecast.specs.Figures.{forecastOf};
 ghost use Rattle.listing.specs.Listed.{listed};
 ghost use Rattle.script.specs.Outcome.{done};
+ghost use Rattle.script.specs.Reader.{readJob};
 use delivery::Answer;
+use forecast::ForecastReply;
 
 // The answer: document 01's number of the refusal, 0 if there is none, and the place; the length of the result, 0 if it was refused.
 #[repr(C)]
@@ -49,6 +52,14 @@ pub extern "C" fn kuspigo_read_back(code: &[u8], out: &mut [u8]) -> Written
     ensures { λ r. ⌜ written (readBackTo (now (code .entry)) (now (out .entry))) ≡ record { reply = r; output = now (out .exit) } ⌝ }
 {
     numbers(compiler::read_back(code, out))
+}
+
+// `forecast::forecast`.
+#[no_mangle]
+pub extern "C" fn kuspigo_forecast(job: &[u8]) -> ForecastReply
+    ensures { λ r. ⌜ r ≡ forecastOf (readJob (now (job .entry))) ⌝ }
+{
+    forecast::forecast(job)
 }
 
 // `listing::report`.

@@ -4,6 +4,7 @@
 // to. A line that is no case is `malformed`. These commands take bytes:
 //
 //     job label: BYTES          reads a job
+//     forecast label: BYTES     the forecast of a job: its figures, the sets of registers as numbers, the 16 heights
 //     compile N label: BYTES    compiles a job into an output of N bytes
 //     back N label: BYTES       reads code back into an output of N bytes
 //     report N label: BYTES     puts what the run program prints for an input into an output of N bytes
@@ -43,7 +44,11 @@ fn command(line: &[u8]) -> u64 {
 // Runs a case. What is run is chosen here.
 fn run_case(what: u64, label: &[u8], body: &[u8]) {
     match what {
-        10722 | 3738707333 | 66667 | 609762900 => outputs::run_case(what, label, body), // job, compile, back, report
+        10722 | 3738707333 | 66667 | 609762900 | 222873880180 => outputs::run_case(
+            what,
+            label,
+            body,
+        ), // job, compile, back, report, forecast
         6887016 | 643248 | 19118 | 3764 | 3191187 => states::run_case(what, body), // fresh, step, run, cut, calls
         _ => text::write_malformed(),
     }

@@ -1,5 +1,6 @@
 // The commands that take bytes.
 use delivery::Answer;
+use forecast::ForecastReply;
 use job::Reading;
 use text::Hex;
 
@@ -105,6 +106,39 @@ fn write_reading(bytes: &[u8]) {
     }
 }
 
+// Writes the heights of a forecast.
+fn write_heights(heights: [u8; 16]) {
+    text::write(b" heights");
+    let mut i: usize = 0;
+    while i < 16 {
+        text::write_number(b" ", heights[i] as usize);
+        i += 1;
+    }
+}
+
+// Writes the figures of a forecast.
+fn write_figures(told: ForecastReply) {
+    text::write_number(b"code ", told.length);
+    text::write_number(b" transactions ", told.transactions);
+    text::write_number(b" threads ", told.threads);
+    text::write_number(b" instructions ", told.instructions);
+    text::write_number(b" longest ", told.longest);
+    text::write_number(b" bound ", told.bound);
+    text::write_number(b" reads ", told.reads as usize);
+    text::write_number(b" writes ", told.writes as usize);
+    let heights = told.heights;
+    write_heights(heights);
+}
+
+// Writes a forecast, or why there is none.
+fn write_forecast(told: ForecastReply) {
+    if told.refusal != 0 {
+        text::write_refusal(told.refusal, told.place);
+        return;
+    }
+    write_figures(told);
+}
+
 // Calls what the command says, on an output.
 fn call(what: u64, bytes: &[u8], out: &mut [u8]) -> Answer {
     match what {
@@ -139,6 +173,10 @@ fn parse(text: &[u8], space: &mut [u8]) -> Hex {
 fn run_bytes(what: u64, size: usize, bytes: &[u8]) {
     if what == 10722 {
         write_reading(bytes); // job
+        return;
+    }
+    if what == 222873880180 {
+        write_forecast(forecast::forecast(bytes)); // forecast
         return;
     }
     if size > 6000 {

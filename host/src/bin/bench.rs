@@ -5,7 +5,7 @@
 
 use kuspigo::plain::{self, by_value, tree};
 use kuspigo::samples::{many_small, Lean, Rng, Shape};
-use kuspigo::{Counts, Refusal, State, Thread};
+use kuspigo::{Counts, Forecast, Refusal, State, Thread};
 use std::hint::black_box;
 use std::time::{Duration, Instant};
 use tree::Process;
@@ -22,6 +22,9 @@ fn main() {
     head("tree", "no tree");
     for (name, nodes, tree) in jobs() {
         compiling(name, nodes, &tree);
+    }
+    for (name, nodes, tree) in jobs() {
+        forecasting(name, nodes, &tree);
     }
     for (name, nodes, tree) in jobs() {
         reading_back(name, nodes, &tree);
@@ -68,6 +71,19 @@ fn compiling(name: &str, nodes: usize, tree: &Process) {
     writing(&row, &job, [kuspigo::compile_into, tree::compile, plain::compile]);
 }
 
+type Foretells = fn(&[u8]) -> Result<Forecast, Refusal>;
+
+fn forecasting(name: &str, nodes: usize, tree: &Process) {
+    let job = tree.job();
+    let row = format!("forecast: {name}, {}", counted(nodes, "node"));
+    let calls: [Foretells; 3] = [kuspigo::forecast, tree::forecast, plain::forecast];
+    let answers = calls.map(|call| call(&job).expect("the job is accepted"));
+    assert!(answers.iter().all(|answer| *answer == answers[0]), "{row}: the columns differ");
+    batches(&row, |column| {
+        let _ = black_box(calls[column](black_box(&job)));
+    });
+}
+
 fn reading_back(name: &str, nodes: usize, tree: &Process) {
     let code = tree.code();
     let row = format!("read back: {name}, {}", counted(nodes, "node"));
@@ -84,19 +100,23 @@ fn writing(row: &str, input: &[u8], calls: [Writes; 3]) {
     });
     assert!(answers.iter().all(|answer| *answer == answers[0]), "{row}: the columns differ");
     let mut out = vec![0; 4_000];
-    let once = |call: Writes, out: &mut [u8]| {
-        let _ = black_box(call(black_box(input), black_box(out)));
-    };
+    batches(row, |column| {
+        let _ = black_box(calls[column](black_box(input), black_box(&mut out)));
+    });
+}
+
+/// A row of calls that are timed in batches; `once` calls a column.
+fn batches(row: &str, mut once: impl FnMut(usize)) {
     let started = Instant::now();
     let mut calls_in_batch = 0;
     while started.elapsed() < BATCH {
-        once(calls[0], &mut out);
+        once(0);
         calls_in_batch += 1;
     }
     let least = turn_about(|column| {
         let started = Instant::now();
         for _ in 0..calls_in_batch {
-            once(calls[column], &mut out);
+            once(column);
         }
         started.elapsed()
     });

@@ -1,12 +1,14 @@
-//! A second implementation, in plain Rust. Unproved; written from document 01, for comparison with the library.
+//! A second implementation, in plain Rust. Unproved; written from documents 01 and 02, for comparison with the library.
 //!
-//! It works on the library's record ([`Thread`](crate::Thread)), so that whole memory can be compared. Four calls have
-//! two forms, for the benchmark: compiling and reading back without a tree (the ones named here) or by a tree
-//! ([`tree`]); running with the records changed in place (the one named here) or by value ([`by_value`]).
+//! It works on the library's record ([`Thread`](crate::Thread)), so that whole memory can be compared. Five calls have
+//! two forms, for the benchmark: compiling, forecasting and reading back without a tree (the ones named here) or by a
+//! tree ([`tree`]); stepping and running with the records changed in place (the ones named here) or by value
+//! ([`by_value`]).
 
 pub mod by_value;
 mod code;
 mod compile;
+mod forecast;
 mod job;
 mod machine;
 mod read_back;
@@ -15,6 +17,7 @@ mod state;
 pub mod tree;
 
 pub use compile::compile;
+pub use forecast::forecast;
 pub use machine::{fresh, run, step};
 pub use read_back::read_back;
 pub use report::{listing, report};

@@ -1,9 +1,12 @@
-//! Compiling and reading back by way of a tree.
+//! Compiling, forecasting and reading back by way of a tree.
 
 use super::code::{self, Op};
+use super::forecast::step_bound;
 use super::job::{self, Reader, Sort};
-use super::{short_output, unknown_code, CODE_HEAD, DEEPEST, INSTRUCTIONS, JOB_HEAD, MOST_FORKS, MOST_NODES, NODES};
-use crate::Refusal;
+use super::{
+    short_output, unknown_code, CODE_HEAD, DEEPEST, INSTRUCTIONS, JOB_HEAD, MOST_FORKS, MOST_NODES, NODES, RECORDS,
+};
+use crate::{Forecast, Refusal, RegisterSet};
 
 #[derive(Clone, PartialEq, Eq, Debug)]
 pub enum Process {
@@ -30,6 +33,61 @@ pub fn compile(job: &[u8], out: &mut [u8]) -> Result<usize, Refusal> {
     };
     tree.write_code(out);
     Ok(length)
+}
+
+/// As [`forecast`](super::forecast()).
+pub fn forecast(job: &[u8]) -> Result<Forecast, Refusal> {
+    let tree = Process::read(job)?;
+    let mut found = Found { threads: vec![&tree], transactions: Vec::new() };
+    found.add(&tree);
+    let mut all_heights = [0; RECORDS];
+    for (cell, process) in all_heights.iter_mut().zip(&found.threads) {
+        *cell = process.height();
+    }
+    let mut reads = RegisterSet::default();
+    let mut writes = RegisterSet::default();
+    for transaction in &found.transactions {
+        transaction.names(&mut reads, &mut writes);
+    }
+    let transactions = found.transactions.len();
+    let threads = found.threads.len();
+    let instructions = tree.nodes() + transactions;
+    // BEGIN and COMMIT beside one instruction for each node
+    let longest = found.transactions.iter().map(|transaction| transaction.nodes() + 2).max().unwrap_or(0);
+    Ok(Forecast {
+        length: INSTRUCTIONS + tree.code_length(),
+        transactions,
+        threads,
+        instructions,
+        longest,
+        bound: step_bound(transactions, threads, instructions, longest),
+        reads,
+        writes,
+        all_heights,
+    })
+}
+
+/// The parts of a tree that a forecast is about, in job order.
+struct Found<'a> {
+    threads: Vec<&'a Process>,
+    transactions: Vec<&'a Transaction>,
+}
+
+impl<'a> Found<'a> {
+    fn add(&mut self, process: &'a Process) {
+        match process {
+            Process::Val(_) => {}
+            Process::Add(a, b) => {
+                self.add(a);
+                self.add(b);
+            }
+            Process::Atomic(t) => self.transactions.push(t),
+            Process::Fork(p) => {
+                self.threads.push(p);
+                self.add(p);
+            }
+        }
+    }
 }
 
 /// As [`read_back`](super::read_back()).
@@ -100,6 +158,15 @@ impl Process {
             Process::Val(_) | Process::Atomic(_) => 0,
             Process::Add(a, b) => a.forks() + b.forks(),
             Process::Fork(p) => 1 + p.forks(),
+        }
+    }
+
+    /// The greatest stack height of a thread that does it and nothing else. A FORK's child has a stack of its own.
+    fn height(&self) -> u8 {
+        match self {
+            Process::Val(_) | Process::Fork(_) => 1,
+            Process::Add(a, b) => a.height().max(1 + b.height()),
+            Process::Atomic(t) => t.height(),
         }
     }
 
@@ -193,6 +260,30 @@ impl Transaction {
             Transaction::Val(_) | Transaction::Read(_) => 0,
             Transaction::Add(a, b) => a.depth().max(b.depth()),
             Transaction::Write(_, t) => t.depth(),
+        }
+    }
+
+    fn height(&self) -> u8 {
+        match self {
+            Transaction::Val(_) | Transaction::Read(_) => 1,
+            Transaction::Add(a, b) => a.height().max(1 + b.height()),
+            Transaction::Write(_, t) => t.height(),
+        }
+    }
+
+    /// Puts the registers of its READs and WRITEs into the sets.
+    fn names(&self, reads: &mut RegisterSet, writes: &mut RegisterSet) {
+        match self {
+            Transaction::Val(_) => {}
+            Transaction::Add(a, b) => {
+                a.names(reads, writes);
+                b.names(reads, writes);
+            }
+            Transaction::Read(register) => reads.insert(*register),
+            Transaction::Write(register, t) => {
+                writes.insert(*register);
+                t.names(reads, writes);
+            }
         }
     }
 
