@@ -99,8 +99,9 @@ typedef struct kuspigo_run_reply {
     size_t back;    /* commits that were sent back */
 } kuspigo_run_reply;
 
-/* What a job will need; on a refusal the rest is 0. A run is here all steps and runs on one state, from kuspigo_fresh on,
- * their counts added up, whatever the picks. It is finished when every thread has ended. */
+/* What a job will need; on a refusal the rest is 0. A run is here all steps and runs with this job's code on one state,
+ * from kuspigo_fresh on, nothing else writing it meanwhile; counts are added up over it, and the picks may be any. It is
+ * finished when every thread has ended. */
 typedef struct kuspigo_forecast_reply {
     size_t refusal;
     size_t place;

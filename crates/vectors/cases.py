@@ -467,7 +467,7 @@ def a_forecast(data):
     """The forecast of a job; of an accepted one its figures are compared with its code and a finished run."""
     answer = jobs.forecast(data)
     if answer[0] == "refused":
-        add("damaged job", "forecast", data.hex(), jobs.show_forecast(answer))
+        add("damaged forecast", "forecast", data.hex(), jobs.show_forecast(answer))
         seen["forecast"]["refused %d" % answer[1]] += 1
         return
     compare_run(jobs.tree_at(data, 7)[0], answer)

@@ -160,8 +160,9 @@ impl fmt::Debug for RegisterSet {
     }
 }
 
-/// What a job will need. A run is here all steps and runs on one state, from a fresh one on, their counts added up, whatever the picks. It is finished when
-/// every thread has ended.
+/// What a job will need. A run is here all steps and runs with the job's code on one state, from a fresh one on, nothing
+/// else writing it meanwhile; counts are added up over it, and the picks may be any. It is finished when every thread has
+/// ended.
 #[derive(Clone, Copy, PartialEq, Eq, Hash, Debug)]
 pub struct Forecast {
     /// Bytes of its code, mark and version included.

@@ -86,7 +86,7 @@ pub struct ForecastReply {
     pub instructions: usize,
     /// Instructions of the longest transaction, BEGIN and COMMIT included; 0 if there is none.
     pub longest: usize,
-    /// No run from a fresh state has more steps.
+    /// No run of its code from a fresh state has more steps.
     pub bound: usize,
     /// The registers that READ names, bit 0 being register 0, and those that WRITE names.
     pub reads: u64,

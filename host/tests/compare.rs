@@ -665,7 +665,7 @@ enum Policy {
     Each,
     /// Threads take turns of so many picks.
     Turns(usize),
-    /// Any thread, so many picks at a time, and now and then a pick that is idle.
+    /// Any open thread, so many picks at a time, and now and then any byte.
     Random(usize),
     /// Every thread goes on to a COMMIT before one of them takes effect, and those that it makes stale are sent back at
     /// once.
@@ -1382,7 +1382,7 @@ fn any_accepted(rng: &mut Rng) -> Vec<u8> {
     accepted(rng, |rng| if rng.one_in(12) { limit_tree(rng) } else { any_tree(rng) }).code()
 }
 
-/// The first tree of an accepted job.
+/// The first tree that comes whose job is accepted.
 fn accepted(rng: &mut Rng, tree: fn(&mut Rng) -> Process) -> Process {
     loop {
         let tree = tree(rng);

@@ -1,4 +1,4 @@
-//! Document 01's own cases and some of document 02's, of the library through its wrapper and of the plain implementation.
+//! Document 01's own cases, and forecasts counted by hand, of the library through its wrapper and of the plain implementation.
 
 use kuspigo::plain::{self, tree};
 use kuspigo::samples::{chain, Lean, Rng, Shape};

@@ -93,7 +93,7 @@ height-some (AddP a b) = omega arith
 height-some (Atomic t) = height-someT t
 height-some (Fork p) = omega arith
 
-greatest-least : (c : Code) (h : ℕ) → h ≤ greatest c h
+pub greatest-least : (c : Code) (h : ℕ) → h ≤ greatest c h
 unfolding greatest
 greatest-least ε h = omega arith
 greatest-least (i ⨾ c) h = omega arith

@@ -1,29 +1,31 @@
 -- Every forecast comes true: of compiling, and of every list of calls after which every thread has ended; and there is one. Assumes nothing.
 use Prim.Native.Nat.{ℕ, zero, suc, _+_, _-_, _<_, _≤_}
-use mathlib.Core.Bool.{true}
+use mathlib.Core.Bool.{Bool, true, false}
 use mathlib.Core.Logic.{_↔_}
 use mathlib.Core.Path.{_≡_, refl, sym, ap, subst, _∙_}
 use mathlib.Core.List.{List, [], _∷_, _++_}
 use native.Mathlib.Omega.{arith}
-use lib.IntN.{ℤ, pos}
+use borrow.Author.Tests.{eqb-true, eqb-false}
+use lib.Dec.{eqb}
+use lib.IntN.{pos}
 use lib.ListN.{length, getD, replicate, List·getD-append}
 use Rattle.code.specs.Bytes.{compiled, IsCode}
 use Rattle.code.specs.Compile.{ε, compileP}
-use Rattle.code.specs.Counts.{codeCount, longestIn, greatest}
+use Rattle.code.specs.Counts.{greatest}
 use Rattle.code.specs.Ops as code
 use Rattle.code.proofs.Flat.{code-length}
 use Rattle.code.proofs.Heights.{count-proc, longest-proc, greatest-height}
 use Rattle.forecast.specs.Figures.{sixteen, figures, refusedWith, forecastOf}
 use Rattle.forecast.specs.declared.ForecastReply.{ForecastReply}
 use Rattle.guarantee.specs.Forecasts.{momentsOf, ownOf, AsCompiled, AsRun, FinishedList, ComesTrue, Forecasts}
-use Rattle.guarantee.specs.Histories.{Session, History, none, turned-down, followed, Call, codeOf, stateOf, picksOf, picksTaken, scriptAfter, IsOrder}
-use Rattle.guarantee.proofs.Histories.{is-code, code-kept, history-run, sound, every-order}
+use Rattle.guarantee.specs.Histories.{Session, History, none, turned-down, followed, codeOf, stateOf, picksOf, picksTaken, scriptAfter, IsOrder}
+use Rattle.guarantee.proofs.Histories.{is-code, code-kept, history-run, fits-behind, sound, every-order}
 use Rattle.machine.specs.Answers.{sumOf}
 use Rattle.machine.specs.Fits.{Exists, OneThread}
-use Rattle.machine.specs.Stands.{Stands}
 use Rattle.machine.specs.Steps as steps
-use Rattle.machine.specs.Steps.{State, Child, Ran, fresh, threadAt}
-use Rattle.machine.proofs.Picks.{run-append}
+use Rattle.machine.specs.Steps.{State, Child, Ran, fresh, Stepped, numberOf, threadAt}
+use Rattle.machine.proofs.Agrees.{does-one}
+use Rattle.machine.proofs.Picks.{missing-idle, ended-idle}
 use Rattle.script.specs.Bytes.{Bytes}
 use Rattle.script.specs.Count.{atomics, instructions, bound, readSet, writeSet, forks, threads, heights, heightP, childHeights, codeP, codeLength}
 use Rattle.script.specs.Jobs.{Job}
@@ -32,12 +34,13 @@ use Rattle.script.specs.Reader.{readJob}
 use Rattle.script.specs.Tree.{Proc, ValP}
 use Rattle.script.specs.Turns.{initial, turns}
 use Rattle.script.proofs.Refuses.{refused-is-read, read-is-refused}
-use Rattle.stm.specs.Events.{Happened, countsOf, order}
-use Rattle.traces.specs.OwnCodes.{bodies, childBodies, ownCodes, nowhere}
+use Rattle.stm.specs.Events.{Happened, countsOf, order, isIdle}
+use Rattle.thread.specs.Threads.{exists}
+use Rattle.traces.specs.OwnCodes.{bodies, ownCodes, nowhere}
 use Rattle.traces.specs.Traces.{Finished, Moment, moments, Chained, happened, PickDid, Greatest}
 use Rattle.traces.proofs.Ends.{Ends, ends}
 use Rattle.traces.proofs.Along.{some-height}
-use Rattle.traces.proofs.Parts.{Part, part-ready, Pairwise, pairwise-at, pairwise-length, parts-in, bodies-count, all-heights, codes-ascend}
+use Rattle.traces.proofs.Parts.{Part, part-ready, pairwise-at, pairwise-length, parts-in, bodies-count, all-heights, codes-ascend}
 use Rattle.traces.proofs.Named.{read-stands, stands-read, write-stands, stands-write, anywhere-occurs, occurs-anywhere}
 use Rattle.traces.proofs.Shown.{commits-shown, threads-shown, least-shown, exact-shown, most-shown, part-thread, height-shown, reads-shown, writes-shown}
 use Rattle.traces.proofs.Visits.{moments-chained, moments-happened}
@@ -160,6 +163,22 @@ module _ (job : List ℕ) (j : Job) (b : Bytes job) (accepted : readJob job ≡ 
           let v = e .values i l′ in
           o .ends i (v .0) (record { exists = l′; ended = v .1 }) .place
 
+  -- ---- finished is: any further pick would be idle
+  finished′ : {now : Session} {events : List Happened} → History (compiled j) now events → Finished (now .state) ↔ ((i : ℕ) → isIdle (steps.pick (sumOf j) (compiled j) (now .state) i .event) ≡ true)
+  finished′ {now} h = (λ f i. idle-all f i (exists (threadAt (now .state) i)) refl, λ f i e. ended f i e (eqb (threadAt (now .state) i .place) (threadAt (now .state) i .end)) refl)
+    where
+      idle-all : Finished (now .state) → (i : ℕ) (b : Bool) → exists (threadAt (now .state) i) ≡ b → isIdle (steps.pick (sumOf j) (compiled j) (now .state) i .event) ≡ true
+      idle-all f i true e = ap (λ (r : Stepped). isIdle (r .event)) (ended-idle (sumOf j) (compiled j) (numberOf (now .state .threads)) (now .state) i (f i e))
+      idle-all f i false e = ap (λ (r : Stepped). isIdle (r .event)) (missing-idle (sumOf j) (compiled j) (numberOf (now .state .threads)) (now .state) i e)
+
+      ended : ((i : ℕ) → isIdle (steps.pick (sumOf j) (compiled j) (now .state) i .event) ≡ true) → (i : ℕ) → Exists (now .state) i → (b : Bool) → eqb (threadAt (now .state) i .place) (threadAt (now .state) i .end) ≡ b → threadAt (now .state) i .place ≡ threadAt (now .state) i .end
+      ended f i e true q = eqb-true (threadAt (now .state) i .place) (threadAt (now .state) i .end) q
+      ended f i e false q =
+          let k = fits-behind job j b accepted h in
+          let d = does-one its-code (sumOf j) (now .state) (k .0) (k .1) i e (eqb-false (threadAt (now .state) i .place) (threadAt (now .state) i .end) q) in
+          let z : true ≡ false = sym (f i) ∙ d .not-idle in
+          absurd (let y : _≡_ {A = ℕ} 0 1 = cc in omega arith)
+
   -- ---- what else the answer has
   none-behind′ : (k : ℕ) → threads (j .tree) ≤ k → getD (sixteen (j .tree)) k 0 ≡ 0
   unfolding threads sixteen heights bodies
@@ -174,6 +193,7 @@ module _ (job : List ℕ) (j : Job) (b : Bytes job) (accepted : readJob job ≡ 
     compiling = compiling′;
     running = λ h f. running′ h f;
     finishes = finishes′;
+    finished = λ h. finished′ h;
     chained = λ h. chained′ h;
     all-made = λ h. made′ h;
   }
@@ -195,8 +215,13 @@ refused-told (refused n p) number place = (λ e. ap forecastOf e, λ e. same (ap
     same a b = ap (λ (m : ℕ). refused m p) a ∙ ap (refused number) b
 refused-told (done j) number place = (λ e. absurd (let z : _≡_ {A = ℕ} 0 1 = cc in omega arith), λ e. absurd (let z : 5 + codeP (j .tree) ≡ 0 = ap (λ (f : ForecastReply). f .length) e in omega arith))
 
+told′ : (number place : ℕ) → (refusedWith number place .refusal ≡ number) × (refusedWith number place .place ≡ place)
+unfolding refusedWith
+told′ number place = (refl, refl)
+
 pub forecasts : Forecasts
 forecasts = record {
   refused = λ job b n p. (λ r. refused-told (readJob job) n p .0 (refused-is-read r), λ e. read-is-refused job b n p (refused-told (readJob job) n p .1 e));
+  told = told′;
   accepted = λ job j b e. subst (λ (o : Outcome Job). ComesTrue j (forecastOf o)) (sym e) (comes-true job j b e);
 }

@@ -3,7 +3,7 @@ use Prim.Native.Nat.{ℕ, suc, _+_, _-_, _*_, _<_, _≤_}
 use mathlib.Core.Bool.{true}
 use mathlib.Core.Logic.{_↔_}
 use mathlib.Core.Path.{_≡_}
-use mathlib.Core.List.{List, [], _∷_, _++_}
+use mathlib.Core.List.{List, [], _++_}
 use lib.IntN.{pos}
 use lib.ListN.{length, getD}
 use Rattle.code.specs.Bytes.{compiled, OccursIn}
@@ -16,14 +16,14 @@ use Rattle.guarantee.specs.Histories.{Session, History, none, turned-dow
 use Rattle.machine.specs.Answers.{sumOf}
 use Rattle.machine.specs.Fits.{Exists, OneThread}
 use Rattle.machine.specs.Stands.{Stands}
-use Rattle.machine.specs.Steps.{Child, fresh}
+use Rattle.machine.specs.Steps.{Child, pick, fresh}
 use Rattle.script.specs.Bytes.{Bytes}
 use Rattle.script.specs.Jobs.{Job}
 use Rattle.script.specs.Outcome.{done}
 use Rattle.script.specs.Reader.{readJob}
 use Rattle.script.specs.Refusal.{Refused}
 use Rattle.script.specs.Tree.{ValP}
-use Rattle.stm.specs.Events.{Happened, countsOf}
+use Rattle.stm.specs.Events.{Happened, isIdle, countsOf}
 use Rattle.traces.specs.OwnCodes.{bodies, ownCodes, nowhere}
 use Rattle.traces.specs.Traces.{Finished, Moment, moments, Chained, happened, PickDid, Greatest}
 use Rattle.word.specs.Registers.{member}
@@ -48,7 +48,8 @@ pub record AsCompiled (j : Job) (f : ForecastReply) : Type 0 where
   -- the registers of its READ and of its WRITE instructions
   pub reads : (v : ℕ) → (member (f .reads) v ≡ true) ↔ OccursIn (READ v) (compileP (j .tree) ε)
   pub writes : (v : ℕ) → (member (f .writes) v ≡ true) ↔ OccursIn (WRITE v) (compileP (j .tree) ε)
-  -- at each `ownOf` stands the code of the root or of a FORK's child, each starting behind the one before, as the FORKs do in the job
+  -- at each `ownOf` stands the code of the root or of a FORK's child, each starting behind the start of the one before: compiling keeps left
+  -- before right and a child behind its FORK, so this is job order
   pub own-codes :
       (k : ℕ) → k < f .threads →
       Stands (compiled j) (ownOf j k .start) (ownOf j k .end) (compileP (getD (bodies (j .tree)) k (ValP (pos 0))) ε)
@@ -89,6 +90,10 @@ pub record ComesTrue (j : Job) (f : ForecastReply) : Type 0 where
       {now : Session} {events : List Happened} (h : History (compiled j) now events) → Finished (now .state) → AsRun j f h
   -- there is such a list
   pub finishes : FinishedList j
+  -- and a list is finished exactly if any further pick would be idle
+  pub finished :
+      {now : Session} {events : List Happened} → History (compiled j) now events →
+      Finished (now .state) ↔ ((i : ℕ) → isIdle (pick (sumOf j) (compiled j) (now .state) i .event) ≡ true)
   -- the picks that `momentsOf` has are those that the list made, from the fresh state to the last
   pub chained :
       {now : Session} {events : List Happened} (h : History (compiled j) now events) →
@@ -101,5 +106,6 @@ pub record ComesTrue (j : Job) (f : ForecastReply) : Type 0 where
 pub record Forecasts : Type 0 where
   -- "A refused job gets the job reader's number and place": those of document 01's table
   pub refused : (job : List ℕ) → Bytes job → (number place : ℕ) → Refused job number place ↔ (forecastOf (readJob job) ≡ refusedWith number place)
+  pub told : (number place : ℕ) → (refusedWith number place .refusal ≡ number) × (refusedWith number place .place ≡ place)
   -- every accepted job's comes true
   pub accepted : (job : List ℕ) (j : Job) → Bytes job → readJob job ≡ done j → ComesTrue j (forecastOf (readJob job))

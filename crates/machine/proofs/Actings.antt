@@ -34,6 +34,7 @@ use Rattle.machine.proofs.Mirrors.{no-inside}
 use Rattle.machine.proofs.Picks.{missing-idle, ended-idle, does}
 use Rattle.machine.proofs.Regions.{held}
 use Rattle.machine.proofs.Simulates.{Held}
+use Rattle.machine.proofs.Walking.{same-op}
 use Rattle.machine.proofs.Shapes.{Shape, out, open′ as shape-open, shape}
 use Rattle.machine.proofs.Runs.{shows-of}
 use Rattle.machine.proofs.Showings.{Shows, shut, open′}
@@ -217,9 +218,6 @@ module _ {bytes : List ℕ} {j : Job} (c : IsCode bytes j) (sum : Rule) where
     where
       low : threadAt s i .base ≤ 64
       low = base-low (held c (outer c) s f y i e)
-
-      same-op : {a b : Op} → _≡_ {A = Outcome Op} (done a) (done b) → a ≡ b
-      same-op e = cc
 
       one : {ins : Instruction} {k : Code} → threadAt s i .base ≤ 64 → Ready bytes (threadAt s i .place) (threadAt s i .end) (ins ⨾ k) (threadAt s i .height) → stepped sum bytes (s .registers) (threadAt s i) ≡ performed sum (s .registers) (threadAt s i) (showOp op)
       one {ins} b r =

@@ -16,10 +16,10 @@ use Rattle.script.specs.Outcome.{done}
 use Rattle.script.specs.Jobs.{Job}
 use Rattle.machine.specs.Steps.{State, threadAt, Child}
 use Rattle.machine.specs.Fits.{Walked, walkOp, nextPlace, Walks, starts, passes, In, here, there, ownCode, Exists, Forked, Fits, Typed}
-use Rattle.machine.proofs.Walking.{not-before}
+use Rattle.machine.proofs.Walking.{same-op, not-before}
 use Rattle.machine.specs.InnerStands.{opOf, Ready}
 use Rattle.machine.proofs.Codes.{next-place, stands-end, ready-op, ready-next, ready-child, code-ready}
-use Rattle.machine.proofs.Shapes.{same-op, taking-less, taking-one}
+use Rattle.machine.proofs.Shapes.{taking-less, taking-one}
 use Rattle.machine.proofs.Simulates.{Held}
 use Rattle.stm.specs.InnerMeaning.{TakesOutside, TakesInside, Outside, Inside, forksIn, forksOf}
 

@@ -6,9 +6,9 @@ use native.Mathlib.Omega.{arith}
 use lib.ListN.{drop}
 use Rattle.code.specs.Compile.{Instruction, Code, PUSH, ADD, READ, WRITE, BEGIN, COMMIT, FORK, ε, _⨾_}
 use Rattle.code.specs.Ops.{Op, opAt}
-use Rattle.script.specs.Outcome.{Outcome, done}
+use Rattle.script.specs.Outcome.{done}
 use Rattle.machine.specs.Fits.{Walked, notes, shut, walkOp, nextPlace, Walks, starts, passes}
-use Rattle.machine.proofs.Walking.{not-before}
+use Rattle.machine.proofs.Walking.{same-op, not-before}
 use Rattle.machine.specs.InnerStands.{opOf, Ready, undone}
 use Rattle.machine.proofs.Codes.{stands-end, ready-op, ready-next}
 use Rattle.stm.specs.InnerMeaning.{taking1, taking2, TakesOutside, TakesInside, Outside, Inside, behind}
@@ -41,9 +41,6 @@ pub data Shape (bytes : List ℕ) (start end place : ℕ) (w : Walked) : Type 0 
 
 shut-same : (w : Walked) → w .begin ≡ 0 → w .base ≡ 0 → shut w ≡ w
 shut-same w b c = ap (λ (n : ℕ). notes n 0 w) (sym b) ∙ ap (λ (n : ℕ). notes (w .begin) n w) (sym c)
-
-pub same-op : {a b : Op} → _≡_ {A = Outcome Op} (done a) (done b) → a ≡ b
-same-op e = cc
 
 module _ {bytes : List ℕ} {start end : ℕ} where
   -- where no transaction is open

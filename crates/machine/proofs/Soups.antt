@@ -28,7 +28,8 @@ use Rattle.machine.specs.Stands.{Stands, stackFrom, ValuedC}
 use Rattle.machine.specs.Soup.{First, ruleOf, Carries, nobody, Soup, Name, named, PickOn}
 use Rattle.machine.proofs.Picks.{missing-idle, ended-idle, does}
 use Rattle.machine.proofs.Codes.{stands-end, stands-inside, stands-op, ready-op, ready-takes}
-use Rattle.machine.proofs.Shapes.{same-op, taking-two}
+use Rattle.machine.proofs.Shapes.{taking-two}
+use Rattle.machine.proofs.Walking.{same-op}
 use Rattle.machine.proofs.Showings.{Shows, shut, open′}
 use Rattle.machine.proofs.Simulates.{Held}
 use Rattle.machine.proofs.Mirrors.{Mirrors, same-start, spawned-exists, less-than, no-inside}

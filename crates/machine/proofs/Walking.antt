@@ -24,8 +24,9 @@ next-after code.begin q = omega arith
 next-after code.commit q = omega arith
 next-after (code.fork size) q = omega arith
 
-done-same : {a b : Op} → _≡_ {A = Outcome Op} (done a) (done b) → a ≡ b
-done-same e = cc
+-- two instructions read at one place are one
+pub same-op : {a b : Op} → _≡_ {A = Outcome Op} (done a) (done b) → a ≡ b
+same-op e = cc
 
 module _ (bytes : List ℕ) (start end : ℕ) where
   -- the same, told from the front
@@ -52,11 +53,11 @@ module _ (bytes : List ℕ) (start end : ℕ) where
   between : {p q r : ℕ} {u w v : Walked} {op : Op} → Ahead r u p w → Ahead r u q v → opAt (drop p bytes) ≡ done op → p < q → nextPlace op p ≤ q
   between stop stop o l = absurd (omega arith)
   between {p} {q} {op = op} stop (go {op = op′} lt e a) o l =
-      let s : op′ ≡ op = done-same (sym e ∙ o) in
+      let s : op′ ≡ op = same-op (sym e ∙ o) in
       subst (λ (x : Op). nextPlace x p ≤ q) s (rises a)
   between {p} {q} (go {op = op′} lt e a) stop o l = absurd (let r = rises a in let n = next-after op′ q in omega arith)
   between {q = q} {r = r} {u = u} {v = v} (go {op = a′} lt e a) (go {op = b′} lt′ e′ b) o l =
-      let s : b′ ≡ a′ = done-same (sym e′ ∙ e) in
+      let s : b′ ≡ a′ = same-op (sym e′ ∙ e) in
       between a (subst (λ (x : Op). Ahead (nextPlace x r) (walkOp x r u) q v) s b) o l
 
   -- no place lies between one and the next

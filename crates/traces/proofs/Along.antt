@@ -1,7 +1,7 @@
 -- A walk along a thread's own code passes each of its instructions, and no other; its heights are those of the code. Assumes nothing.
-use Prim.Native.Nat.{ℕ, suc, _+_, _-_, _≤_, _<_, max}
+use Prim.Native.Nat.{ℕ, _-_, _≤_, _<_, max}
 use mathlib.Core.Path.{_≡_, refl, sym, subst, ap, _∙_}
-use mathlib.Core.List.{List, [], _∷_}
+use mathlib.Core.List.{List}
 use native.Mathlib.Omega.{arith}
 use native.Mathlib.Decide.{decLt}
 use lib.ListN.{drop}
@@ -9,13 +9,12 @@ use Rattle.code.specs.Compile.{Instruction, Code, PUSH, ADD, READ, WRITE, BEGIN
 use Rattle.code.specs.Counts.{heightAfter, endHeight, greatest}
 use Rattle.code.specs.Ops.{Op, opAt}
 use Rattle.code.specs.Ops as code
-use Rattle.code.proofs.Heights.{one-left}
-use Rattle.machine.specs.Fits.{Walked, unmoved, walkOp, nextPlace, Walks, starts, passes, In, here, there}
+use Rattle.code.proofs.Heights.{one-left, greatest-least}
+use Rattle.machine.specs.Fits.{Walked, unmoved, walkOp, nextPlace, Walks, starts, passes, In, there}
 use Rattle.machine.specs.InnerStands.{opOf, Ready}
 use Rattle.machine.specs.Steps.{Child}
 use Rattle.machine.proofs.Codes.{stands-end, stands-inside, ready-op, ready-next}
-use Rattle.machine.proofs.Shapes.{same-op}
-use Rattle.machine.proofs.Walking.{not-before, walks-once}
+use Rattle.machine.proofs.Walking.{same-op, not-before, walks-once}
 use Rattle.script.specs.Outcome.{done}
 use Rattle.script.specs.Tree.{Proc}
 
@@ -44,11 +43,6 @@ walk-children (code.write v) q w x i = i
 walk-children code.begin q w x i = i
 walk-children code.commit q w x i = i
 walk-children (code.fork n) q w x i = there i
-
-greatest-least : (c : Code) (h : ℕ) → h ≤ greatest c h
-unfolding greatest
-greatest-least ε h = omega arith
-greatest-least (i ⨾ c) h = omega arith
 
 end-greatest : (c : Code) (h : ℕ) → endHeight c h ≤ greatest c h
 unfolding endHeight greatest

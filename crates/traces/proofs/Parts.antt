@@ -1,14 +1,14 @@
 -- Every thread's own code is the root's or a FORK's child's, and where every thread has ended each of them has one thread. Assumes nothing.
 use Prim.Native.Nat.{ℕ, zero, suc, _+_, _≤_, _<_}
-use mathlib.Core.Bool.{true, not}
+use mathlib.Core.Bool.{not}
 use mathlib.Core.Path.{_≡_, refl, sym, ap, subst, _∙_}
 use mathlib.Core.List.{List, [], _∷_, _++_}
 use native.Mathlib.Omega.{arith}
 use borrow.Author.Tests.{ne-eqb}
 use lib.ListN.{length, getD, length-append}
-use Rattle.code.specs.Compile.{Instruction, Code, PUSH, ADD, READ, WRITE, BEGIN, COMMIT, FORK, ε, _⨾_, compileT, compileP}
+use Rattle.code.specs.Compile.{Instruction, Code, ADD, WRITE, COMMIT, FORK, ε, _⨾_, compileT, compileP}
 use Rattle.code.specs.Bytes.{instructionsBytes, IsCode}
-use Rattle.machine.specs.Fits.{Walked, unmoved, walkOp, nextPlace, Walks, starts, In, here, ownCode, Exists, ThreadOf, Forked, OneThread, Fits}
+use Rattle.machine.specs.Fits.{Walked, unmoved, walkOp, nextPlace, Walks, starts, here, ownCode, Exists, ThreadOf, OneThread, Fits}
 use Rattle.machine.specs.InnerStands.{opOf, Ready}
 use Rattle.machine.specs.Steps.{State, Child, threadAt}
 use Rattle.machine.proofs.Codes.{ready-next, ready-child, code-ready, child-length}

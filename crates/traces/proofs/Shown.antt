@@ -1,13 +1,11 @@
 -- What a run from a fresh state shows, once every thread has ended: the job's figures. Assumes nothing.
-use Prim.Native.Nat.{ℕ, zero, suc, _+_, _≤_, _<_}
+use Prim.Native.Nat.{ℕ, _+_, _≤_, _<_}
 use mathlib.Core.Bool.{Bool, true, false, not}
 use mathlib.Core.Logic.{_↔_}
 use mathlib.Core.Path.{_≡_, refl, sym, ap, subst, _∙_}
-use mathlib.Core.List.{List, [], _∷_}
+use mathlib.Core.List.{List}
 use native.Mathlib.Omega.{arith}
 use native.Mathlib.Decide.{decLt}
-use borrow.Author.Tests.{eqb-true, eqb-false}
-use lib.Dec.{eqb}
 use lib.IntN.{ℤ}
 use lib.ListN.{length, drop}
 use Rattle.code.specs.Bytes.{IsCode}
@@ -15,7 +13,7 @@ use Rattle.code.specs.Compile.{Instruction, Code, PUSH, ADD, READ, WRITE, BEGIN
 use Rattle.code.specs.Counts.{greatest}
 use Rattle.code.specs.Ops.{Op, opAt}
 use Rattle.code.specs.Ops as code
-use Rattle.machine.specs.Fits.{Walked, unmoved, Walks, starts, ownCode, Exists, ThreadOf, OneThread, Fits, Typed}
+use Rattle.machine.specs.Fits.{Walked, Walks, starts, Exists, ThreadOf, OneThread}
 use Rattle.machine.specs.InnerStands.{registerCells, opOf, Ready}
 use Rattle.machine.specs.Steps.{State, Stepped, Child, threadAt, numberOf, pick, fresh, run, DoesOne}
 use Rattle.machine.proofs.Agrees.{outer, does-one}
@@ -25,14 +23,13 @@ use Rattle.machine.proofs.Mirrors.{no-inside}
 use Rattle.machine.proofs.Numbers.{below-exists, exists-below}
 use Rattle.machine.proofs.Picks.{missing-idle, ended-idle}
 use Rattle.machine.proofs.Runs.{Run, run-keeps}
-use Rattle.machine.proofs.Shapes.{same-op}
 use Rattle.machine.proofs.Showings.{Shows, shut, open′}
-use Rattle.machine.proofs.Walking.{walks-once}
+use Rattle.machine.proofs.Walking.{same-op, walks-once}
 use Rattle.script.specs.Count.{atomics, threads, instructions, bound, readSet, writeSet}
 use Rattle.script.specs.Jobs.{Job}
 use Rattle.script.specs.Outcome.{done}
-use Rattle.stm.specs.Events.{idle, isIdle, isCommit, isBack, counted, countsOf}
-use Rattle.stm.specs.InnerTasks.{Task, outside, System, taskAt, endOf, eventsOf, start}
+use Rattle.stm.specs.Events.{isIdle, isCommit, isBack, counted, countsOf}
+use Rattle.stm.specs.InnerTasks.{Task, outside, taskAt, endOf, eventsOf, start}
 use Rattle.stm.proofs.Bound.{all-commits, all-threads, steps-least, steps-exact, steps-bound}
 use Rattle.stm.proofs.Counts.{steps-counted, commits-counted, back-counted}
 use Rattle.thread.specs.declared.Thread.{Thread}
@@ -41,7 +38,7 @@ use Rattle.traces.specs.Traces.{Finished, Moment, moments, Among, PickDi
 use Rattle.traces.proofs.Along.{Own, place-of, highest, none-above, not-behind, own-op, top}
 use Rattle.traces.proofs.Parts.{Part, whole, child, part-ready, thread-part, one-thread}
 use Rattle.traces.proofs.Named.{Anywhere, own, in-child, read-stands, stands-read, write-stands, stands-write}
-use Rattle.traces.proofs.Visits.{PickedAt, StoodAt, Passed, Visited, fresh-visited, Fitting, all-fit}
+use Rattle.traces.proofs.Visits.{PickedAt, StoodAt, PassedBy, fresh-visited, Fitting, all-fit}
 use Rattle.word.specs.Registers.{member}
 use Rattle.word.specs.Sum.{Rule}
 
@@ -162,7 +159,7 @@ module _ {bytes : List ℕ} {j : Job} (c : IsCode bytes j) (sum : Rule) (is : Li
     part-thread p = one-thread c (outer c) last (keeps .fits) fin p
 
     -- the thread of a part has passed all of it
-    passed-all : {x : Child} {k : Code} (p : Part bytes j x k) → Passed bytes (moments sum bytes (fresh bytes) is) (threadAt (run sum bytes (fresh bytes) is .state) (part-thread p .thread))
+    passed-all : {x : Child} {k : Code} (p : Part bytes j x k) → PassedBy bytes (moments sum bytes (fresh bytes) is) (threadAt (run sum bytes (fresh bytes) is .state) (part-thread p .thread))
     passed-all p = fresh-visited c sum is (fresh-fits bytes) (fresh-typed bytes) (part-thread p .thread) (part-thread p .its .there)
 
     at-end : {x : Child} {k : Code} (p : Part bytes j x k) → threadAt (run sum bytes (fresh bytes) is .state) (part-thread p .thread) .place ≡ x .end

@@ -9,12 +9,12 @@ use native.Mathlib.Decide.{decLt}
 use borrow.Author.Tests.{eqb-true, eqb-false}
 use lib.Dec.{eqb, ltb}
 use lib.IntN.{ℤ}
-use lib.ListN.{length, drop, getD, set, List·getD-eq-default, length-set}
+use lib.ListN.{length, getD, set, List·getD-eq-default, length-set}
 use lib.Seq.{getD-set-same, getD-set-other}
 use Rattle.code.specs.Bytes.{IsCode}
-use Rattle.code.specs.Ops.{Op, opAt}
+use Rattle.code.specs.Ops.{Op}
 use Rattle.code.specs.Ops as code
-use Rattle.machine.specs.Fits.{Walked, walkOp, nextPlace, Walks, ownCode, Exists, ThreadOf, Fits, Typed}
+use Rattle.machine.specs.Fits.{Walked, nextPlace, Walks, ownCode, Exists, ThreadOf, Fits, Typed}
 use Rattle.machine.specs.Steps.{State, Stepped, Acted, Child, threadAt, numberOf, committing, commit, act, seated, settle, instruction, pick, fresh, run, DoesOne}
 use Rattle.machine.proofs.Agrees.{step-fits, does-one}
 use Rattle.machine.proofs.Fresh.{no-record}
@@ -24,7 +24,7 @@ use Rattle.script.specs.Jobs.{Job}
 use Rattle.script.specs.Outcome.{done}
 use Rattle.stm.specs.Events.{Source, fromWrites, fromReads, fromTable, idle}
 use Rattle.thread.specs.declared.Thread.{Thread}
-use Rattle.thread.specs.Threads.{firstStale, blank, spawned, exists, push, add, begin, sourceOf, readFrom, noted, read, write, closed}
+use Rattle.thread.specs.Threads.{firstStale, blank, spawned, exists, push, add, begin, sourceOf, read, write, closed}
 use Rattle.traces.specs.Traces.{Moment, moments, Chained, happened, Among, first, later}
 use Rattle.traces.proofs.Along.{begin-below}
 use Rattle.word.specs.Sum.{Rule}
@@ -132,18 +132,18 @@ stood-more : {ms : List Moment} (ns : List Moment) {own : Child} {q : ℕ} → S
 stood-more ns p = record { moment = p .moment; made = among-front ns (p .made); thread = p .thread; its = p .its; place = p .place }
 
 -- of a thread's record: each place before its place was picked, and it stood at each place behind its start and not behind its place
-pub record Passed (bytes : List ℕ) (ms : List Moment) (t : Thread) : Type 0 where
+pub record PassedBy (bytes : List ℕ) (ms : List Moment) (t : Thread) : Type 0 where
   pub picked : (q : ℕ) (w : Walked) → Walks bytes (t .start) (t .end) q w → q < t .place → PickedAt ms (ownCode t) q
   pub stood : (q : ℕ) (w : Walked) → Walks bytes (t .start) (t .end) q w → t .start < q → q ≤ t .place → StoodAt ms (ownCode t) q
 
 abbrev pub Visited : List ℕ → List Moment → State → Type 0
-Visited bytes ms s = (i : ℕ) → Exists s i → Passed bytes ms (threadAt s i)
+Visited bytes ms s = (i : ℕ) → Exists s i → PassedBy bytes ms (threadAt s i)
 
-passed-more : {bytes : List ℕ} {ms : List Moment} (ns : List Moment) {t : Thread} → Passed bytes ms t → Passed bytes (ms ++ ns) t
+passed-more : {bytes : List ℕ} {ms : List Moment} (ns : List Moment) {t : Thread} → PassedBy bytes ms t → PassedBy bytes (ms ++ ns) t
 passed-more ns p = record { picked = λ q w ws l. picked-more ns (p .picked q w ws l); stood = λ q w ws l m. stood-more ns (p .stood q w ws l m) }
 
 -- a thread at its start has passed nothing
-passed-new : {bytes : List ℕ} {ms : List Moment} {t : Thread} → t .place ≡ t .start → Passed bytes ms t
+passed-new : {bytes : List ℕ} {ms : List Moment} {t : Thread} → t .place ≡ t .start → PassedBy bytes ms t
 passed-new {bytes} {ms} {t} e =
     record {
       picked = λ q w ws l. absurd (let b = not-before bytes (t .start) (t .end) ws in omega arith);
@@ -162,20 +162,20 @@ module _ {bytes : List ℕ} {j : Job} (c : IsCode bytes j) (sum : Rule) where
     idle-visited : pick sum bytes s i ≡ record { state = s; event = idle } → Visited bytes (ms ++ now) s′
     idle-visited e k x =
         let q : s′ ≡ s = ap (λ (r : Stepped). r .state) e in
-        subst (λ (z : State). Passed bytes (ms ++ now) (threadAt z k)) (sym q) (passed-more now (v k (subst (λ (z : State). Exists z k) q x)))
+        subst (λ (z : State). PassedBy bytes (ms ++ now) (threadAt z k)) (sym q) (passed-more now (v k (subst (λ (z : State). Exists z k) q x)))
 
     module _ (e : Exists s i) (d : DoesOne sum bytes s i) where
       abbrev t : Thread
       t = threadAt s i
 
-      old : Passed bytes (ms ++ now) t
+      old : PassedBy bytes (ms ++ now) t
       old = passed-more now (v i e)
 
       begin-low : t .begin ≤ t .place
       begin-low = let b = begin-below (f .placed i e .walks) in let g = f .placed i e .begin in omega arith
 
       -- thread i moved on: the place before was picked, and it stands at the one behind
-      went-on : (k : ℕ) → k ≡ i → Exists s′ k → Moved t (d .op) (threadAt s′ k) → Passed bytes (ms ++ now) (threadAt s′ k)
+      went-on : (k : ℕ) → k ≡ i → Exists s′ k → Moved t (d .op) (threadAt s′ k) → PassedBy bytes (ms ++ now) (threadAt s′ k)
       went-on k q x m = record { picked = picked′; stood = stood′ }
         where
           t′ : Thread
@@ -224,12 +224,12 @@ module _ {bytes : List ℕ} {j : Job} (c : IsCode bytes j) (sum : Rule) where
       busy-visited : Visited bytes (ms ++ now) s′
       busy-visited k x = go (subst (λ (r : Stepped). Left s i (d .op) (r .state) k) (sym (d .does)) (leaves sum s i (d .op) k))
         where
-          go : Left s i (d .op) (pick sum bytes s i .state) k → Passed bytes (ms ++ now) (threadAt (pick sum bytes s i .state) k)
-          go (same z) = subst (Passed bytes (ms ++ now)) (sym z) (passed-more now (v k (sym (ap exists z) ∙ x)))
+          go : Left s i (d .op) (pick sum bytes s i .state) k → PassedBy bytes (ms ++ now) (threadAt (pick sum bytes s i .state) k)
+          go (same z) = subst (PassedBy bytes (ms ++ now)) (sym z) (passed-more now (v k (sym (ap exists z) ∙ x)))
           go (went q m) = went-on k q x m
           go (new z) = passed-new z
 
-    pub pick-visited : Visited bytes (ms ++ (record { before = s; thread = i; after = pick sum bytes s i .state } ∷ [])) (pick sum bytes s i .state)
+    pick-visited : Visited bytes (ms ++ (record { before = s; thread = i; after = pick sum bytes s i .state } ∷ [])) (pick sum bytes s i .state)
     pick-visited = go (exists (threadAt s i)) refl (eqb (threadAt s i .place) (threadAt s i .end)) refl
       where
         go : (a : Bool) → exists (threadAt s i) ≡ a → (b : Bool) → eqb (threadAt s i .place) (threadAt s i .end) ≡ b → Visited bytes (ms ++ (record { before = s; thread = i; after = pick sum bytes s i .state } ∷ [])) (pick sum bytes s i .state)

@@ -17,7 +17,7 @@ unfoldable pub bodies : Proc → List Proc
 bodies p = p ∷ childBodies p
 
 -- where the own code of each FORK's child starts and ends, in job order, in code that starts at a place: behind the FORK's three bytes. The
--- code of the FORKs in it stands in between, though it is not its own.
+-- child code of the FORKs in it stands in between, though it is not its own.
 unfoldable pub childCodes : (place : ℕ) → Proc → List Child
 childCodes q (ValP n) = []
 childCodes q (AddP a b) = childCodes q a ++ childCodes (q + codeP a) b
