@@ -121,7 +121,7 @@ pub record Whole (j : Job) (s : State) (events : List Happened) : Type 0 where
 
 -- "Every list of turns that the script can take is the order of some such list of calls", which "also ends every thread that is then a VALP in
 -- the script"
--- (and sends no thread back)
+-- More than the papers ask: it sends no thread back.
 pub record IsOrder (j : Job) (is : List ℕ) : Type 0 where
   pub now : Session
   pub events : List Happened
