@@ -48,8 +48,9 @@ typedef struct kuspigo_thread {
     size_t place;         /* the next instruction; at end the thread has ended, and cells[0] is its result */
     size_t height;        /* so many cells of the stack are in use */
     int32_t cells[64];
-    size_t begin;         /* the open transaction's notes: its BEGIN's place, 0 if none is open, */
-    size_t base;          /* and the stack height there */
+    size_t begin;         /* the open transaction's notes, 0 if none is open: its BEGIN's place, */
+    size_t base;          /* the stack height there, */
+    size_t over;          /* and how many sums of this attempt left the 32-bit range */
     uint64_t reads;       /* the registers that the read log marks, bit 0 being register 0, */
     int32_t readlog[64];  /* and their values */
     uint64_t writes;      /* the write log, likewise */
@@ -88,6 +89,8 @@ typedef struct kuspigo_step_reply {
     size_t event;          /* an enum kuspigo_event */
     size_t stale_register; /* the first one, if the thread was sent back, else 0 */
     size_t turn;           /* 1 if it took a turn (a sum outside a transaction, a FORK, a commit), else 0 */
+    size_t over;           /* 1 for a sum outside a transaction that left the 32-bit range; of a commit the note, how
+                              many sums of its attempt did; else 0 */
 } kuspigo_step_reply;
 
 typedef struct kuspigo_run_reply {
@@ -97,6 +100,7 @@ typedef struct kuspigo_run_reply {
     size_t idle;
     size_t commits; /* commits that took effect */
     size_t back;    /* commits that were sent back */
+    size_t over;    /* sums that left the 32-bit range, outside transactions and, as noted, in attempts that took effect */
 } kuspigo_run_reply;
 
 /* What a job will need; on a refusal the rest is 0. A run is here all steps and runs with this job's code on one state,

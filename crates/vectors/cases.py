@@ -3,7 +3,7 @@
 folder.
 
 In front stand the cases of jobs.py and machine.py, most of whose answers are also stated by hand. Every answer comes from a second implementation, which
-is written from the papers (documents 01 and 02) and not from the definitions or the code of this repository: the job reader, the compiler, the
+is written from the papers (documents 01 and 02) and not from the definitions of this repository: the job reader, the compiler, the
 way back and the forecast are in jobs.py, the machine is in machine.py, and what the run program prints is here.
 """
 import os
@@ -48,9 +48,7 @@ def printed(data):
         return "refused 13 at 0\n"
     code, memory = whole(jobs.tree_at(text, 7)[0]), machine.Memory()
     machine.call_fresh(code, memory)
-    events = [machine.pick(code, memory, i)[0] for i in picks]
-    idle = events.count(0)
-    out = "steps %d idle %d commits %d back %d\n" % (len(events) - idle, idle, events.count(9), events.count(10))
+    out = machine.COUNTS % machine.counts([machine.pick(code, memory, i) for i in picks]) + "\n"
     for i in range(16):
         thread = memory.threads[i]
         if thread.start and thread.place == thread.end:
@@ -77,7 +75,7 @@ def report(kind, data, size=None, picks=()):
         if word[0] == "refused":
             note["refused " + word[1]] += 1
         elif word[0] == "steps":
-            for name, n in zip(("steps", "idle", "commits", "back"), word[1::2]):
+            for name, n in zip(word[::2], word[1::2]):
                 note[name] += n != "0"
         else:
             note[word[0] + " of two digits"] += len(word[1]) == 2
@@ -396,9 +394,9 @@ def calls(kind, tree, setup, lists):
             assert memory.numbers() == before
             said.append("refused %d at 0 kept" % number)
         else:
-            said.append("steps %d idle %d commits %d back %d" % machine.counts(events))
+            said.append(machine.COUNTS % machine.counts(events))
         seen["calls"]["refused" if number else "taken"] += 1
-        seen["calls"]["sent back"] += any(event == 10 for event, _, _ in events)
+        seen["calls"]["sent back"] += any(event == 10 for event, *_ in events)
         seen["calls"]["left open"] += any(record.begin for record in memory.threads[:16])
     seen["calls"]["of %d" % len(lists)] += 1
     _, text = machine.given(tree, words(setup).strip(), "", " | ".join(words(picks).strip() for picks in lists))
@@ -442,6 +440,105 @@ def one_field(fit, field):
     said = state("altered" if fit else "foreign state", command, tree, picks[:k], change, picks[k : k + 1] or [0] if command == "step" else picks[k : k + 9])
     assert (said == "refused 12 at 0 kept") != fit
     seen["altered" if fit else "foreign state"][field] += 1
+
+
+# ---- sums that leave the range
+
+ENDS = (2147483647, 2147483646, 1073741824, 1, 0, -1, -1073741824, -1073741825, -2147483647, -2147483648)
+
+
+def at_ends(tree):
+    """The tree with numbers in its leaves whose sums are near the ends of the range, or outside."""
+    kind, operand, parts = tree
+    if len(operand) == 4:
+        operand = rng.choice(ENDS).to_bytes(4, "big", signed=True)
+    return kind, operand, tuple(at_ends(p) for p in parts)
+
+
+def off_scale():
+    """Threads with sums near the ends of the range, outside transactions and in some that read and write the same register."""
+    look = jobs.read(0)
+
+    def tran():
+        return rng.choice((addt(look, valt(1)), addt(addt(valt(1), valt(1)), look), addt(valt(1), addt(look, valt(1)))))
+
+    def part():
+        return rng.choice((atomic(write(0, tran())), fork(atomic(write(0, tran()))), atomic(tran()), addp(valp(1), valp(1))))
+
+    return at_ends(rng.choice((busy, lambda: joined([part() for _ in range(rng.randint(2, 4))])))())
+
+
+def told(tree, lists):
+    """Of each pick of these calls what it has to do with sums that leave the range: `outside` for one outside a transaction, `noted` for one
+    inside, `counted` and `dropped` for a COMMIT with a note that takes effect or is sent back, `counted later` and `dropped later` if a
+    call before this one noted, else nothing."""
+    code, memory, out = whole(tree), begun(tree, []), []
+    for picks in lists:
+        # the threads whose note is as the call before left it
+        lent = {i for i in range(16) if memory.threads[i].over}
+        for i in picks:
+            note = memory.threads[i].over if i < 16 else 0
+            event, _, _, over = machine.pick(code, memory, i)
+            word = ""
+            if event == 2 and over:
+                word = "outside"
+            elif event == 2 and memory.threads[i].over > note:
+                word = "noted"
+            elif event in (9, 10) and note:
+                word = ("counted" if event == 9 else "dropped") + " later" * (i in lent)
+                lent.discard(i)
+            assert over == (word == "outside") + note * word.startswith("counted")
+            out.append(word)
+    return out
+
+
+def showing(word):
+    """A tree and picks that show it."""
+    while True:
+        tree = off_scale()
+        picks, _ = schedule(tree, 80)
+        if word in told(tree, [picks]):
+            return tree, picks
+
+
+def note_of(kind, code, record):
+    """Another note for a record of this kind, or None if it is of another. `blank`: there is no such thread; `outside`: no transaction is open;
+    `high`: above the ADDs passed since BEGIN; `lower`, `higher`: not above them."""
+    if not record.start or not record.begin:
+        return rng.choice((1, 1, 2, 2**64 - 1)) if kind == ("outside" if record.start else "blank") else None
+    adds = [code[at] for at in op_places(code) if record.begin < at < record.place].count(2)
+    if kind == "high":
+        return adds + rng.choice((1, 1, 1, 2, 9))
+    if kind == "lower" and record.over > 0:
+        return rng.randrange(record.over)
+    if kind == "higher" and record.over < adds:
+        return rng.randint(record.over + 1, adds)
+    return None
+
+
+def a_note(kind):
+    """A case of a state with another note in one record, by `note_of`. If it fits, register 0 is another one now and then."""
+    fit, note = kind in ("lower", "higher"), None
+    while note is None:
+        tree = off_scale()
+        picks, _ = schedule(tree, 60)
+        setup = picks[: rng.randint(0, len(picks))]
+        memory, i = begun(tree, setup), rng.randrange(16)
+        note = note_of(kind, whole(tree), memory.threads[i])
+    changes = "thread %d over %d" % (i, note) + (", register 0 7" if fit and rng.random() < 0.4 else "")
+    command = rng.choice(("run", "run", "step"))
+    rest = [i] * (20 if command == "run" else 1)
+    said = state("over", command, tree, setup, changes, rest)
+    assert (said == "refused 12 at 0 kept") != fit
+    seen["note"][kind] += 1
+    if fit:
+        # what becomes of the lent note
+        for text in changes.split(", "):
+            machine.change(bytearray(), memory, text)
+        events = [machine.pick(whole(tree), memory, i)[0] for i in rest]
+        first = [event for event in events if event in (9, 10)][:1]
+        seen["note"]["counted"] += note > 0 and first == [9]
+        seen["note"]["dropped"] += note > 0 and first == [10]
 
 
 # ---- the cases
@@ -596,8 +693,9 @@ def the_states():
         state("run", "run", tree, [], "", picks)
     cases.section("one field altered: states that do not fit")
     for field in FIELDS:
-        for _ in range(26):
-            one_field(False, field)
+        if field != "over":  # in the_overs
+            for _ in range(26):
+                one_field(False, field)
     cases.section("one field altered: states that fit")
     for field in ("cell", "readlog", "writelog", "reads", "writes", "place"):
         for _ in range(10):
@@ -632,7 +730,7 @@ def an_input(data, picks=b"", length=None):
 def the_inputs():
     cases.section("inputs of the run program")
     report("whole case", an_input(job(jobs.WHOLE), machine.listed(machine.PICKS)))
-    assert cases.answers[-1].endswith("steps 21 idle 0 commits 2 back 1 / thread 0 done 0 / thread 1 done 2 / thread 2 done 1 / register 0 2 / kept")
+    assert cases.answers[-1].endswith("steps 21 idle 0 commits 2 back 1 over 0 / thread 0 done 0 / thread 1 done 2 / thread 2 done 1 / register 0 2 / kept")
     for k in range(170):
         tree = (small, busy, any_tree, many)[k % 4 if k % 20 else 3]()
         picks, _ = schedule(tree, rng.choice((10, 60, 200)))
@@ -704,6 +802,56 @@ def the_forecasts():
             a_forecast(damaged_job(number))
 
 
+def the_overs():
+    cases.section("a note that crosses two calls")
+    calls("over", atomic(addt(valt(2147483647), valt(1))), [], [[0] * 4, [0]])
+    assert " over 0 | steps 1 idle 0 commits 1 back 0 over 1, thread 0 done -2147483648, sum " in cases.answers[-1]
+    cases.section("one step: sums that leave the range, commits and send-backs with a note")
+    for word in ("outside", "noted", "counted", "dropped"):
+        for _ in range(15):
+            tree, picks = showing(word)
+            k = rng.choice([k for k, shown in enumerate(told(tree, [picks])) if shown == word])
+            state("over", "step", tree, picks[:k], "", picks[k : k + 1])
+            seen["over in a step"][word] += 1
+    cases.section("runs in one call with sums that leave the range")
+    for k in range(60):
+        tree, picks = showing(("outside", "counted", "dropped")[k % 3])
+        seen["over in a run"].update(filter(None, told(tree, [picks])))
+        state("over", "run", tree, [], "", picks)
+    for _ in range(10):
+        tree, picks = showing("counted")
+        state("over", "cut", tree, [], "", picks[:25])
+    cases.section("runs in several calls with sums that leave the range")
+    for k in range(60):
+        word = ("counted later", "counted later", "dropped later")[k % 3]
+        while True:
+            tree, picks = showing(word.split()[0])
+            cuts = sorted(rng.randint(0, len(picks)) for _ in range(rng.choice((1, 2, 3))))
+            lists = [picks[a:b] for a, b in zip([0] + cuts, cuts + [len(picks)])]
+            shown = told(tree, lists)
+            if word in shown:
+                break
+        seen["over in calls"].update(filter(None, shown))
+        calls("over", tree, [], lists)
+    cases.section("another note alone: states that do not fit")
+    for _ in range(12):
+        one_field(False, "over")
+    for kind in ("high", "outside", "blank"):
+        for _ in range(16):
+            a_note(kind)
+    cases.section("another note alone: states that fit")
+    for kind in ("lower", "higher"):
+        for _ in range(25):
+            a_note(kind)
+    cases.section("inputs of the run program with sums that leave the range")
+    for k in range(30):
+        tree, picks = showing(("outside", "counted", "dropped")[k % 3])
+        report("over", an_input(job(tree), picks))
+    tree = jobs.balanced(addp, valp(-2147483648), 500)
+    report("over", an_input(job(tree)), picks=[0] * 999)
+    assert cases.answers[-1].endswith(": prints steps 999 idle 0 commits 0 back 0 over 250 / thread 0 done 0 / kept")
+
+
 def check():
     """All that the cases are to have."""
     for kind in ("job", "damaged job", "code", "damaged code", "in calls", "foreign state", "input", "forecast"):
@@ -723,7 +871,12 @@ def check():
         assert seen["calls"][name] >= 10, (name, seen["calls"])
     for name in ("no transaction", "several transactions", "several threads", "a greater bound", "sent back", *("refused %d" % n for n in JOB_DAMAGE)):
         assert seen["forecast"][name] >= 10, (name, seen["forecast"])
-    for name in ("short", "longer", "steps", "idle", "commits", "back", "thread open", "thread negative", "thread least", "thread of two digits",
+    for part, ends in (("a step", ("counted", "dropped")), ("a run", ("counted", "dropped")), ("calls", ("counted", "counted later", "dropped later"))):
+        for word in ("outside", "noted", *ends):
+            assert seen["over in " + part][word] >= 5, (part, word, seen["over in " + part])
+    for kind in ("high", "outside", "blank", "lower", "higher", "counted", "dropped"):
+        assert seen["note"][kind] >= 3, (kind, seen["note"])
+    for name in ("short", "longer", "steps", "idle", "commits", "back", "over", "thread open", "thread negative", "thread least", "thread of two digits",
                  "register negative", "register least", "register of two digits", *("refused %d" % n for n in (1, 2, 3, 4, 5, 6, 7, 8, 9, 13))):
         assert seen["report"][name] >= 1, (name, seen["report"])
 
@@ -735,7 +888,7 @@ def main(seed=SEED, folder=HERE):
         cases.lines += stated.cases.lines + [""]
         cases.answers += stated.cases.answers
     cases.lines.append("# Random cases of every call.")
-    for part in (the_jobs, the_damaged_jobs, the_codes, the_damaged_codes, the_states, the_calls, the_inputs, the_large, the_forecasts):
+    for part in (the_jobs, the_damaged_jobs, the_codes, the_damaged_codes, the_states, the_calls, the_inputs, the_large, the_forecasts, the_overs):
         part()
     check()
     cases.save(folder, ROOM)

@@ -1,6 +1,6 @@
 """Cases of fresh, step and run, for cases.py, which writes them.
 
-The machine here is a second implementation, written from document 01; the fields of a record and the numbers of the events are those of the library's interface. Jobs, their code and what code is foreign come from the
+The machine here is a second implementation, written from documents 01 and 02; the fields of a record and the numbers of the events are those of the library's interface. Jobs, their code and what code is foreign come from the
 second implementation in jobs.py. Where a case states its answer by hand, the two are compared before anything is written.
 """
 import copy
@@ -11,7 +11,7 @@ from jobs import addp, addt, atomic, chain, fork, job, job_of, nodes, read, valp
 
 # ---- the machine
 
-SCALARS = ("start", "end", "place", "height", "begin", "base", "reads", "writes")
+SCALARS = ("start", "end", "place", "height", "begin", "base", "over", "reads", "writes")
 ARRAYS = ("cell", "readlog", "writelog")
 
 
@@ -52,6 +52,11 @@ def wrap(n):
     return (n + 2**31) % 2**32 - 2**31
 
 
+def outside(n):
+    """1 if the number is outside the signed 32-bit range, else 0."""
+    return int(not -2147483648 <= n <= 2147483647)
+
+
 OPERAND = jobs.OPERANDS
 
 
@@ -63,8 +68,8 @@ def instruction(code, place):
 
 
 def walk(code, start, end):
-    """The places of the thread that owns this code: place, stack height, the open transaction's BEGIN and the height there, or None,
-    and the child code of the FORKs passed. The last one is the end."""
+    """The places of the thread that owns this code: place, stack height, the open transaction's BEGIN, the height there and the ADDs
+    passed since, or None, and the child code of the FORKs passed. The last one is the end."""
     points, height, note, passed, at = [], 0, None, [], start
     while True:
         points.append((at, height, note, list(passed)))
@@ -75,8 +80,10 @@ def walk(code, start, end):
             height += 1
         elif op == 2:
             height -= 1
+            if note is not None:
+                note = (*note[:2], note[2] + 1)
         elif op == 5:
-            note = (at, height)
+            note = (at, height, 0)
         elif op == 6:
             note = None
         elif op == 7:
@@ -116,9 +123,9 @@ def fits(code, memory):
         if record.height != height or any(record.cell[height:]):
             return False
         if note is None:
-            if record.begin or record.base or record.reads or record.writes or any(record.readlog) or any(record.writelog):
+            if record.begin or record.base or record.over or record.reads or record.writes or any(record.readlog) or any(record.writelog):
                 return False
-        elif (record.begin, record.base) != note:
+        elif (record.begin, record.base) != note[:2] or record.over > note[2]:
             return False
         for v in range(64):
             if not record.reads >> v & 1 and record.readlog[v]:
@@ -130,18 +137,18 @@ def fits(code, memory):
 
 def close(record):
     """Logs and notes emptied."""
-    record.begin = record.base = record.reads = record.writes = 0
+    record.begin = record.base = record.over = record.reads = record.writes = 0
     record.readlog = [0] * 64
     record.writelog = [0] * 64
 
 
 def pick(code, memory, i):
-    """One pick: (event, register, turn)."""
+    """One pick: (event, register, turn, over)."""
     if i >= 16 or memory.threads[i].start == 0:
-        return 0, 0, 0
+        return 0, 0, 0, 0
     t = memory.threads[i]
     if t.place == t.end:
-        return 0, 0, 0
+        return 0, 0, 0, 0
     op, operand, behind = instruction(code, t.place)
 
     def push(n):
@@ -151,14 +158,18 @@ def pick(code, memory, i):
     if op == 1:
         push(operand)
         t.place = behind
-        return 1, 0, 0
+        return 1, 0, 0, 0
     if op == 2:
         right, left = t.cell[t.height - 1], t.cell[t.height - 2]
         t.cell[t.height - 1] = 0
         t.cell[t.height - 2] = wrap(left + right)
         t.height -= 1
         t.place = behind
-        return 2, 0, 0 if t.begin else 1
+        over = outside(left + right)
+        if t.begin:
+            t.over += over
+            return 2, 0, 0, 0
+        return 2, 0, 1, over
     if op == 3:
         if t.writes >> operand & 1:
             value, event = t.writelog[operand], 5
@@ -170,37 +181,38 @@ def pick(code, memory, i):
             t.readlog[operand] = value
         push(value)
         t.place = behind
-        return event, 0, 0
+        return event, 0, 0, 0
     if op == 4:
         t.writes |= 1 << operand
         t.writelog[operand] = t.cell[t.height - 1]
         t.place = behind
-        return 8, 0, 0
+        return 8, 0, 0, 0
     if op == 5:
         at, height = t.place, t.height
         close(t)
         t.begin, t.base = at, height
         t.place = behind
-        return 4, 0, 0
+        return 4, 0, 0, 0
     if op == 6:
         for v in range(64):
             if t.reads >> v & 1 and t.readlog[v] != memory.registers[v]:
                 t.place, t.height = t.begin, t.base
                 t.cell[t.height :] = [0] * (64 - t.height)
                 close(t)
-                return 10, v, 0
+                return 10, v, 0, 0
         for v in range(64):
             if t.writes >> v & 1:
                 memory.registers[v] = t.writelog[v]
+        over = t.over
         close(t)
         t.place = behind
-        return 9, 0, 1
+        return 9, 0, 1, over
     push(0)
     t.place = behind + operand
     child = next(record for record in memory.threads if record.start == 0)
     child.start = child.place = behind
     child.end = behind + operand
-    return 3, 0, 1
+    return 3, 0, 1, 0
 
 
 def refusal(code, memory, picks, fresh=False):
@@ -232,12 +244,15 @@ def call_run(code, memory, picks):
 
 
 def counts(events):
-    """steps, idle, commits, back"""
-    kinds = [event for event, _, _ in events]
-    return len(kinds) - kinds.count(0), kinds.count(0), kinds.count(9), kinds.count(10)
+    """steps, idle, commits, back, over"""
+    kinds = [event for event, *_ in events]
+    return len(kinds) - kinds.count(0), kinds.count(0), kinds.count(9), kinds.count(10), sum(over for *_, over in events)
 
 
 # ---- what is written
+
+COUNTS = "steps %d idle %d commits %d back %d over %d"
+EVENT = "event %d register %d turn %d over %d"
 
 
 def checksum(memory):
@@ -297,17 +312,17 @@ def answer(command, code, setup, changes, picks):
         number, said = call_fresh(code, memory), "laid"
     elif command == "step":
         number, events = call_run(code, memory, picks)
-        said = "" if number else "event %d register %d turn %d" % events[0]
+        said = "" if number else EVENT % events[0]
     else:
         number, events = call_run(code, memory, picks)
-        said = "steps %d idle %d commits %d back %d" % counts(events)
+        said = COUNTS % counts(events)
     if command == "cut":
         assert number == 0
         for k in range(len(picks) + 1):
             again = copy.deepcopy(before)
             first, second = call_run(code, again, picks[:k]), call_run(code, again, picks[k:])
             assert first[0] == second[0] == 0 and again.numbers() == memory.numbers()
-            assert counts(first[1] + second[1]) == counts(events)
+            assert tuple(map(sum, zip(counts(first[1]), counts(second[1])))) == counts(events)
         return "same", memory
     if number:
         assert before.numbers() == memory.numbers()
@@ -339,12 +354,12 @@ def case(label, what, setup="", changes="", picks="", says=None):
     line(label, text, said)
 
 
-def ran(steps, idle, commits, back, *left):
-    return ", ".join(("steps %d idle %d commits %d back %d" % (steps, idle, commits, back),) + left)
+def ran(steps, idle, commits, back, *left, over=0):
+    return ", ".join((COUNTS % (steps, idle, commits, back, over),) + left)
 
 
-def stepped(event, register, turn, *left):
-    return ", ".join(("event %d register %d turn %d" % (event, register, turn),) + left)
+def stepped(event, register, turn, *left, over=0):
+    return ", ".join((EVENT % (event, register, turn, over),) + left)
 
 
 SEVEN = valp(7)
@@ -356,6 +371,7 @@ PICKS = "0*3 1*2 2*6 1*10"
 HIGH = addp(valp(5), addp(fork(atomic(write(0, valt(1)))), atomic(read(0))))
 LOOK = atomic(read(0))
 TWICE = atomic(addt(read(3), read(3)))
+SMALL = atomic(addt(valt(1), valt(2)))
 STALE = addp(fork(atomic(write(2, write(1, valt(1))))), atomic(addt(read(2), read(1))))
 NEST = chain(fork, 15, valp(1))
 NEST_PICKS = " ".join(str(i) for i in range(15))
@@ -377,8 +393,8 @@ def the_whole_case():
     case("run the whole case", WHOLE, picks=PICKS, says=ran(21, 0, 2, 1, *end))
     case("run one PUSH", SEVEN, picks="0", says=ran(1, 0, 0, 0, "thread 0 done 7"))
     case("run one PUSH picked three times", SEVEN, picks="0*3", says=ran(1, 2, 0, 0, "thread 0 done 7"))
-    case("run below the least number", LOW, picks="0*3", says=ran(3, 0, 0, 0, "thread 0 done 2147483647"))
-    case("run above the greatest number", addp(valp(2147483647), valp(1)), picks="0*3", says=ran(3, 0, 0, 0, "thread 0 done -2147483648"))
+    case("run below the least number", LOW, picks="0*3", says=ran(3, 0, 0, 0, "thread 0 done 2147483647", over=1))
+    case("run above the greatest number", addp(valp(2147483647), valp(1)), picks="0*3", says=ran(3, 0, 0, 0, "thread 0 done -2147483648", over=1))
     case("run a register read after its own write", OWN, picks="0*6", says=ran(6, 0, 1, 0, "thread 0 done 10", "register 0 5"))
     case("run the same up to COMMIT", OWN, picks="0*5", says=ran(5, 0, 0, 0, "thread 0 open"))
     assert answer("run", whole(OWN), "", "", "0*5")[1].threads[0].reads == 0
@@ -445,7 +461,7 @@ def the_events():
     for n in (15, 16, 17, 255):
         case("step 0 idle, pick %d" % n, SEVEN, picks=str(n), says=stepped(0, 0, 0, "thread 0 open"))
     case("step 1 push", SEVEN, picks="0", says=stepped(1, 0, 0, "thread 0 done 7"))
-    case("step 2 sum outside", LOW, "0*2", picks="0", says=stepped(2, 0, 1, "thread 0 done 2147483647"))
+    case("step 2 sum outside", LOW, "0*2", picks="0", says=stepped(2, 0, 1, "thread 0 done 2147483647", over=1))
     case("step 2 sum inside", OWN, "0*4", picks="0", says=stepped(2, 0, 0, "thread 0 open"))
     case("step 3 fork", WHOLE, picks="0", says=stepped(3, 0, 1, "thread 0 open", "thread 1 open"))
     case("step 3 fork, the next", WHOLE, "0", picks="0", says=stepped(3, 0, 1, "thread 0 open", "thread 1 open", "thread 2 open"))
@@ -502,6 +518,79 @@ def the_sizes():
     comb = atomic(jobs.left_comb(addt, write(7, read(7)), 32))
     case("run many writes of one register", comb, "0", "register 7 3", "0*200", says=None)
     case("run 62 WRITEs in each other", atomic(chain(lambda t: write(9, t), 62, valt(4))), picks="0*65", says=ran(65, 0, 1, 0, "thread 0 done 4", "register 9 4"))
+
+
+def the_overs():
+    most, least = 2147483647, -2147483648
+    section("sums outside transactions that leave the range")
+    case("run (2147483647 + 1) + -1", addp(addp(valp(most), valp(1)), valp(-1)), picks="0*5", says=ran(5, 0, 0, 0, "thread 0 done 2147483647", over=2))
+    case("run 2147483647 + (1 + -1)", addp(valp(most), addp(valp(1), valp(-1))), picks="0*5", says=ran(5, 0, 0, 0, "thread 0 done 2147483647"))
+    for a, b, total, over in (
+        (most, 0, most, 0),
+        (most - 1, 1, most, 0),
+        (1, most, least, 1),
+        (least, 0, least, 0),
+        (least + 1, -1, least, 0),
+        (-1, least, most, 1),
+        (most, least, -1, 0),
+        (least, most, -1, 0),
+        (most, most, -2, 1),
+        (least, least, 0, 1),
+        (2**30, 2**30, least, 1),
+        (2**30, 2**30 - 1, most, 0),
+        (-(2**30), -(2**30), least, 0),
+        (-(2**30), -(2**30) - 1, most, 1),
+    ):
+        case("step %d + %d" % (a, b), addp(valp(a), valp(b)), "0*2", picks="0", says=stepped(2, 0, 1, "thread 0 done %d" % total, over=over))
+    case("run a sum of a child", fork(addp(valp(most), valp(1))), picks="0 1*3", says=ran(4, 0, 0, 0, "thread 0 done 0", "thread 1 done -2147483648", over=1))
+    case("run 500 least numbers", jobs.balanced(addp, valp(least), 500), picks="0*999", says=ran(999, 0, 0, 0, "thread 0 done 0", over=250))
+    section("sums in transactions that leave the range: counted when the attempt takes effect")
+    one = atomic(addt(valt(most), valt(1)))
+    two = atomic(addt(addt(valt(most), valt(1)), valt(-1)))
+    case("step a sum inside, noted", one, "0*3", picks="0", says=stepped(2, 0, 0, "thread 0 open"))
+    assert answer("step", whole(one), "0*3", "", "0")[1].threads[0].over == 1
+    case("step a commit of one", one, "0*4", picks="0", says=stepped(9, 0, 1, "thread 0 done -2147483648", over=1))
+    assert answer("step", whole(one), "0*4", "", "0")[1].threads[0].over == 0
+    case("run four picks of five", one, picks="0*4", says=ran(4, 0, 0, 0, "thread 0 open"))
+    case("run the last pick of five", one, "0*4", picks="0", says=ran(1, 0, 1, 0, "thread 0 done -2147483648", over=1))
+    case("run five picks", one, picks="0*5", says=ran(5, 0, 1, 0, "thread 0 done -2147483648", over=1))
+    case("cut a note", one, picks="0*5", says="same")
+    case("step a commit of two", two, "0*6", picks="0", says=stepped(9, 0, 1, "thread 0 done 2147483647", over=2))
+    case("run a sum of 63 least numbers", atomic(jobs.left_comb(addt, valt(least), 63)), picks="0*127", says=ran(127, 0, 1, 0, "thread 0 done -2147483648", over=31))
+    case("run two transactions of a thread and a sum", addp(one, one), picks="0*11", says=ran(11, 0, 2, 0, "thread 0 done 0", over=3))
+    section("sums of attempts that are sent back: never counted")
+    # thread 1 sets register 0 to b while thread 0 adds 1 to the a that it has read there
+    def again(a, b):
+        return addp(atomic(write(0, valt(a))), addp(fork(atomic(write(0, valt(b)))), atomic(addt(read(0), valt(1)))))
+
+    before = "0*9 1*4"
+    rest = ("thread 0 open", "thread 1 done 5", "register 0 5")
+    case("step sent back with a note", again(most, 5), before, picks="0", says=stepped(10, 0, 0, *rest))
+    assert answer("step", whole(again(most, 5)), before, "", "0")[1].threads[0].over == 0
+    case("run sent back with a note, none the second time, the last sum outside", again(most, 5), picks=before + " 0*8", says=ran(21, 0, 3, 1, "thread 0 done -2147483643", "thread 1 done 5", "register 0 5", over=1))
+    case("run up to the second commit", again(most, 5), picks=before + " 0*6", says=ran(19, 0, 3, 1, *rest))
+    case("run sent back, a note the second time", again(5, most), picks=before + " 0*6", says=ran(19, 0, 3, 1, "thread 0 open", "thread 1 done 2147483647", "register 0 2147483647", over=1))
+    both = addp(fork(atomic(write(0, valt(5)))), atomic(addt(read(0), addt(valt(most), valt(1)))))
+    case("run a note in both attempts", both, picks="0*7 1*4 0*9", says=ran(20, 0, 2, 1, "thread 0 done -2147483643", "thread 1 done 5", "register 0 5", over=1))
+    section("a lent note counts as it stands")
+    twice = atomic(addt(addt(valt(1), valt(2)), valt(most)))
+    case("step a lent note of 1 behind one ADD", SMALL, "0*4", "thread 0 over 1", "0", says=stepped(9, 0, 1, "thread 0 done 3", over=1))
+    case("run a lent note of 1 behind one ADD", SMALL, "0*4", "thread 0 over 1", "0", says=ran(1, 0, 1, 0, "thread 0 done 3", over=1))
+    for command in ("run", "step"):
+        case("%s a lent note of 2 behind one ADD" % command, SMALL, "0*4", "thread 0 over 2", "0", says="refused 12 at 0 kept")
+        case("%s a lent note of 1 in front of the ADD" % command, SMALL, "0*3", "thread 0 over 1", "0", says="refused 12 at 0 kept")
+    case("step a lent note of 0, the sum having left the range", one, "0*4", "thread 0 over 0", "0", says=stepped(9, 0, 1, "thread 0 done -2147483648"))
+    case("run a lent note and a sum that leaves the range", twice, "0*4", "thread 0 over 1", "0*3", says=ran(3, 0, 1, 0, "thread 0 done -2147483646", over=2))
+    case("run a lent note that is left open", twice, "0*4", "thread 0 over 1", "0*2", says=ran(2, 0, 0, 0, "thread 0 open"))
+    assert answer("run", whole(twice), "0*4", "thread 0 over 1", "0*2")[1].threads[0].over == 2
+    case("step a lent note that is sent back", atomic(addt(read(0), valt(1))), "0*4", "thread 0 over 1, register 0 3", "0", says=stepped(10, 0, 0, "thread 0 open", "register 0 3"))
+    # one ADD behind the BEGIN, others before it
+    outside_first = addp(addp(valp(1), valp(2)), SMALL)
+    inside_first = addp(SMALL, SMALL)
+    case("run a lent note of 1, an ADD before the BEGIN", outside_first, "0*7", "thread 0 over 1", "0", says=ran(1, 0, 1, 0, "thread 0 open", over=1))
+    case("run a lent note of 2, an ADD before the BEGIN", outside_first, "0*7", "thread 0 over 2", "0", says="refused 12 at 0 kept")
+    case("run a lent note of 1, an ADD of the transaction before", inside_first, "0*9", "thread 0 over 1", "0", says=ran(1, 0, 1, 0, "thread 0 open", over=1))
+    case("run a lent note of 2, an ADD of the transaction before", inside_first, "0*9", "thread 0 over 2", "0", says="refused 12 at 0 kept")
 
 
 def the_table():
@@ -575,6 +664,27 @@ def the_table():
             ("base-low", "0*4", "thread 0 base 1", False),
             ("base-high", "0*4", "thread 0 base 3", False),
         )),
+        ("an open attempt's count: above the ADDs passed since its BEGIN the state is foreign", SMALL, (
+            ("lent-fits", "0*4", "thread 0 over 1", True),
+            ("lent-high", "0*4", "thread 0 over 2", False),
+            ("before-add", "0*3", "thread 0 over 1", False),
+            ("noted-before", "", "thread 0 over 1", False),
+            ("noted-behind", "0*5", "thread 0 over 1", False),
+        )),
+        ("the same with two ADDs", atomic(addt(valt(1), addt(valt(2), valt(3)))), (
+            ("two-adds", "0*6", "thread 0 over 2", True),
+            ("two-adds-high", "0*6", "thread 0 over 3", False),
+            ("one-of-two", "0*5", "thread 0 over 2", False),
+        )),
+        ("the same with an ADD before the BEGIN", addp(addp(valp(1), valp(2)), atomic(valt(3))), (
+            ("sum-before", "0*4", "", True),
+            ("sum-before-noted", "0*4", "thread 0 over 1", False),
+            ("noted-outside", "0*3", "thread 0 over 1", False),
+        )),
+        ("the same with an ADD of the transaction before", addp(SMALL, atomic(valt(3))), (
+            ("atomic-before", "0*6", "", True),
+            ("atomic-before-noted", "0*6", "thread 0 over 1", False),
+        )),
         ("logs and notes being empty otherwise", WHOLE, (
             ("read-before", both, "thread 1 reads 1", False),
             ("write-before", both, "thread 1 writes 1", False),
@@ -602,6 +712,7 @@ def the_table():
             ("unused-cell", both, "thread 3 cell 0 1", False),
             ("unused-begin", both, "thread 3 begin 1", False),
             ("unused-base", both, "thread 3 base 1", False),
+            ("unused-noted", both, "thread 3 over 1", False),
             ("unused-read", both, "thread 3 reads 1", False),
             ("unused-read-value", both, "thread 3 readlog 63 1", False),
             ("unused-write", both, "thread 3 writes " + BIT_63, False),
@@ -632,6 +743,7 @@ def the_table():
         ("the greatest end", "", "thread 0 end " + EVERY),
         ("the greatest start", "", "thread 0 start " + EVERY),
         ("the greatest notes", inside, "thread 1 begin %s, thread 1 base %s" % (EVERY, EVERY)),
+        ("the greatest count of sums", "0*2 1*4", "thread 1 over " + EVERY),
         ("a height of 64", both, "thread 0 height 64"),
         ("all registers marked outside", both, "thread 2 reads " + EVERY),
         ("a place in the mark", "", "thread 0 place 4"),
@@ -778,5 +890,5 @@ def the_random():
 
 def make():
     lines.append("# Calls of fresh, step and run on states, written by cases.py.")
-    for part in (the_whole_case, fresh_states, the_order, the_events, the_sizes, the_table, the_cuts, the_lines, the_random):
+    for part in (the_whole_case, fresh_states, the_order, the_events, the_sizes, the_overs, the_table, the_cuts, the_lines, the_random):
         part()

@@ -27,7 +27,7 @@ int main(void) {
     kuspigo_run_reply ran = kuspigo_run(code, compiled.length, registers, KUSPIGO_REGISTERS,
                                         threads, KUSPIGO_THREADS, picks, sizeof picks);
     if (refused(ran.refusal, ran.place)) return 1;
-    printf("steps %zu idle %zu commits %zu back %zu\n", ran.steps, ran.idle, ran.commits, ran.back);
+    printf("steps %zu idle %zu commits %zu back %zu over %zu\n", ran.steps, ran.idle, ran.commits, ran.back, ran.over);
     for (size_t i = 0; i < KUSPIGO_THREADS && threads[i].start != 0; i++) {
         if (threads[i].place == threads[i].end) printf("thread %zu done %" PRId32 "\n", i, threads[i].cells[0]);
         else printf("thread %zu open\n", i);

@@ -98,14 +98,17 @@ pub struct Step {
     pub stale: Option<u8>,
     /// Whether it took a turn: a sum outside a transaction, a FORK or a commit.
     pub turn: bool,
+    /// Sums that left the 32-bit range: 1 for such a sum outside a transaction, of a commit those that its attempt noted,
+    /// else 0.
+    pub over: usize,
 }
 
 impl Step {
     pub(crate) const IDLE: Step = Step::of(Event::Idle);
 
-    /// One that took no turn and was not sent back.
+    /// One that took no turn, was not sent back and tells of no sum.
     pub(crate) const fn of(event: Event) -> Step {
-        Step { event, stale: None, turn: false }
+        Step { event, stale: None, turn: false, over: 0 }
     }
 }
 
@@ -118,14 +121,17 @@ pub struct Counts {
     pub commits: usize,
     /// Commits that were sent back.
     pub back: usize,
+    /// Sums that left the 32-bit range, outside transactions and, as noted, in attempts that took effect.
+    pub over: usize,
 }
 
 impl Counts {
-    pub(crate) fn add(&mut self, event: Event) {
-        self.idle += usize::from(event == Event::Idle);
-        self.steps += usize::from(event != Event::Idle);
-        self.commits += usize::from(event == Event::Commit);
-        self.back += usize::from(event == Event::SentBack);
+    pub(crate) fn add(&mut self, step: Step) {
+        self.idle += usize::from(step.event == Event::Idle);
+        self.steps += usize::from(step.event != Event::Idle);
+        self.commits += usize::from(step.event == Event::Commit);
+        self.back += usize::from(step.event == Event::SentBack);
+        self.over += step.over;
     }
 }
 

@@ -15,9 +15,11 @@ pub struct Thread {
     /// The stack: `height` of its cells are in use.
     pub height: usize,
     pub cells: [i32; 64],
-    /// The open transaction's notes: its BEGIN's place and the stack height there. 0 if none is open.
+    /// The open transaction's notes: its BEGIN's place, the stack height there, and how many sums of this attempt left the
+    /// 32-bit range. 0 if none is open.
     pub begin: usize,
     pub base: usize,
+    pub over: usize,
     /// The read log: the registers that it marks, and their values.
     pub reads: u64,
     pub readlog: [i32; 64],
@@ -44,7 +46,7 @@ pub struct FreshReply {
     pub place: usize,
 }
 
-/// The answer of step; on a refusal the last three are 0.
+/// The answer of step; on a refusal the last four are 0.
 #[repr(C)]
 #[derive(Clone, Copy, PartialEq, Eq, Debug)]
 pub struct StepReply {
@@ -56,6 +58,8 @@ pub struct StepReply {
     pub register: usize,
     /// 1 if the pick took a turn, else 0.
     pub turn: usize,
+    /// 1 for a sum outside a transaction that left the 32-bit range, the note of a commit that took effect, else 0.
+    pub over: usize,
 }
 
 /// The answer of run; on a refusal the counts are 0.
@@ -68,6 +72,8 @@ pub struct RunReply {
     pub idle: usize,
     pub commits: usize,
     pub back: usize,
+    /// What the picks told, as in [`StepReply`], added up.
+    pub over: usize,
 }
 
 /// The answer of forecast; on a refusal all behind `place` is 0.

@@ -83,14 +83,15 @@ pub fn step(code: &[u8], registers: &mut [i32], threads: &mut [Thread], pick: u8
     let reply = raw::step(code, registers, threads, pick);
     taken(reply.refusal, reply.place)?;
     let event = Event::from_number(reply.event).expect("the library names an event");
-    Ok(Step { event, stale: (event == Event::SentBack).then_some(reply.register as u8), turn: reply.turn == 1 })
+    let stale = (event == Event::SentBack).then_some(reply.register as u8);
+    Ok(Step { event, stale, turn: reply.turn == 1, over: reply.over })
 }
 
 /// A list of picks, one after the other.
 pub fn run(code: &[u8], registers: &mut [i32], threads: &mut [Thread], picks: &[u8]) -> Result<Counts, Refusal> {
     let reply = raw::run(code, registers, threads, picks);
     taken(reply.refusal, reply.place)?;
-    Ok(Counts { steps: reply.steps, idle: reply.idle, commits: reply.commits, back: reply.back })
+    Ok(Counts { steps: reply.steps, idle: reply.idle, commits: reply.commits, back: reply.back, over: reply.over })
 }
 
 /// A state: the registers and the thread records.
@@ -129,6 +130,7 @@ impl Thread {
         cells: [0; 64],
         begin: 0,
         base: 0,
+        over: 0,
         reads: 0,
         readlog: [0; 64],
         writes: 0,

@@ -52,6 +52,12 @@ impl Rng {
             _ => self.below(12) as i32 - 3,
         }
     }
+
+    /// A number whose sums with its like are near the ends of the range, or outside.
+    pub fn far_number(&mut self) -> i32 {
+        const HALF: i32 = 1 << 30;
+        self.choose(&[i32::MAX, i32::MAX - 1, HALF, HALF - 1, 1, 0, -1, -HALF, -HALF - 1, i32::MIN + 1, i32::MIN])
+    }
 }
 
 /// To which side sums lean.
@@ -144,6 +150,25 @@ impl Shape {
             1 => rng.below(64) as u8,
             _ => rng.below(self.registers) as u8,
         }
+    }
+}
+
+/// The tree with numbers in it whose sums are near the ends of the range, or outside.
+pub fn far(rng: &mut Rng, tree: Process) -> Process {
+    match tree {
+        Process::Val(_) => Process::Val(rng.far_number()),
+        Process::Add(a, b) => Process::Add(Box::new(far(rng, *a)), Box::new(far(rng, *b))),
+        Process::Atomic(t) => Process::Atomic(Box::new(far_inside(rng, *t))),
+        Process::Fork(p) => Process::Fork(Box::new(far(rng, *p))),
+    }
+}
+
+fn far_inside(rng: &mut Rng, tree: Transaction) -> Transaction {
+    match tree {
+        Transaction::Val(_) => Transaction::Val(rng.far_number()),
+        Transaction::Add(a, b) => Transaction::Add(Box::new(far_inside(rng, *a)), Box::new(far_inside(rng, *b))),
+        Transaction::Read(register) => Transaction::Read(register),
+        Transaction::Write(register, t) => Transaction::Write(register, Box::new(far_inside(rng, *t))),
     }
 }
 

@@ -36,7 +36,7 @@ fn output_of(source: &str) -> Option<String> {
 fn the_example_prints_the_whole_case() {
     let Some(printed) = output_of("examples/run.c") else { return };
     let expected =
-        "steps 21 idle 0 commits 2 back 1\nthread 0 done 0\nthread 1 done 2\nthread 2 done 1\nregister 0 2\n";
+        "steps 21 idle 0 commits 2 back 1 over 0\nthread 0 done 0\nthread 1 done 2\nthread 2 done 1\nregister 0 2\n";
     assert_eq!(printed, expected);
 }
 
@@ -64,15 +64,17 @@ fn the_header_has_the_same_layout() {
     let expected = layout! {
         "kuspigo_thread" Thread {
             "start" start, "end" end, "place" place, "height" height, "cells" cells, "begin" begin, "base" base,
-            "reads" reads, "readlog" readlog, "writes" writes, "writelog" writelog
+            "over" over, "reads" reads, "readlog" readlog, "writes" writes, "writelog" writelog
         }
         "kuspigo_written" Written { "refusal" refusal, "place" place, "length" length }
         "kuspigo_fresh_reply" FreshReply { "refusal" refusal, "place" place }
         "kuspigo_step_reply" StepReply {
-            "refusal" refusal, "place" place, "event" event, "stale_register" register, "turn" turn
+            "refusal" refusal, "place" place, "event" event, "stale_register" register, "turn" turn,
+            "over" over
         }
         "kuspigo_run_reply" RunReply {
-            "refusal" refusal, "place" place, "steps" steps, "idle" idle, "commits" commits, "back" back
+            "refusal" refusal, "place" place, "steps" steps, "idle" idle, "commits" commits, "back" back,
+            "over" over
         }
         "kuspigo_forecast_reply" ForecastReply {
             "refusal" refusal, "place" place, "length" length, "transactions" transactions, "threads" threads,

@@ -5,7 +5,7 @@
 
 use kuspigo::ffi::{ForecastReply, FreshReply, RunReply, StepReply, Written};
 use kuspigo::plain::{self, by_value, tree};
-use kuspigo::samples::{chain, many_small, sum, Lean, Rng, Shape};
+use kuspigo::samples::{chain, far, many_small, sum, Lean, Rng, Shape};
 use kuspigo::{raw, Counts, Event, Forecast, Refusal, RegisterSet, Step, Thread};
 use std::collections::BTreeMap;
 use std::fmt::{Debug, Write};
@@ -73,6 +73,12 @@ const CALLS: [Call; 8] = [
             "turn of Sum",
             "turn of Fork",
             "turn of Commit",
+            "over: outside",
+            "over: noted",
+            "over: a lent note counted",
+            "over: a lent note sent back",
+            "state with another note: fits",
+            "state with a note too high: 12",
         ],
     },
     Call {
@@ -87,7 +93,16 @@ const CALLS: [Call; 8] = [
             "picks: steps",
             "picks: commits",
             "picks: back",
+            "picks: over",
             "lists of 32,768",
+            "over: outside",
+            "over: noted",
+            "over: counted",
+            "over: sent back",
+            "over: a lent note counted",
+            "over: a lent note sent back",
+            "state with another note: fits",
+            "state with a note too high: 12",
         ],
     },
     Call {
@@ -101,6 +116,7 @@ const CALLS: [Call; 8] = [
             "prints a thread open",
             "prints a register",
             "prints threads sent back",
+            "prints sums that left the range",
             "prints refused 01",
             "prints refused 02",
             "prints refused 03",
@@ -157,6 +173,9 @@ const CALLS: [Call; 8] = [
             "runs: beyond half of the bound",
             "runs: the bound itself",
             "runs: READ of the write log only",
+            "runs: over outside",
+            "runs: over, took effect",
+            "runs: over, sent back",
         ],
     },
 ];
@@ -192,16 +211,42 @@ impl Tally {
         }
     }
 
-    /// What became of a state; some are made so that they fit.
+    /// What became of a state; some are made so that they fit, and some so that they do not.
     fn scene(&mut self, what: &str, refusal: usize) -> Result<(), String> {
         if FITTING.contains(&what) && refusal != 0 {
             return Err(format!("a state is refused with {refusal} that was made to fit: {what}"));
+        }
+        if what == TOO_HIGH && refusal != 12 {
+            return Err(format!("a state is taken that was made not to fit: {what}"));
         }
         match refusal {
             0 => self.add(&format!("state {what}: fits"), 1),
             _ => self.add(&format!("state {what}: {refusal}"), 1),
         }
         Ok(())
+    }
+
+    /// What picks that were taken show of sums that leave the range: told outside a transaction, noted inside, and what
+    /// became of the notes, those that were lent with the state apart.
+    fn overs(&mut self, code: &[u8], state: &State, picks: &[u8]) {
+        let State { mut registers, mut threads } = *state;
+        let mut lent = threads.map(|thread| thread.over > 0);
+        for &pick in picks {
+            let note = |threads: &[Thread; 16]| threads.get(usize::from(pick)).map_or(0, |thread| thread.over);
+            let before = note(&threads);
+            let step = plain::step(code, &mut registers, &mut threads, pick).expect("the picks were taken");
+            let ended = matches!(step.event, Event::Commit | Event::SentBack);
+            let was_lent = ended && std::mem::take(&mut lent[usize::from(pick)]);
+            match step.event {
+                Event::Sum if step.over > 0 => self.add("over: outside", 1),
+                Event::Sum if note(&threads) > before => self.add("over: noted", 1),
+                Event::Commit if was_lent => self.add("over: a lent note counted", 1),
+                Event::Commit if before > 0 => self.add("over: counted", 1),
+                Event::SentBack if was_lent => self.add("over: a lent note sent back", 1),
+                Event::SentBack if before > 0 => self.add("over: sent back", 1),
+                _ => {}
+            }
+        }
     }
 }
 
@@ -326,7 +371,8 @@ fn report(rng: &mut Rng, tally: &mut Tally) -> Result<(), String> {
                 tally.add_if(text.contains(" done "), "prints a thread done");
                 tally.add_if(text.contains(" open"), "prints a thread open");
                 tally.add_if(text.contains("register "), "prints a register");
-                tally.add_if(!text.contains(" back 0\n"), "prints threads sent back");
+                tally.add_if(!text.contains(" back 0 "), "prints threads sent back");
+                tally.add_if(!text.contains(" over 0\n"), "prints sums that left the range");
             }
         }
     }
@@ -519,6 +565,7 @@ fn step(rng: &mut Rng, tally: &mut Tally) -> Result<(), String> {
         let event = Event::from_number(answer.event).ok_or("an unknown event")?;
         tally.add(&format!("event {event:?}"), 1);
         tally.add_if(answer.turn == 1, &format!("turn of {event:?}"));
+        tally.overs(&code, &state, &[pick]);
     }
     Ok(())
 }
@@ -557,7 +604,11 @@ fn run(rng: &mut Rng, tally: &mut Tally) -> Result<(), String> {
         tally.add("picks: idle", answer.idle);
         tally.add("picks: commits", answer.commits);
         tally.add("picks: back", answer.back);
+        tally.add("picks: over", answer.over);
         tally.add_if(count == 32_768, "lists of 32,768");
+        if count < 40 {
+            tally.overs(&code, &state, &picks);
+        }
     }
     Ok(())
 }
@@ -640,18 +691,21 @@ fn step_reply(result: Result<Step, Refusal>) -> StepReply {
             event: step.event as usize,
             register: step.stale.unwrap_or(0).into(),
             turn: step.turn.into(),
+            over: step.over,
         },
-        Err(refusal) => {
-            StepReply { refusal: refusal.number.into(), place: refusal.place, event: 0, register: 0, turn: 0 }
+        Err(Refusal { number, place }) => {
+            StepReply { refusal: number.into(), place, event: 0, register: 0, turn: 0, over: 0 }
         }
     }
 }
 
 fn run_reply(result: Result<Counts, Refusal>) -> RunReply {
     match result {
-        Ok(Counts { steps, idle, commits, back }) => RunReply { refusal: 0, place: 0, steps, idle, commits, back },
-        Err(refusal) => {
-            RunReply { refusal: refusal.number.into(), place: refusal.place, steps: 0, idle: 0, commits: 0, back: 0 }
+        Ok(Counts { steps, idle, commits, back, over }) => {
+            RunReply { refusal: 0, place: 0, steps, idle, commits, back, over }
+        }
+        Err(Refusal { number, place }) => {
+            RunReply { refusal: number.into(), place, steps: 0, idle: 0, commits: 0, back: 0, over: 0 }
         }
     }
 }
@@ -678,6 +732,8 @@ struct Shown {
     steps: usize,
     commits: usize,
     back: usize,
+    /// Sums that left the range, recounted from the stacks.
+    over: Overs,
     /// Instructions of the longest attempt, BEGIN and COMMIT included.
     longest: usize,
     reads: RegisterSet,
@@ -687,6 +743,48 @@ struct Shown {
     /// By the starts of the threads' codes, the greatest height.
     heights: BTreeMap<usize, usize>,
     state: kuspigo::State,
+}
+
+/// Sums that left the range: outside transactions, in attempts that took effect, and in those that were sent back.
+#[derive(Default)]
+struct Overs {
+    outside: usize,
+    counted: usize,
+    dropped: usize,
+    /// Those of each thread's attempt so far.
+    noted: [usize; 16],
+}
+
+impl Overs {
+    /// Counts what a step did, from the record before it; gives what the step has to tell.
+    fn add(&mut self, i: usize, before: &Thread, event: Event) -> usize {
+        let told = match event {
+            Event::Sum => {
+                let sum = i64::from(before.cells[before.height - 2]) + i64::from(before.cells[before.height - 1]);
+                let over = usize::from(i32::try_from(sum).is_err());
+                if before.begin == 0 {
+                    self.outside += over;
+                    over
+                } else {
+                    self.noted[i] += over;
+                    0
+                }
+            }
+            Event::Commit => {
+                self.counted += self.noted[i];
+                self.noted[i]
+            }
+            Event::SentBack => {
+                self.dropped += self.noted[i];
+                0
+            }
+            _ => 0,
+        };
+        if matches!(event, Event::Begin | Event::Commit | Event::SentBack) {
+            self.noted[i] = 0;
+        }
+        told
+    }
 }
 
 fn finished(rng: &mut Rng, tally: &mut Tally) -> Result<(), String> {
@@ -755,6 +853,9 @@ fn finished(rng: &mut Rng, tally: &mut Tally) -> Result<(), String> {
         ("runs: beyond half of the bound", beyond > 0 && 2 * beyond > told.bound - told.instructions),
         ("runs: the bound itself", beyond > 0 && shown.steps == told.bound),
         ("runs: READ of the write log only", shown.logged != shown.reads),
+        ("runs: over outside", shown.over.outside > 0),
+        ("runs: over, took effect", shown.over.counted > 0),
+        ("runs: over, sent back", shown.over.dropped > 0),
     ] {
         tally.add_if(met, what);
     }
@@ -769,6 +870,7 @@ fn run_to_the_end(rng: &mut Rng, code: &[u8], policy: Policy, bound: usize) -> R
         steps: 0,
         commits: 0,
         back: 0,
+        over: Overs::default(),
         longest: 0,
         reads: RegisterSet::default(),
         writes: RegisterSet::default(),
@@ -815,6 +917,11 @@ fn run_to_the_end(rng: &mut Rng, code: &[u8], policy: Policy, bound: usize) -> R
         }
         if step.event == Event::Idle {
             continue;
+        }
+        let told = shown.over.add(usize::from(pick), &before, step.event);
+        let notes = shown.state.threads.map(|thread| thread.over);
+        if (step.over, notes) != (told, shown.over.noted) {
+            return Err(format!("{step:?} of {before:?} has to tell {told}; notes {:?} {notes:?}", shown.over.noted));
         }
         shown.steps += 1;
         if shown.steps > bound {
@@ -880,10 +987,12 @@ fn run_in_calls(rng: &mut Rng, code: &[u8], shown: &Shown) -> Result<(), String>
         all.idle += counts.idle;
         all.commits += counts.commits;
         all.back += counts.back;
+        all.over += counts.over;
         left = rest;
     }
     let idle = shown.picks.len() - shown.steps;
-    if all != (Counts { steps: shown.steps, idle, commits: shown.commits, back: shown.back }) {
+    let over = shown.over.outside + shown.over.counted;
+    if all != (Counts { steps: shown.steps, idle, commits: shown.commits, back: shown.back, over }) {
         return Err(format!("run calls count {all:?}"));
     }
     if state != shown.state {
@@ -922,9 +1031,10 @@ fn bytes_of(transaction: &Transaction) -> usize {
 /// Threads with transactions that add to the same register; the root mostly has more of them than the others.
 fn contested(rng: &mut Rng) -> Process {
     let register = rng.choose(&[0, 1, 63]);
+    let by = rng.choose(&[1, 1, 1 << 30, i32::MIN]);
     let increments = |count: usize| {
         let parts = (0..count).map(|_| {
-            let sum = Transaction::Add(Box::new(Transaction::Read(register)), Box::new(Transaction::Val(1)));
+            let sum = Transaction::Add(Box::new(Transaction::Read(register)), Box::new(Transaction::Val(by)));
             Process::Atomic(Box::new(Transaction::Write(register, Box::new(sum))))
         });
         sum(parts.collect())
@@ -966,15 +1076,20 @@ fn any_tree(rng: &mut Rng) -> Process {
         16..=99 => rng.between(13, 40),
         _ => rng.between(1, 12),
     };
-    Shape {
+    let shape = Shape {
         nodes,
         room: rng.choose(&[11, 20, 64, 64]),
         forks: rng.choose(&[0, 2, 4, 15]),
         transaction: rng.choose(&[12, 1_000]),
         registers: rng.between(1, 4),
         lean: rng.choose(&[Lean::Even, Lean::Left, Lean::Right, Lean::Any]),
+    };
+    let tree = shape.tree(rng);
+    if rng.one_in(3) {
+        far(rng, tree)
+    } else {
+        tree
     }
-    .tree(rng)
 }
 
 /// A tree at one of the limits: on either side of it, or on the last step before it.
@@ -1255,6 +1370,7 @@ fn any_input(rng: &mut Rng) -> Vec<u8> {
             let threads = rng.between(1, 5);
             many_small(rng.between(12, 60) * threads, threads).job()
         }
+        4 => contested(rng).job(),
         _ => any_tree(rng).job(),
     };
     let length = match rng.below(24) {
@@ -1318,8 +1434,11 @@ const FREE: &str = "with free values";
 const RENUMBERED: &str = "renumbered";
 const MADE: &str = "made up";
 const BUSY: &str = "of a busy job";
+const NOTED: &str = "with another note";
 /// States that fit whatever the implementations say.
-const FITTING: [&str; 5] = [REACHED, FREE, RENUMBERED, MADE, BUSY];
+const FITTING: [&str; 6] = [REACHED, FREE, RENUMBERED, MADE, BUSY, NOTED];
+/// States that do not, by the note alone.
+const TOO_HIGH: &str = "with a note too high";
 
 /// A state that picks reached, or one made up from the rules, perhaps altered, for its code or another one.
 fn any_scene(rng: &mut Rng) -> Scene {
@@ -1329,7 +1448,7 @@ fn any_scene(rng: &mut Rng) -> Scene {
     let what = if made { MADE } else { REACHED };
     let mut scene = Scene { what, code, state, lent: (64, 16) };
     let Scene { what, code, state, lent } = &mut scene;
-    match rng.below(20) {
+    match rng.below(22) {
         0..=5 => {}
         6 | 7 => {
             *what = FREE;
@@ -1361,6 +1480,16 @@ fn any_scene(rng: &mut Rng) -> Scene {
                 alter_field(rng, code, state);
             }
         }
+        19 => {
+            *what = NOTED;
+            free_notes(rng, code, state);
+        }
+        20 => {
+            *what = TOO_HIGH;
+            let i = rng.below(state.existing() + 1).min(15);
+            let most = adds_passed(code, &state.threads[i]);
+            state.threads[i].over = rng.choose(&[most + 1, most + 1, most + 2, most + 64, usize::MAX]);
+        }
         _ => {
             *what = "and other code";
             *code = any_code(rng);
@@ -1379,7 +1508,12 @@ fn busy_scene(rng: &mut Rng) -> Scene {
 }
 
 fn any_accepted(rng: &mut Rng) -> Vec<u8> {
-    accepted(rng, |rng| if rng.one_in(12) { limit_tree(rng) } else { any_tree(rng) }).code()
+    let tree = accepted(rng, |rng| match rng.below(12) {
+        0 => limit_tree(rng),
+        1 => contested(rng),
+        _ => any_tree(rng),
+    });
+    tree.code()
 }
 
 /// The first tree that comes whose job is accepted.
@@ -1430,10 +1564,12 @@ fn make_up(rng: &mut Rng, code: &[u8]) -> State {
             height += change;
         }
         own.push((end, height));
-        let commits: Vec<usize> = (0..own.len() - 1).filter(|&i| code[own[i].0] == 6).collect();
+        let of = |op: u8| -> Vec<usize> { (0..own.len() - 1).filter(|&i| code[own[i].0] == op).collect() };
+        let (adds, commits) = (of(2), of(6));
         let stands = match rng.below(8) {
             0 => own.len() - 1,
             1 | 2 if !commits.is_empty() => rng.choose(&commits),
+            3 | 4 if !adds.is_empty() => rng.choose(&adds),
             _ => rng.below(own.len()),
         };
         thread.place = own[stands].0;
@@ -1450,6 +1586,7 @@ fn make_up(rng: &mut Rng, code: &[u8]) -> State {
     }
     renumber(rng, &mut state);
     free_values(rng, &mut state);
+    free_notes(rng, code, &mut state);
     state
 }
 
@@ -1483,16 +1620,18 @@ fn one_pick(rng: &mut Rng, state: &State) -> u8 {
 
 /// Other values wherever they are free: in registers, on stacks and in the logs of open transactions.
 fn free_values(rng: &mut Rng, state: &mut State) {
+    let ends = rng.one_in(2);
+    let number = if ends { Rng::far_number } else { Rng::number };
     for _ in 0..rng.below(5) {
-        state.registers[rng.below(4)] = rng.number();
+        state.registers[rng.below(4)] = number(rng);
     }
     if rng.one_in(4) {
         state.registers[rng.below(64)] = rng.draw() as i32;
     }
     for thread in state.threads.iter_mut().filter(|thread| thread.exists()) {
         for cell in &mut thread.cells[..thread.height] {
-            if rng.one_in(3) {
-                *cell = rng.number();
+            if ends || rng.one_in(3) {
+                *cell = number(rng);
             }
         }
         if thread.begin == 0 {
@@ -1510,11 +1649,24 @@ fn free_values(rng: &mut Rng, state: &mut State) {
         [thread.reads, thread.writes] = marks;
         for register in 0..64 {
             // the read log often holds what the table has, so that a COMMIT can take effect
-            let value = if rng.one_in(6) { rng.number() } else { state.registers[register] };
+            let value = if rng.one_in(6) { number(rng) } else { state.registers[register] };
             thread.readlog[register] = if thread.reads >> register & 1 == 1 { value } else { 0 };
-            thread.writelog[register] = if thread.writes >> register & 1 == 1 { rng.number() } else { 0 };
+            thread.writelog[register] = if thread.writes >> register & 1 == 1 { number(rng) } else { 0 };
         }
     }
+}
+
+/// Other counts of sums in the notes of open transactions, none above the ADDs passed.
+fn free_notes(rng: &mut Rng, code: &[u8], state: &mut State) {
+    for thread in &mut state.threads {
+        thread.over = rng.below(adds_passed(code, thread) + 1);
+    }
+}
+
+/// The ADDs that an open transaction has passed since its BEGIN; 0 if none is open.
+fn adds_passed(code: &[u8], thread: &Thread) -> usize {
+    let inside = |at: usize| thread.begin > 0 && thread.begin < at && at < thread.place;
+    instructions(code).into_iter().filter(|&at| inside(at) && code[at] == 2).count()
 }
 
 /// Another value in one field of one record.
@@ -1524,12 +1676,19 @@ fn alter_field(rng: &mut Rng, code: &[u8], state: &mut State) {
     let other = state.threads[rng.below(16)];
     let other_registers = state.registers;
     let thread = &mut state.threads[i];
-    let numbers: [fn(&mut Thread) -> &mut usize; 6] =
-        [|t| &mut t.start, |t| &mut t.end, |t| &mut t.place, |t| &mut t.height, |t| &mut t.begin, |t| &mut t.base];
-    match rng.below(14) {
-        field @ 0..=7 => {
+    let numbers: [fn(&mut Thread) -> &mut usize; 7] = [
+        |t| &mut t.start,
+        |t| &mut t.end,
+        |t| &mut t.place,
+        |t| &mut t.height,
+        |t| &mut t.begin,
+        |t| &mut t.base,
+        |t| &mut t.over,
+    ];
+    match rng.below(15) {
+        field @ 0..=8 => {
             // `place` more often
-            let field = numbers[if field < 6 { field } else { 2 }];
+            let field = numbers[if field < 7 { field } else { 2 }];
             let places = instructions(code);
             let mut other = other;
             let old = *field(thread);
@@ -1545,14 +1704,14 @@ fn alter_field(rng: &mut Rng, code: &[u8], state: &mut State) {
                 _ => rng.choose(&[usize::MAX, 1 << 63, 1 << 32, 64, 65, 5, 1, old ^ 1 << 40]),
             };
         }
-        8 => {
+        9 => {
             let at = if rng.one_in(2) { thread.height.min(63) } else { rng.below(64) };
             thread.cells[at] = rng.number();
         }
-        9 => thread.reads ^= 1 << rng.below(64),
-        10 => thread.writes ^= 1 << rng.below(64),
-        11 => thread.readlog[rng.below(64)] = rng.number(),
-        12 => thread.writelog[rng.below(64)] = rng.number(),
+        10 => thread.reads ^= 1 << rng.below(64),
+        11 => thread.writes ^= 1 << rng.below(64),
+        12 => thread.readlog[rng.below(64)] = rng.number(),
+        13 => thread.writelog[rng.below(64)] = rng.number(),
         _ => {
             // a log as if its transaction were still open
             let register = rng.below(4);
@@ -1622,9 +1781,8 @@ fn wrong_counts(rng: &mut Rng) -> Lent {
 
 fn garbage(rng: &mut Rng) -> Thread {
     let mut thread = Thread::ABSENT;
-    for number in
-        [&mut thread.start, &mut thread.end, &mut thread.place, &mut thread.height, &mut thread.begin, &mut thread.base]
-    {
+    let Thread { start, end, place, height, begin, base, over, .. } = &mut thread;
+    for number in [start, end, place, height, begin, base, over] {
         *number = rng.draw() as usize;
     }
     thread.reads = rng.draw();

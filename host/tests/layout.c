@@ -14,6 +14,7 @@ int main(void) {
     FIELD(kuspigo_thread, cells);
     FIELD(kuspigo_thread, begin);
     FIELD(kuspigo_thread, base);
+    FIELD(kuspigo_thread, over);
     FIELD(kuspigo_thread, reads);
     FIELD(kuspigo_thread, readlog);
     FIELD(kuspigo_thread, writes);
@@ -31,6 +32,7 @@ int main(void) {
     FIELD(kuspigo_step_reply, event);
     FIELD(kuspigo_step_reply, stale_register);
     FIELD(kuspigo_step_reply, turn);
+    FIELD(kuspigo_step_reply, over);
     SIZE(kuspigo_run_reply);
     FIELD(kuspigo_run_reply, refusal);
     FIELD(kuspigo_run_reply, place);
@@ -38,6 +40,7 @@ int main(void) {
     FIELD(kuspigo_run_reply, idle);
     FIELD(kuspigo_run_reply, commits);
     FIELD(kuspigo_run_reply, back);
+    FIELD(kuspigo_run_reply, over);
     SIZE(kuspigo_forecast_reply);
     FIELD(kuspigo_forecast_reply, refusal);
     FIELD(kuspigo_forecast_reply, place);

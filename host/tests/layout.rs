@@ -7,7 +7,7 @@ use kuspigo::{raw, Thread};
 
 #[test]
 fn thread_record() {
-    assert_eq!((size_of::<Thread>(), align_of::<Thread>()), (832, 8));
+    assert_eq!((size_of::<Thread>(), align_of::<Thread>()), (840, 8));
     assert_eq!(offset_of!(Thread, start), 0);
     assert_eq!(offset_of!(Thread, end), 8);
     assert_eq!(offset_of!(Thread, place), 16);
@@ -15,10 +15,11 @@ fn thread_record() {
     assert_eq!(offset_of!(Thread, cells), 32);
     assert_eq!(offset_of!(Thread, begin), 288);
     assert_eq!(offset_of!(Thread, base), 296);
-    assert_eq!(offset_of!(Thread, reads), 304);
-    assert_eq!(offset_of!(Thread, readlog), 312);
-    assert_eq!(offset_of!(Thread, writes), 568);
-    assert_eq!(offset_of!(Thread, writelog), 576);
+    assert_eq!(offset_of!(Thread, over), 304);
+    assert_eq!(offset_of!(Thread, reads), 312);
+    assert_eq!(offset_of!(Thread, readlog), 320);
+    assert_eq!(offset_of!(Thread, writes), 576);
+    assert_eq!(offset_of!(Thread, writelog), 584);
 }
 
 #[test]
@@ -32,20 +33,22 @@ fn answers() {
     assert_eq!(offset_of!(FreshReply, refusal), 0);
     assert_eq!(offset_of!(FreshReply, place), 8);
 
-    assert_eq!((size_of::<StepReply>(), align_of::<StepReply>()), (40, 8));
+    assert_eq!((size_of::<StepReply>(), align_of::<StepReply>()), (48, 8));
     assert_eq!(offset_of!(StepReply, refusal), 0);
     assert_eq!(offset_of!(StepReply, place), 8);
     assert_eq!(offset_of!(StepReply, event), 16);
     assert_eq!(offset_of!(StepReply, register), 24);
     assert_eq!(offset_of!(StepReply, turn), 32);
+    assert_eq!(offset_of!(StepReply, over), 40);
 
-    assert_eq!((size_of::<RunReply>(), align_of::<RunReply>()), (48, 8));
+    assert_eq!((size_of::<RunReply>(), align_of::<RunReply>()), (56, 8));
     assert_eq!(offset_of!(RunReply, refusal), 0);
     assert_eq!(offset_of!(RunReply, place), 8);
     assert_eq!(offset_of!(RunReply, steps), 16);
     assert_eq!(offset_of!(RunReply, idle), 24);
     assert_eq!(offset_of!(RunReply, commits), 32);
     assert_eq!(offset_of!(RunReply, back), 40);
+    assert_eq!(offset_of!(RunReply, over), 48);
 
     assert_eq!((size_of::<ForecastReply>(), align_of::<ForecastReply>()), (96, 8));
     assert_eq!(offset_of!(ForecastReply, refusal), 0);
@@ -82,7 +85,8 @@ const CODE: [u8; 35] = [
 #[test]
 fn the_library_writes_each_field_at_its_place() {
     let mut registers = [-1; 64];
-    let garbage = Thread { start: 1, end: 2, place: 3, height: 4, begin: 5, base: 6, reads: 7, writes: 8, ..filled(9) };
+    let numbers = Thread { start: 1, end: 2, place: 3, height: 4, begin: 5, base: 6, over: 7, ..filled(9) };
+    let garbage = Thread { reads: 8, writes: 10, ..numbers };
     let mut threads = [garbage; 16];
 
     let reply = raw::fresh(&CODE, &mut registers, &mut threads);
@@ -94,20 +98,21 @@ fn the_library_writes_each_field_at_its_place() {
     expected[0].place = 5;
     assert_eq!(threads, expected);
 
-    // PUSH, BEGIN, PUSH, READ 2, ADD, READ 63, WRITE 3
-    registers[2] = 20;
+    // PUSH, BEGIN, PUSH, READ 2, ADD, which leaves the range, READ 63, WRITE 3
+    registers[2] = i32::MAX;
     registers[63] = 630;
     let reply = raw::run(&CODE, &mut registers, &mut threads, &[0, 0, 0, 0, 0, 0, 0, 99]);
-    assert_eq!(reply, RunReply { refusal: 0, place: 0, steps: 7, idle: 1, commits: 0, back: 0 });
+    assert_eq!(reply, RunReply { refusal: 0, place: 0, steps: 7, idle: 1, commits: 0, back: 0, over: 0 });
     expected[0].place = 23;
     expected[0].height = 3;
     expected[0].cells[0] = 1;
-    expected[0].cells[1] = 29;
+    expected[0].cells[1] = i32::MIN + 8;
     expected[0].cells[2] = 630;
     expected[0].begin = 10;
     expected[0].base = 1;
+    expected[0].over = 1;
     expected[0].reads = 1 << 2 | 1 << 63;
-    expected[0].readlog[2] = 20;
+    expected[0].readlog[2] = i32::MAX;
     expected[0].readlog[63] = 630;
     expected[0].writes = 1 << 3;
     expected[0].writelog[3] = 630;
@@ -115,10 +120,10 @@ fn the_library_writes_each_field_at_its_place() {
 
     // ADD, then a COMMIT that finds register 63 stale
     let reply = raw::step(&CODE, &mut registers, &mut threads, 0);
-    assert_eq!(reply, StepReply { refusal: 0, place: 0, event: 2, register: 0, turn: 0 });
-    registers[63] = 631;
+    assert_eq!(reply, StepReply { refusal: 0, place: 0, event: 2, register: 0, turn: 0, over: 0 });
+    registers[63] = -631;
     let reply = raw::step(&CODE, &mut registers, &mut threads, 0);
-    assert_eq!(reply, StepReply { refusal: 0, place: 0, event: 10, register: 63, turn: 0 });
+    assert_eq!(reply, StepReply { refusal: 0, place: 0, event: 10, register: 63, turn: 0, over: 0 });
     expected[0] = filled(0);
     expected[0].start = 5;
     expected[0].end = 35;
@@ -127,17 +132,27 @@ fn the_library_writes_each_field_at_its_place() {
     expected[0].cells[0] = 1;
     assert_eq!(threads, expected);
 
-    // the transaction again, COMMIT, ADD, FORK
+    // the transaction again, both of whose sums now leave the range; COMMIT; ADD, FORK
+    let (mut registers_2, mut threads_2) = (registers, threads);
     let reply = raw::run(&CODE, &mut registers, &mut threads, &[0; 10]);
-    assert_eq!(reply, RunReply { refusal: 0, place: 0, steps: 10, idle: 0, commits: 1, back: 0 });
+    assert_eq!(reply, RunReply { refusal: 0, place: 0, steps: 10, idle: 0, commits: 1, back: 0, over: 2 });
     expected[0].place = 34;
     expected[0].height = 2;
-    expected[0].cells[0] = 661;
+    expected[0].cells[0] = i32::MAX - 621;
     expected[1].start = 29;
     expected[1].end = 34;
     expected[1].place = 29;
     assert_eq!(threads, expected);
-    assert_eq!(registers[3], 631);
+    assert_eq!(registers[3], -631);
+
+    // the same in three calls
+    let reply = raw::run(&CODE, &mut registers_2, &mut threads_2, &[0; 7]);
+    assert_eq!((reply.refusal, reply.over, threads_2[0].over), (0, 0, 2));
+    let reply = raw::step(&CODE, &mut registers_2, &mut threads_2, 0);
+    assert_eq!(reply, StepReply { refusal: 0, place: 0, event: 9, register: 0, turn: 1, over: 2 });
+    let reply = raw::run(&CODE, &mut registers_2, &mut threads_2, &[0; 2]);
+    assert_eq!((reply.refusal, reply.over), (0, 0));
+    assert_eq!((registers_2, threads_2), (registers, threads));
 }
 
 /// A sum of so many processes, each sum the right part of the one before.
@@ -196,10 +211,10 @@ fn the_forecast_has_each_figure_at_its_place() {
 fn the_answers_tell_refusals() {
     let mut registers = [0; 64];
     let mut threads = [filled(0); 16];
-    let refused = StepReply { refusal: 12, place: 0, event: 0, register: 0, turn: 0 };
+    let refused = StepReply { refusal: 12, place: 0, event: 0, register: 0, turn: 0, over: 0 };
     assert_eq!(raw::step(&CODE, &mut registers, &mut threads, 0), refused);
     assert_eq!(raw::fresh(&CODE, &mut registers, &mut threads).refusal, 0);
-    let refused = RunReply { refusal: 13, place: 0, steps: 0, idle: 0, commits: 0, back: 0 };
+    let refused = RunReply { refusal: 13, place: 0, steps: 0, idle: 0, commits: 0, back: 0, over: 0 };
     assert_eq!(raw::run(&CODE, &mut registers, &mut threads, &[0; 32_769]), refused);
 
     let mut out = [0xAA; 40];

@@ -1,4 +1,5 @@
-//! Document 01's own cases, and forecasts counted by hand, of the library through its wrapper and of the plain implementation.
+//! The cases of documents 01 and 02, and forecasts and sums counted by hand, of the library through its wrapper and of
+//! the plain implementation.
 
 use kuspigo::plain::{self, tree};
 use kuspigo::samples::{chain, Lean, Rng, Shape};
@@ -19,7 +20,7 @@ fn whole_picks() -> Vec<u8> {
 }
 
 const LISTING: &str =
-    "steps 21 idle 0 commits 2 back 1\nthread 0 done 0\nthread 1 done 2\nthread 2 done 1\nregister 0 2\n";
+    "steps 21 idle 0 commits 2 back 1 over 0\nthread 0 done 0\nthread 1 done 2\nthread 2 done 1\nregister 0 2\n";
 
 /// The code of a job, the three implementations agreeing, and that it leads back to the job.
 fn compiled(job: &[u8]) -> Result<Vec<u8>, Refusal> {
@@ -81,7 +82,7 @@ fn whole_case_runs() {
 
     let mut state = State::fresh(&code).unwrap();
     let counts = state.run(&code, &whole_picks()).unwrap();
-    assert_eq!(counts, Counts { steps: 21, idle: 0, commits: 2, back: 1 });
+    assert_eq!(counts, Counts { steps: 21, idle: 0, commits: 2, back: 1, over: 0 });
     assert_eq!(state.threads.map(|thread| thread.result())[..4], [Some(0), Some(2), Some(1), None]);
     assert_eq!((state.registers[0], state.registers[1..].iter().max()), (2, Some(&0)));
 
@@ -119,7 +120,7 @@ fn worked_cases() {
     assert_eq!((steps, result), (1, Some(7)));
     assert_eq!(
         kuspigo::report(&[&[0, 12][..], seven].concat()).unwrap(),
-        b"steps 0 idle 0 commits 0 back 0\nthread 0 open\n"
+        b"steps 0 idle 0 commits 0 back 0 over 0\nthread 0 open\n"
     );
 
     assert_eq!(result_of(&Process::Add(number(i32::MIN), number(-1)).job()).1, Some(i32::MAX));
@@ -239,6 +240,95 @@ fn atomic(transaction: Transaction) -> Process {
 
 fn write(register: u8, transaction: Transaction) -> Transaction {
     Transaction::Write(register, Box::new(transaction))
+}
+
+fn sum_inside(left: Transaction, right: Transaction) -> Transaction {
+    Transaction::Add(Box::new(left), Box::new(right))
+}
+
+/// The counts of a list of picks, the three implementations agreeing on them and on what they leave in the state.
+fn ran(state: &mut State, code: &[u8], picks: &[u8]) -> Result<Counts, Refusal> {
+    let (mut plain, mut by_value) = (state.clone(), state.clone());
+    let counts = state.run(code, picks);
+    assert_eq!(plain::run(code, &mut plain.registers, &mut plain.threads, picks), counts);
+    assert_eq!(plain::by_value::run(code, &mut by_value.registers, &mut by_value.threads, picks), counts);
+    assert_eq!((&plain, &by_value), (&*state, &*state));
+    counts
+}
+
+/// How many sums of a process leave the range when thread 0 alone is picked to its end, and its result.
+fn over_of(tree: Process) -> (usize, Option<i32>) {
+    let code = compiled(&tree.job()).unwrap();
+    let mut state = State::fresh(&code).unwrap();
+    let counts = ran(&mut state, &code, &[0; 99]).unwrap();
+    (counts.over, state.threads[0].result())
+}
+
+#[test]
+fn sums_that_leave_the_range() {
+    let of_two = |a, b| over_of(Process::Add(number(a), number(b)));
+    assert_eq!(of_two(i32::MIN, -1), (1, Some(i32::MAX)));
+    assert_eq!(of_two(i32::MAX, 1), (1, Some(i32::MIN)));
+    assert_eq!(of_two(i32::MIN, i32::MIN), (1, Some(0)));
+    assert_eq!(of_two(i32::MAX, i32::MAX), (1, Some(-2)));
+    assert_eq!(of_two(i32::MAX - 1, 1), (0, Some(i32::MAX)));
+    assert_eq!(of_two(i32::MIN + 1, -1), (0, Some(i32::MIN)));
+    assert_eq!(of_two(i32::MAX, i32::MIN), (0, Some(-1)));
+    // (2147483647 + 1) + -1, and 2147483647 + (1 + -1)
+    let left = Process::Add(number(i32::MAX), number(1));
+    assert_eq!(over_of(sum(left, *number(-1))), (2, Some(i32::MAX)));
+    let right = Process::Add(number(1), number(-1));
+    assert_eq!(over_of(sum(*number(i32::MAX), right)), (0, Some(i32::MAX)));
+
+    let tree = sum(*number(i32::MAX), *number(1));
+    let input = [&[0, tree.job().len() as u8][..], &tree.job(), &[0; 4]].concat();
+    let listing = "steps 3 idle 1 commits 0 back 0 over 1\nthread 0 done -2147483648\n";
+    assert_eq!(plain::listing(&input), listing);
+    assert_eq!(kuspigo::report(&input).unwrap(), listing.as_bytes());
+}
+
+#[test]
+fn sums_of_attempts() {
+    let one = || Transaction::Val(1);
+    let inside = || sum_inside(Transaction::Val(i32::MAX), one());
+    let over = |counts: Result<Counts, Refusal>| counts.map(|counts| counts.over);
+
+    // a note crosses two calls
+    let code = compiled(&atomic(inside()).job()).unwrap();
+    let mut state = State::fresh(&code).unwrap();
+    assert_eq!(over(ran(&mut state, &code, &[0; 4])), Ok(0));
+    assert_eq!(state.threads[0].over, 1);
+    assert_eq!(over(ran(&mut state, &code, &[0])), Ok(1));
+    assert_eq!((state.threads[0].over, state.threads[0].result()), (0, Some(i32::MIN)));
+
+    // a send-back drops its attempt's note: thread 1 writes register 0 between the attempts
+    let child = fork(atomic(write(0, Transaction::Val(5))));
+    let code = compiled(&sum(child, atomic(sum_inside(Transaction::Read(0), inside()))).job()).unwrap();
+    let mut state = State::fresh(&code).unwrap();
+    assert_eq!(over(ran(&mut state, &code, &[0, 0, 0, 0, 0, 0, 0, 1, 1, 1, 1])), Ok(0));
+    assert_eq!(state.threads[0].over, 1);
+    let counts = ran(&mut state, &code, &[0]).unwrap();
+    assert_eq!((counts.back, counts.over, state.threads[0].over), (1, 0, 0));
+    assert_eq!(over(ran(&mut state, &code, &[0; 8])), Ok(1));
+    assert_eq!(state.threads[0].result(), Some(i32::MIN + 5));
+
+    // a lent note, behind one ADD
+    let code = compiled(&atomic(sum_inside(one(), one())).job()).unwrap();
+    let mut before = State::fresh(&code).unwrap();
+    ran(&mut before, &code, &[0; 4]).unwrap();
+    for (note, answer) in [(0, Ok(0)), (1, Ok(1)), (2, refused(12, 0)), (usize::MAX, refused(12, 0))] {
+        let mut state = before.clone();
+        state.threads[0].over = note;
+        assert_eq!(state.clone().step(&code, 0).map(|step| step.over), answer);
+        assert_eq!(over(ran(&mut state, &code, &[0])), answer);
+    }
+    // where no transaction is open, and in a record of no thread
+    for (picks, record) in [(0, 0), (5, 0), (4, 1)] {
+        let mut state = State::fresh(&code).unwrap();
+        ran(&mut state, &code, &[0; 5][..picks]).unwrap();
+        state.threads[record].over = 1;
+        assert_eq!(over(ran(&mut state, &code, &[0])), refused(12, 0));
+    }
 }
 
 #[test]

@@ -10,6 +10,7 @@ struct Taken {
     b: usize,
     c: usize,
     d: usize,
+    e: usize,
 }
 
 fn taken_fresh(m: Memory, laid: owned::Laid) -> Taken {
@@ -25,6 +26,7 @@ fn taken_fresh(m: Memory, laid: owned::Laid) -> Taken {
         b: 0,
         c: 0,
         d: 0,
+        e: 0,
     }
 }
 
@@ -49,7 +51,8 @@ fn taken_step(m: Memory, stepped: owned::Stepped) -> Taken {
         a: reply.event,
         b: reply.register,
         c: reply.turn,
-        d: 0,
+        d: reply.over,
+        e: 0,
     }
 }
 
@@ -75,6 +78,7 @@ fn taken_run(m: Memory, ran: owned::Ran) -> Taken {
         b: reply.idle,
         c: reply.commits,
         d: reply.back,
+        e: reply.over,
     }
 }
 
@@ -130,7 +134,7 @@ pub fn run_step(code: &[u8], m: Memory, picks: &[u8]) {
     if refused(m, taken) {
         return;
     }
-    text::write_step(taken.a, taken.b, taken.c);
+    text::write_step(taken.a, taken.b, taken.c, taken.d);
     write_after(taken);
 }
 
@@ -140,7 +144,7 @@ pub fn run_run(code: &[u8], m: Memory, picks: &[u8]) {
     if refused(m, taken) {
         return;
     }
-    text::write_counts(taken.a, taken.b, taken.c, taken.d);
+    text::write_counts(taken.a, taken.b, taken.c, taken.d, taken.e);
     write_after(taken);
 }
 
@@ -149,7 +153,7 @@ fn write_call(m: Memory, taken: Taken) {
     if refused(m, taken) {
         return;
     }
-    text::write_counts(taken.a, taken.b, taken.c, taken.d);
+    text::write_counts(taken.a, taken.b, taken.c, taken.d, taken.e);
 }
 
 // `run`, what is written of it without the state, and what it leaves.
@@ -176,6 +180,7 @@ fn joined(first: Taken, second: Taken) -> Taken {
         b: sum(first.b, second.b),
         c: sum(first.c, second.c),
         d: sum(first.d, second.d),
+        e: sum(first.e, second.e),
     }
 }
 
@@ -196,7 +201,10 @@ fn same_counts(s: Taken, t: Taken) -> bool {
     if s.c != t.c {
         return false;
     }
-    s.d == t.d
+    if s.d != t.d {
+        return false;
+    }
+    s.e == t.e
 }
 
 // Whether both are taken, and left and answered the same.

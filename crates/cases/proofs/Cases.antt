@@ -17,10 +17,10 @@ use Rattle.script.specs.Bytes.{nodeBytes, bytes16, bytes32, bytesT, bytesP, job
 use Rattle.script.specs.Count.{nodesT, nodesP, depthT, depthP, forks, atomics, threads, instructions, longest, bound, codeT, codeP, codeLength}
 use Rattle.script.specs.Jobs.{operand, forkOf}
 use Rattle.script.specs.Reader.{permitted, nodeOf, nodeAt, grown, readNodes, jobMarked, taken, readJob}
-use Rattle.word.specs.Sum.{residue, signed, wrap, wrapping}
+use Rattle.word.specs.Sum.{residue, signed, wrap, wrapping, overflows}
 
 pub cases : Cases
-unfolding listed jobRun printed listing countsLine threadLines threadLine registerLines registerLine refusalLine integer decimal digits ascii wrapping wrap signed residue readJob readNodes nodeAt nodeOf permitted operand grown forkOf jobMarked taken jobBytes jobMark bytesP bytesT nodeBytes bytes16 bytes32 nodesP nodesT forks atomics threads instructions longest bound codeT codeP codeLength compiled codeBytes codeMark compileP compileT instructionBytes instructionsBytes readCode readOps endedAt doOp opAt decoded opcodeOperand codeMarked within depthT depthP blank spawned push add begin sourceOf read write closedAt stale firstStale overlaid numberOf commit act settle pickAmong fresh run counted order backs none member with walkOp nextPlace walk walkTo freeFrom placed allZero noneBehind inFront passedBy among allAmong threadsOf oneEach fits freshOf stepOf runOf tally countsOf eventNumber eventRegister turnNumber eventOf freshCall stepCall runCall
+unfolding listed jobRun printed listing countsLine threadLines threadLine registerLines registerLine refusalLine integer decimal digits ascii wrapping wrap signed residue overflows readJob readNodes nodeAt nodeOf permitted operand grown forkOf jobMarked taken jobBytes jobMark bytesP bytesT nodeBytes bytes16 bytes32 nodesP nodesT forks atomics threads instructions longest bound codeT codeP codeLength compiled codeBytes codeMark compileP compileT instructionBytes instructionsBytes readCode readOps endedAt doOp opAt decoded opcodeOperand codeMarked within depthT depthP blank spawned push add begin sourceOf read write closedAt stale firstStale overlaid numberOf commit act settle pickAmong fresh run counted order backs none member with walkOp nextPlace walk walkTo freeFrom placed allZero noneBehind inFront passedBy among allAmong threadsOf oneEach fits freshOf stepOf runOf tally countsOf eventNumber eventRegister turnNumber eventOf freshCall stepCall runCall
 cases =
     record {
       seven-read = refl;

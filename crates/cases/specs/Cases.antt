@@ -21,8 +21,8 @@ use Rattle.thread.specs.declared.Thread.{Thread}
 use Rattle.thread.specs.Threads.{zeros, blank, spawned, noted, exists, withPlace, withStack, withNotes, withLogs}
 use Rattle.machine.specs.Steps.{State, Ran, numberOf, threadAt, fresh, run}
 use Rattle.machine.specs.FitTest.{fits}
-use Rattle.machine.specs.Answers.{freshSays, stepSays, runSays, freshCall, stepCall, runCall}
-use Rattle.stm.specs.Events.{fromTable, idle, sentBack, counted, isIdle, isCommit, isBack, order, backs, countsOf}
+use Rattle.machine.specs.Answers.{Told, freshSays, stepSays, runSays, freshCall, stepCall, runCall}
+use Rattle.stm.specs.Events.{fromTable, Event, idle, sentBack, counted, isIdle, isCommit, isBack, order, backs, countsOf}
 use Rattle.word.specs.Registers.{with}
 use Rattle.word.specs.Sum.{wrapping}
 
@@ -141,6 +141,10 @@ highPicks = times 4 0 ++ (times 4 1 ++ times 1 0)
 abbrev pub nestPicks : List ℕ
 nestPicks = 0 ∷ 1 ∷ 2 ∷ 3 ∷ 4 ∷ 5 ∷ 6 ∷ 7 ∷ 8 ∷ 9 ∷ 10 ∷ 11 ∷ 12 ∷ 13 ∷ 14 ∷ []
 
+-- what a step tells
+abbrev pub told : Event → (over : ℕ) → Told
+told event over = record { event = event; over = over }
+
 -- ---- states
 -- 64 numbers: n, then 0
 abbrev pub front : ℤ → List ℤ
@@ -235,6 +239,7 @@ withCode start end t =
       cells = t .cells;
       begin = t .begin;
       base = t .base;
+      over = t .over;
       reads = t .reads;
       readlog = t .readlog;
       writes = t .writes;
@@ -259,13 +264,13 @@ pub record Cases : Type 0 where
   pub seven-code : compiled (record { version = 1; tree = ValP (pos 7) }) ≡ 0x57 ∷ 0x53 ∷ 0x43 ∷ 0x00 ∷ 0x01 ∷ 0x01 ∷ 0x00 ∷ 0x00 ∷ 0x00 ∷ 0x07 ∷ []
   pub seven-steps : steps (ran sevenCode (times 1 0)) ≡ 1
   pub seven-done : Ended (ran sevenCode (times 1 0) .state) 0 (pos 7)
-  pub seven-run : runCall sevenCode (fresh sevenCode) (times 3 0) .reply ≡ record { refusal = 0; place = 0; steps = 1; idle = 2; commits = 0; back = 0 }
+  pub seven-run : runCall sevenCode (fresh sevenCode) (times 3 0) .reply ≡ record { refusal = 0; place = 0; steps = 1; idle = 2; commits = 0; back = 0; over = 0 }
   pub seven-bound : bound (ValP (pos 7)) ≡ 1
   -- M: "−2147483648 + −1 is 2147483647"; as a job, and as a call
   pub below-range : wrapping (negsuc 2147483647) (negsuc 0) ≡ pos 2147483647
   pub low-read : readJob (header 3 (0x02 ∷ 0x01 ∷ 0x80 ∷ 0x00 ∷ 0x00 ∷ 0x00 ∷ 0x01 ∷ 0xFF ∷ 0xFF ∷ 0xFF ∷ 0xFF ∷ [])) ≡ accepted lowTree
   pub low-done : Ended (ran lowCode (times 3 0) .state) 0 (pos 2147483647)
-  pub low-run : runCall lowCode (fresh lowCode) (times 3 0) .reply ≡ record { refusal = 0; place = 0; steps = 3; idle = 0; commits = 0; back = 0 }
+  pub low-run : runCall lowCode (fresh lowCode) (times 3 0) .reply ≡ record { refusal = 0; place = 0; steps = 3; idle = 0; commits = 0; back = 0; over = 1 }
   pub low-left : Ended (runCall lowCode (fresh lowCode) (times 3 0) .state) 0 (pos 2147483647)
   -- M: "ATOMIC of ADDT (WRITE 0 (VALT 5)) (READ 0) gives 10 with an empty read log"
   pub own-job : readJob (header 5 (0x03 ∷ 0x06 ∷ 0x08 ∷ 0x00 ∷ 0x05 ∷ 0x00 ∷ 0x00 ∷ 0x00 ∷ 0x05 ∷ 0x07 ∷ 0x00 ∷ [])) ≡ accepted ownWriteTree
@@ -275,7 +280,7 @@ pub record Cases : Type 0 where
   pub own-still : threadAt (ran ownWriteCode (times 5 0) .state) 0 .readlog ≡ replicate 64 (pos 0)
   pub own-done : Ended (ran ownWriteCode (times 6 0) .state) 0 (pos 10)
   pub own-register : getD (ran ownWriteCode (times 6 0) .state .registers) 0 (pos 0) ≡ pos 5
-  pub own-run : runCall ownWriteCode (fresh ownWriteCode) (times 6 0) .reply ≡ record { refusal = 0; place = 0; steps = 6; idle = 0; commits = 1; back = 0 }
+  pub own-run : runCall ownWriteCode (fresh ownWriteCode) (times 6 0) .reply ≡ record { refusal = 0; place = 0; steps = 6; idle = 0; commits = 1; back = 0; over = 0 }
   -- M: "no bytes, 1 at 0"
   pub no-bytes : readJob [] ≡ refused 1 0
   -- M: "register 63 taken, 64 refused"; the place is the register byte
@@ -295,7 +300,7 @@ pub record Cases : Type 0 where
   -- M: "an empty pick list leaves thread 0 open"
   pub none-there : exists (threadAt (ran sevenCode [] .state) 0) ≡ true
   pub none-open : eqb (threadAt (ran sevenCode [] .state) 0 .place) (threadAt (ran sevenCode [] .state) 0 .end) ≡ false
-  pub none-run : runCall sevenCode (fresh sevenCode) [] .reply ≡ record { refusal = 0; place = 0; steps = 0; idle = 0; commits = 0; back = 0 }
+  pub none-run : runCall sevenCode (fresh sevenCode) [] .reply ≡ record { refusal = 0; place = 0; steps = 0; idle = 0; commits = 0; back = 0; over = 0 }
   pub none-left : runCall sevenCode (fresh sevenCode) [] .state ≡ fresh sevenCode
   -- ---- the other rows. Sums: "2147483647 + 1 is −2147483648"
   pub above-range : wrapping (pos 2147483647) (pos 1) ≡ negsuc 2147483647
@@ -306,26 +311,26 @@ pub record Cases : Type 0 where
   pub high-job : readJob (header 9 (0x02 ∷ 0x01 ∷ 0x00 ∷ 0x00 ∷ 0x00 ∷ 0x05 ∷ 0x02 ∷ 0x04 ∷ 0x03 ∷ 0x08 ∷ 0x00 ∷ 0x05 ∷ 0x00 ∷ 0x00 ∷ 0x00 ∷ 0x01 ∷ 0x03 ∷ 0x07 ∷ 0x00 ∷ [])) ≡ accepted highTree
   pub whole-written : jobBytes 1 wholeTree ≡ wholeJob
   pub whole-back : readCode wholeCode ≡ accepted wholeTree
-  -- the whole case's output: "steps 21 idle 0 commits 2 back 1", "thread 0 done 0", "thread 1 done 2", "thread 2 done 1", "register 0 2"
+  -- the whole case's output: "steps 21 idle 0 commits 2 back 1" and, by document 02, " over 0"; "thread 0 done 0", "thread 1 done 2", "thread 2 done 1", "register 0 2"
   pub whole-listing :
       listed (0x00 ∷ 0x20 ∷ (wholeJob ++ wholePicks)) ≡
-      ascii "steps 21 idle 0 commits 2 back 1\nthread 0 done 0\nthread 1 done 2\nthread 2 done 1\nregister 0 2\n"
+      ascii "steps 21 idle 0 commits 2 back 1 over 0\nthread 0 done 0\nthread 1 done 2\nthread 2 done 1\nregister 0 2\n"
   -- "an empty pick list leaves thread 0 open"; the least number, as a result; an input cut below its job's length; a job that is cut itself
-  pub open-listing : listed (0x00 ∷ 0x0C ∷ seven) ≡ ascii "steps 0 idle 0 commits 0 back 0\nthread 0 open\n"
+  pub open-listing : listed (0x00 ∷ 0x0C ∷ seven) ≡ ascii "steps 0 idle 0 commits 0 back 0 over 0\nthread 0 open\n"
   pub least-listing :
       listed (0x00 ∷ 0x0C ∷ header 1 (0x01 ∷ 0x80 ∷ 0x00 ∷ 0x00 ∷ 0x00 ∷ 0x00 ∷ [])) ≡
-      ascii "steps 1 idle 0 commits 0 back 0\nthread 0 done -2147483648\n"
+      ascii "steps 1 idle 0 commits 0 back 0 over 0\nthread 0 done -2147483648\n"
   pub cut-listing : listed (0x00 ∷ 0x0C ∷ header 1 (0x01 ∷ 0x00 ∷ 0x00 ∷ [])) ≡ ascii "refused 1 at 12\n"
   pub cut-job-listing : listed (0x00 ∷ 0x03 ∷ 0x57 ∷ 0x53 ∷ 0x4A ∷ []) ≡ ascii "refused 1 at 3\n"
   pub no-listing : listed [] ≡ ascii "refused 1 at 0\n"
   -- picks of a thread that has ended and of none; a number below 0 in register 63; eleven threads, each the child of the one before; a mark, a kind
-  pub idle-listing : listed (0x00 ∷ 0x0C ∷ (seven ++ (0 ∷ 0 ∷ 9 ∷ []))) ≡ ascii "steps 1 idle 2 commits 0 back 0\nthread 0 done 7\n"
+  pub idle-listing : listed (0x00 ∷ 0x0C ∷ (seven ++ (0 ∷ 0 ∷ 9 ∷ []))) ≡ ascii "steps 1 idle 2 commits 0 back 0 over 0\nthread 0 done 7\n"
   pub held-listing :
       listed (0x00 ∷ 0x0F ∷ (header 3 (0x03 ∷ 0x08 ∷ 0x3F ∷ 0x05 ∷ 0xFF ∷ 0xFF ∷ 0xFF ∷ 0xFB ∷ []) ++ replicate 4 0)) ≡
-      ascii "steps 4 idle 0 commits 1 back 0\nthread 0 done -5\nregister 63 -5\n"
+      ascii "steps 4 idle 0 commits 1 back 0 over 0\nthread 0 done -5\nregister 63 -5\n"
   pub eleven-listing :
       listed (0x00 ∷ 0x16 ∷ (header 11 (replicate 10 0x04 ++ (0x01 ∷ 0x00 ∷ 0x00 ∷ 0x00 ∷ 0x01 ∷ [])) ++ (0 ∷ 1 ∷ 2 ∷ 3 ∷ 4 ∷ 5 ∷ 6 ∷ 7 ∷ 8 ∷ 9 ∷ []))) ≡
-      ascii "steps 10 idle 0 commits 0 back 0\nthread 0 done 0\nthread 1 done 0\nthread 2 done 0\nthread 3 done 0\nthread 4 done 0\nthread 5 done 0\nthread 6 done 0\nthread 7 done 0\nthread 8 done 0\nthread 9 done 0\nthread 10 open\n"
+      ascii "steps 10 idle 0 commits 0 back 0 over 0\nthread 0 done 0\nthread 1 done 0\nthread 2 done 0\nthread 3 done 0\nthread 4 done 0\nthread 5 done 0\nthread 6 done 0\nthread 7 done 0\nthread 8 done 0\nthread 9 done 0\nthread 10 open\n"
   pub mark-listing : listed (0x00 ∷ 0x07 ∷ 0x57 ∷ 0x53 ∷ 0x43 ∷ 0x00 ∷ 0x01 ∷ 0x00 ∷ 0x01 ∷ []) ≡ ascii "refused 2 at 0\n"
   pub kind-listing : listed (0x00 ∷ 0x08 ∷ header 1 (0x09 ∷ [])) ≡ ascii "refused 5 at 7\n"
   pub whole-steps : steps (ran wholeCode wholePicks) ≡ 21
@@ -341,7 +346,7 @@ pub record Cases : Type 0 where
   pub whole-order : order (ran wholeCode wholePicks .events) ≡ 0 ∷ 0 ∷ 0 ∷ 2 ∷ 1 ∷ []
   pub backs-1 : backs 1 (ran wholeCode wholePicks .events) ≡ 1
   pub backs-2 : backs 2 (ran wholeCode wholePicks .events) ≡ 0
-  pub backs-twice : backs 1 (record { thread = 1; event = sentBack 0 } ∷ record { thread = 2; event = sentBack 0 } ∷ record { thread = 1; event = sentBack 3 } ∷ []) ≡ 2
+  pub backs-twice : backs 1 (record { thread = 1; event = sentBack 0; over = 0 } ∷ record { thread = 2; event = sentBack 0; over = 0 } ∷ record { thread = 1; event = sentBack 3; over = 0 } ∷ []) ≡ 2
   -- a sent-back thread: at its BEGIN, its stack as it was there, logs and notes empty
   pub high-back : counted isBack (ran highCode highPicks .events) ≡ 1
   pub high-place : threadAt (ran highCode highPicks .state) 0 .place ≡ 22
@@ -353,91 +358,91 @@ pub record Cases : Type 0 where
   pub high-readlog : threadAt (ran highCode highPicks .state) 0 .readlog ≡ replicate 64 (pos 0)
   pub high-done : Ended (ran highCode (highPicks ++ times 5 0) .state) 0 (pos 6)
   -- ---- what each instruction leaves in its thread's record. PUSH; ADD, which frees a cell
-  pub push-record : threadAt (stepCall sevenCode (fresh sevenCode) 0 .state) 0 ≡ record { start = 5; end = 10; place = 10; height = 1; cells = front (pos 7); begin = 0; base = 0; reads = 0; readlog = zeros; writes = 0; writelog = zeros }
-  pub sum-record : threadAt (stepCall lowCode (ran lowCode (times 2 0) .state) 0 .state) 0 ≡ record { start = 5; end = 16; place = 16; height = 1; cells = front (pos 2147483647); begin = 0; base = 0; reads = 0; readlog = zeros; writes = 0; writelog = zeros }
+  pub push-record : threadAt (stepCall sevenCode (fresh sevenCode) 0 .state) 0 ≡ record { start = 5; end = 10; place = 10; height = 1; cells = front (pos 7); begin = 0; base = 0; over = 0; reads = 0; readlog = zeros; writes = 0; writelog = zeros }
+  pub sum-record : threadAt (stepCall lowCode (ran lowCode (times 2 0) .state) 0 .state) 0 ≡ record { start = 5; end = 16; place = 16; height = 1; cells = front (pos 2147483647); begin = 0; base = 0; over = 0; reads = 0; readlog = zeros; writes = 0; writelog = zeros }
   -- "FORK gives 0 to its own thread and starts p as the next thread number"; "the parent goes on after it"
-  pub fork-parent : threadAt (stepCall wholeCode (fresh wholeCode) 0 .state) 0 ≡ record { start = 5; end = 36; place = 20; height = 1; cells = zeros; begin = 0; base = 0; reads = 0; readlog = zeros; writes = 0; writelog = zeros }
-  pub fork-child : threadAt (stepCall wholeCode (fresh wholeCode) 0 .state) 1 ≡ record { start = 8; end = 20; place = 8; height = 0; cells = zeros; begin = 0; base = 0; reads = 0; readlog = zeros; writes = 0; writelog = zeros }
-  pub fork-next : threadAt (stepCall wholeCode oneForked 0 .state) 2 ≡ record { start = 23; end = 35; place = 23; height = 0; cells = zeros; begin = 0; base = 0; reads = 0; readlog = zeros; writes = 0; writelog = zeros }
+  pub fork-parent : threadAt (stepCall wholeCode (fresh wholeCode) 0 .state) 0 ≡ record { start = 5; end = 36; place = 20; height = 1; cells = zeros; begin = 0; base = 0; over = 0; reads = 0; readlog = zeros; writes = 0; writelog = zeros }
+  pub fork-child : threadAt (stepCall wholeCode (fresh wholeCode) 0 .state) 1 ≡ record { start = 8; end = 20; place = 8; height = 0; cells = zeros; begin = 0; base = 0; over = 0; reads = 0; readlog = zeros; writes = 0; writelog = zeros }
+  pub fork-next : threadAt (stepCall wholeCode oneForked 0 .state) 2 ≡ record { start = 23; end = 35; place = 23; height = 0; cells = zeros; begin = 0; base = 0; over = 0; reads = 0; readlog = zeros; writes = 0; writelog = zeros }
   pub fork-number : numberOf (stepCall wholeCode oneForked 0 .state .threads) ≡ 3
   -- "BEGIN: notes its place and the stack height, and empties both logs"
-  pub begin-record : threadAt (stepCall highCode (ran highCode (times 2 0) .state) 0 .state) 0 ≡ record { start = 5; end = 28; place = 23; height = 2; cells = front (pos 5); begin = 22; base = 2; reads = 0; readlog = zeros; writes = 0; writelog = zeros }
+  pub begin-record : threadAt (stepCall highCode (ran highCode (times 2 0) .state) 0 .state) 0 ≡ record { start = 5; end = 28; place = 23; height = 2; cells = front (pos 5); begin = 22; base = 2; over = 0; reads = 0; readlog = zeros; writes = 0; writelog = zeros }
   -- "READ: the value in the write log if there, else in the read log if there, else the table's, which enters the read log"
-  pub read-from-writes : threadAt (stepCall lookCode (looking readSevenWroteFive) 0 .state) 0 ≡ record { start = 5; end = 9; place = 8; height = 1; cells = front (pos 5); begin = 5; base = 0; reads = 1; readlog = front (pos 7); writes = 1; writelog = front (pos 5) }
-  pub read-from-reads : threadAt (stepCall lookCode (looking readSeven) 0 .state) 0 ≡ record { start = 5; end = 9; place = 8; height = 1; cells = front (pos 7); begin = 5; base = 0; reads = 1; readlog = front (pos 7); writes = 0; writelog = zeros }
-  pub read-from-table : threadAt (stepCall lookCode (looking (λ t. t)) 0 .state) 0 ≡ record { start = 5; end = 9; place = 8; height = 1; cells = front (pos 9); begin = 5; base = 0; reads = 1; readlog = front (pos 9); writes = 0; writelog = zeros }
+  pub read-from-writes : threadAt (stepCall lookCode (looking readSevenWroteFive) 0 .state) 0 ≡ record { start = 5; end = 9; place = 8; height = 1; cells = front (pos 5); begin = 5; base = 0; over = 0; reads = 1; readlog = front (pos 7); writes = 1; writelog = front (pos 5) }
+  pub read-from-reads : threadAt (stepCall lookCode (looking readSeven) 0 .state) 0 ≡ record { start = 5; end = 9; place = 8; height = 1; cells = front (pos 7); begin = 5; base = 0; over = 0; reads = 1; readlog = front (pos 7); writes = 0; writelog = zeros }
+  pub read-from-table : threadAt (stepCall lookCode (looking (λ t. t)) 0 .state) 0 ≡ record { start = 5; end = 9; place = 8; height = 1; cells = front (pos 9); begin = 5; base = 0; over = 0; reads = 1; readlog = front (pos 9); writes = 0; writelog = zeros }
   -- "WRITE: puts the top of the stack in the write log; the top stays"; the table is as it was
-  pub write-record : threadAt (stepCall wholeCode (ran wholeCode (times 2 0 ++ times 4 1) .state) 1 .state) 1 ≡ record { start = 8; end = 20; place = 19; height = 1; cells = front (pos 1); begin = 8; base = 0; reads = 1; readlog = zeros; writes = 1; writelog = front (pos 1) }
+  pub write-record : threadAt (stepCall wholeCode (ran wholeCode (times 2 0 ++ times 4 1) .state) 1 .state) 1 ≡ record { start = 8; end = 20; place = 19; height = 1; cells = front (pos 1); begin = 8; base = 0; over = 0; reads = 1; readlog = zeros; writes = 1; writelog = front (pos 1) }
   pub write-table : stepCall wholeCode (ran wholeCode (times 2 0 ++ times 4 1) .state) 1 .state .registers ≡ zeros
   -- COMMIT: "the write log goes into the table"; behind it logs and notes are empty
-  pub commit-record : threadAt (stepCall wholeCode (ran wholeCode (times 2 0 ++ times 5 1) .state) 1 .state) 1 ≡ record { start = 8; end = 20; place = 20; height = 1; cells = front (pos 1); begin = 0; base = 0; reads = 0; readlog = zeros; writes = 0; writelog = zeros }
+  pub commit-record : threadAt (stepCall wholeCode (ran wholeCode (times 2 0 ++ times 5 1) .state) 1 .state) 1 ≡ record { start = 8; end = 20; place = 20; height = 1; cells = front (pos 1); begin = 0; base = 0; over = 0; reads = 0; readlog = zeros; writes = 0; writelog = zeros }
   pub commit-table : stepCall wholeCode (ran wholeCode (times 2 0 ++ times 5 1) .state) 1 .state .registers ≡ front (pos 1)
   -- "With a stale one the thread is sent back: to its BEGIN, stack height as noted, logs and notes emptied"; the table is as it was
-  pub back-record : threadAt (stepCall wholeCode (ran wholeCode staleThere .state) 1 .state) 1 ≡ record { start = 8; end = 20; place = 8; height = 0; cells = zeros; begin = 0; base = 0; reads = 0; readlog = zeros; writes = 0; writelog = zeros }
+  pub back-record : threadAt (stepCall wholeCode (ran wholeCode staleThere .state) 1 .state) 1 ≡ record { start = 8; end = 20; place = 8; height = 0; cells = zeros; begin = 0; base = 0; over = 0; reads = 0; readlog = zeros; writes = 0; writelog = zeros }
   pub back-table : stepCall wholeCode (ran wholeCode staleThere .state) 1 .state .registers ≡ front (pos 1)
   -- ---- the reply of `step`, an event number after the other; a turn is "an ADD outside a transaction, a FORK, or a COMMIT that takes effect"
-  pub step-0-idle : stepCall sevenCode (ran sevenCode (times 1 0) .state) 0 .reply ≡ record { refusal = 0; place = 0; event = 0; register = 0; turn = 0 }
-  pub step-1-push : stepCall sevenCode (fresh sevenCode) 0 .reply ≡ record { refusal = 0; place = 0; event = 1; register = 0; turn = 0 }
-  pub step-2-sum-outside : stepCall lowCode (ran lowCode (times 2 0) .state) 0 .reply ≡ record { refusal = 0; place = 0; event = 2; register = 0; turn = 1 }
-  pub step-2-sum-inside : stepCall ownWriteCode (ran ownWriteCode (times 4 0) .state) 0 .reply ≡ record { refusal = 0; place = 0; event = 2; register = 0; turn = 0 }
-  pub step-3-fork : stepCall wholeCode (fresh wholeCode) 0 .reply ≡ record { refusal = 0; place = 0; event = 3; register = 0; turn = 1 }
-  pub step-4-begin : stepCall wholeCode bothForked 1 .reply ≡ record { refusal = 0; place = 0; event = 4; register = 0; turn = 0 }
-  pub step-5-from-writes : stepCall ownWriteCode (ran ownWriteCode (times 3 0) .state) 0 .reply ≡ record { refusal = 0; place = 0; event = 5; register = 0; turn = 0 }
-  pub step-5-from-both : stepCall lookCode (looking readSevenWroteFive) 0 .reply ≡ record { refusal = 0; place = 0; event = 5; register = 0; turn = 0 }
-  pub step-6-from-reads : stepCall twiceCode (ran twiceCode (times 2 0) .state) 0 .reply ≡ record { refusal = 0; place = 0; event = 6; register = 0; turn = 0 }
-  pub step-7-from-table : stepCall wholeCode behindBegin 1 .reply ≡ record { refusal = 0; place = 0; event = 7; register = 0; turn = 0 }
-  pub step-8-write : stepCall wholeCode (ran wholeCode (times 2 0 ++ times 4 1) .state) 1 .reply ≡ record { refusal = 0; place = 0; event = 8; register = 0; turn = 0 }
-  pub step-9-commit : stepCall wholeCode (ran wholeCode (times 2 0 ++ times 5 1) .state) 1 .reply ≡ record { refusal = 0; place = 0; event = 9; register = 0; turn = 1 }
-  pub step-10-back : stepCall wholeCode (ran wholeCode staleThere .state) 1 .reply ≡ record { refusal = 0; place = 0; event = 10; register = 0; turn = 0 }
+  pub step-0-idle : stepCall sevenCode (ran sevenCode (times 1 0) .state) 0 .reply ≡ record { refusal = 0; place = 0; event = 0; register = 0; turn = 0; over = 0 }
+  pub step-1-push : stepCall sevenCode (fresh sevenCode) 0 .reply ≡ record { refusal = 0; place = 0; event = 1; register = 0; turn = 0; over = 0 }
+  pub step-2-sum-outside : stepCall lowCode (ran lowCode (times 2 0) .state) 0 .reply ≡ record { refusal = 0; place = 0; event = 2; register = 0; turn = 1; over = 1 }
+  pub step-2-sum-inside : stepCall ownWriteCode (ran ownWriteCode (times 4 0) .state) 0 .reply ≡ record { refusal = 0; place = 0; event = 2; register = 0; turn = 0; over = 0 }
+  pub step-3-fork : stepCall wholeCode (fresh wholeCode) 0 .reply ≡ record { refusal = 0; place = 0; event = 3; register = 0; turn = 1; over = 0 }
+  pub step-4-begin : stepCall wholeCode bothForked 1 .reply ≡ record { refusal = 0; place = 0; event = 4; register = 0; turn = 0; over = 0 }
+  pub step-5-from-writes : stepCall ownWriteCode (ran ownWriteCode (times 3 0) .state) 0 .reply ≡ record { refusal = 0; place = 0; event = 5; register = 0; turn = 0; over = 0 }
+  pub step-5-from-both : stepCall lookCode (looking readSevenWroteFive) 0 .reply ≡ record { refusal = 0; place = 0; event = 5; register = 0; turn = 0; over = 0 }
+  pub step-6-from-reads : stepCall twiceCode (ran twiceCode (times 2 0) .state) 0 .reply ≡ record { refusal = 0; place = 0; event = 6; register = 0; turn = 0; over = 0 }
+  pub step-7-from-table : stepCall wholeCode behindBegin 1 .reply ≡ record { refusal = 0; place = 0; event = 7; register = 0; turn = 0; over = 0 }
+  pub step-8-write : stepCall wholeCode (ran wholeCode (times 2 0 ++ times 4 1) .state) 1 .reply ≡ record { refusal = 0; place = 0; event = 8; register = 0; turn = 0; over = 0 }
+  pub step-9-commit : stepCall wholeCode (ran wholeCode (times 2 0 ++ times 5 1) .state) 1 .reply ≡ record { refusal = 0; place = 0; event = 9; register = 0; turn = 1; over = 0 }
+  pub step-10-back : stepCall wholeCode (ran wholeCode staleThere .state) 1 .reply ≡ record { refusal = 0; place = 0; event = 10; register = 0; turn = 0; over = 0 }
   -- "the commit has taken effect, also with an empty write log"
-  pub commit-unwritten : stepCall twiceCode (ran twiceCode (times 4 0) .state) 0 .reply ≡ record { refusal = 0; place = 0; event = 9; register = 0; turn = 1 }
+  pub commit-unwritten : stepCall twiceCode (ran twiceCode (times 4 0) .state) 0 .reply ≡ record { refusal = 0; place = 0; event = 9; register = 0; turn = 1; over = 0 }
   -- "walks the registers from 0 up and stops at the first stale one": of 1 and 2, of which 2 was read first; up to 63
-  pub lowest-stale : stepCall staleCode (ran staleCode (times 5 0 ++ times 5 1) .state) 0 .reply ≡ record { refusal = 0; place = 0; event = 10; register = 1; turn = 0 }
-  pub last-stale : stepCall (lastCode (pos 1)) (ran (lastCode (pos 1)) (times 3 0 ++ times 4 1) .state) 0 .reply ≡ record { refusal = 0; place = 0; event = 10; register = 63; turn = 0 }
+  pub lowest-stale : stepCall staleCode (ran staleCode (times 5 0 ++ times 5 1) .state) 0 .reply ≡ record { refusal = 0; place = 0; event = 10; register = 1; turn = 0; over = 0 }
+  pub last-stale : stepCall (lastCode (pos 1)) (ran (lastCode (pos 1)) (times 3 0 ++ times 4 1) .state) 0 .reply ≡ record { refusal = 0; place = 0; event = 10; register = 63; turn = 0; over = 0 }
   -- "A register is stale if its read log value differs from the table's": not if the same value was written
-  pub same-value : stepCall (lastCode (pos 0)) (ran (lastCode (pos 0)) (times 3 0 ++ times 4 1) .state) 0 .reply ≡ record { refusal = 0; place = 0; event = 9; register = 0; turn = 1 }
+  pub same-value : stepCall (lastCode (pos 0)) (ran (lastCode (pos 0)) (times 3 0 ++ times 4 1) .state) 0 .reply ≡ record { refusal = 0; place = 0; event = 9; register = 0; turn = 1; over = 0 }
   -- what such a reply says
-  pub step-idle : stepSays (stepCall sevenCode (ran sevenCode (times 1 0) .state) 0 .reply) ≡ done idle
-  pub step-back : stepSays (stepCall staleCode (ran staleCode (times 5 0 ++ times 5 1) .state) 0 .reply) ≡ done (sentBack 1)
+  pub step-idle : stepSays (stepCall sevenCode (ran sevenCode (times 1 0) .state) 0 .reply) ≡ done (told idle 0)
+  pub step-back : stepSays (stepCall staleCode (ran staleCode (times 5 0 ++ times 5 1) .state) 0 .reply) ≡ done (told (sentBack 1) 0)
   -- "A pick of a thread that does not exist or has ended is idle and changes nothing but the idle count"
-  pub idle-3 : stepCall sevenCode (fresh sevenCode) 3 .reply ≡ record { refusal = 0; place = 0; event = 0; register = 0; turn = 0 }
+  pub idle-3 : stepCall sevenCode (fresh sevenCode) 3 .reply ≡ record { refusal = 0; place = 0; event = 0; register = 0; turn = 0; over = 0 }
   pub idle-3-left : stepCall sevenCode (fresh sevenCode) 3 .state ≡ fresh sevenCode
-  pub idle-15 : stepCall sevenCode (fresh sevenCode) 15 .reply ≡ record { refusal = 0; place = 0; event = 0; register = 0; turn = 0 }
+  pub idle-15 : stepCall sevenCode (fresh sevenCode) 15 .reply ≡ record { refusal = 0; place = 0; event = 0; register = 0; turn = 0; over = 0 }
   pub idle-15-left : stepCall sevenCode (fresh sevenCode) 15 .state ≡ fresh sevenCode
-  pub idle-16 : stepCall sevenCode (fresh sevenCode) 16 .reply ≡ record { refusal = 0; place = 0; event = 0; register = 0; turn = 0 }
+  pub idle-16 : stepCall sevenCode (fresh sevenCode) 16 .reply ≡ record { refusal = 0; place = 0; event = 0; register = 0; turn = 0; over = 0 }
   pub idle-16-left : stepCall sevenCode (fresh sevenCode) 16 .state ≡ fresh sevenCode
-  pub idle-200 : stepCall sevenCode (fresh sevenCode) 200 .reply ≡ record { refusal = 0; place = 0; event = 0; register = 0; turn = 0 }
+  pub idle-200 : stepCall sevenCode (fresh sevenCode) 200 .reply ≡ record { refusal = 0; place = 0; event = 0; register = 0; turn = 0; over = 0 }
   pub idle-200-left : stepCall sevenCode (fresh sevenCode) 200 .state ≡ fresh sevenCode
-  pub idle-ended : stepCall wholeCode wholeEnd 1 .reply ≡ record { refusal = 0; place = 0; event = 0; register = 0; turn = 0 }
+  pub idle-ended : stepCall wholeCode wholeEnd 1 .reply ≡ record { refusal = 0; place = 0; event = 0; register = 0; turn = 0; over = 0 }
   pub idle-ended-left : stepCall sevenCode (ran sevenCode (times 1 0) .state) 0 .state ≡ ran sevenCode (times 1 0) .state
-  pub idle-run : runCall sevenCode (fresh sevenCode) (3 ∷ 200 ∷ 0 ∷ 0 ∷ []) .reply ≡ record { refusal = 0; place = 0; steps = 1; idle = 3; commits = 0; back = 0 }
+  pub idle-run : runCall sevenCode (fresh sevenCode) (3 ∷ 200 ∷ 0 ∷ 0 ∷ []) .reply ≡ record { refusal = 0; place = 0; steps = 1; idle = 3; commits = 0; back = 0; over = 0 }
   -- ---- the reply of `run`: "`steps` are picks not idle, `commits` those that took effect, `back` those sent back"
-  pub run-reply : runCall wholeCode (fresh wholeCode) wholePicks .reply ≡ record { refusal = 0; place = 0; steps = 21; idle = 0; commits = 2; back = 1 }
+  pub run-reply : runCall wholeCode (fresh wholeCode) wholePicks .reply ≡ record { refusal = 0; place = 0; steps = 21; idle = 0; commits = 2; back = 1; over = 0 }
   pub run-left : runCall wholeCode (fresh wholeCode) wholePicks .state ≡ wholeEnd
-  pub run-whole : runSays (runCall wholeCode (fresh wholeCode) wholePicks .reply) ≡ done (record { steps = 21; idle = 0; commits = 2; back = 1 })
-  pub run-none : runSays (runCall sevenCode (fresh sevenCode) [] .reply) ≡ done (record { steps = 0; idle = 0; commits = 0; back = 0 })
-  pub run-all-threads : runCall nestCode (fresh nestCode) (nestPicks ++ times 1 15) .reply ≡ record { refusal = 0; place = 0; steps = 16; idle = 0; commits = 0; back = 0 }
+  pub run-whole : runSays (runCall wholeCode (fresh wholeCode) wholePicks .reply) ≡ done (record { steps = 21; idle = 0; commits = 2; back = 1; over = 0 })
+  pub run-none : runSays (runCall sevenCode (fresh sevenCode) [] .reply) ≡ done (record { steps = 0; idle = 0; commits = 0; back = 0; over = 0 })
+  pub run-all-threads : runCall nestCode (fresh nestCode) (nestPicks ++ times 1 15) .reply ≡ record { refusal = 0; place = 0; steps = 16; idle = 0; commits = 0; back = 0; over = 0 }
   -- 13, "more than 32,768 picks"
-  pub full-list : runCall sevenCode (fresh sevenCode) (times 32768 0) .reply ≡ record { refusal = 0; place = 0; steps = 1; idle = 32767; commits = 0; back = 0 }
-  pub run-13 : runCall sevenCode (fresh sevenCode) (times 32769 0) .reply ≡ record { refusal = 13; place = 0; steps = 0; idle = 0; commits = 0; back = 0 }
+  pub full-list : runCall sevenCode (fresh sevenCode) (times 32768 0) .reply ≡ record { refusal = 0; place = 0; steps = 1; idle = 32767; commits = 0; back = 0; over = 0 }
+  pub run-13 : runCall sevenCode (fresh sevenCode) (times 32769 0) .reply ≡ record { refusal = 13; place = 0; steps = 0; idle = 0; commits = 0; back = 0; over = 0 }
   pub run-13-left : runCall sevenCode (fresh sevenCode) (times 32769 0) .state ≡ fresh sevenCode
   pub long-list : runSays (runCall sevenCode (fresh sevenCode) (times 32769 0) .reply) ≡ refused 13 0
   -- 12 before 13, 11 before 12; "A refusal returns its number and a place, and alters no lent memory"
-  pub run-12 : runCall sevenCode noThreads (times 32769 0) .reply ≡ record { refusal = 12; place = 0; steps = 0; idle = 0; commits = 0; back = 0 }
+  pub run-12 : runCall sevenCode noThreads (times 32769 0) .reply ≡ record { refusal = 12; place = 0; steps = 0; idle = 0; commits = 0; back = 0; over = 0 }
   pub run-12-left : runCall sevenCode noThreads (times 32769 0) .state ≡ noThreads
-  pub run-11 : runCall [] noThreads (times 32769 0) .reply ≡ record { refusal = 11; place = 0; steps = 0; idle = 0; commits = 0; back = 0 }
+  pub run-11 : runCall [] noThreads (times 32769 0) .reply ≡ record { refusal = 11; place = 0; steps = 0; idle = 0; commits = 0; back = 0; over = 0 }
   pub run-11-left : runCall [] noThreads (times 32769 0) .state ≡ noThreads
   pub long-foreign : runSays (runCall sevenCode noThreads (times 32769 0) .reply) ≡ refused 12 0
-  pub step-12 : stepCall sevenCode noThreads 0 .reply ≡ record { refusal = 12; place = 0; event = 0; register = 0; turn = 0 }
+  pub step-12 : stepCall sevenCode noThreads 0 .reply ≡ record { refusal = 12; place = 0; event = 0; register = 0; turn = 0; over = 0 }
   pub step-12-left : stepCall sevenCode noThreads 0 .state ≡ noThreads
-  pub step-12-other-job : stepCall wholeCode (fresh sevenCode) 0 .reply ≡ record { refusal = 12; place = 0; event = 0; register = 0; turn = 0 }
-  pub step-11 : stepCall [] noThreads 0 .reply ≡ record { refusal = 11; place = 0; event = 0; register = 0; turn = 0 }
+  pub step-12-other-job : stepCall wholeCode (fresh sevenCode) 0 .reply ≡ record { refusal = 12; place = 0; event = 0; register = 0; turn = 0; over = 0 }
+  pub step-11 : stepCall [] noThreads 0 .reply ≡ record { refusal = 11; place = 0; event = 0; register = 0; turn = 0; over = 0 }
   pub step-11-left : stepCall [] noThreads 0 .state ≡ noThreads
-  pub step-11-job : stepCall seven (fresh sevenCode) 0 .reply ≡ record { refusal = 11; place = 0; event = 0; register = 0; turn = 0 }
+  pub step-11-job : stepCall seven (fresh sevenCode) 0 .reply ≡ record { refusal = 11; place = 0; event = 0; register = 0; turn = 0; over = 0 }
   pub foreign-code : stepSays (stepCall [] noThreads 0 .reply) ≡ refused 11 0
   pub foreign-state : stepSays (stepCall sevenCode noThreads 0 .reply) ≡ refused 12 0
   -- ---- `fresh`: "thread 0 alone, at the start of the whole code, and every register 0"; its reply, and what it leaves whatever the records held
-  pub fresh-state : fresh sevenCode ≡ record { registers = zeros; threads = record { start = 5; end = 10; place = 5; height = 0; cells = zeros; begin = 0; base = 0; reads = 0; readlog = zeros; writes = 0; writelog = zeros } ∷ replicate 15 (record { start = 0; end = 0; place = 0; height = 0; cells = zeros; begin = 0; base = 0; reads = 0; readlog = zeros; writes = 0; writelog = zeros }) }
+  pub fresh-state : fresh sevenCode ≡ record { registers = zeros; threads = record { start = 5; end = 10; place = 5; height = 0; cells = zeros; begin = 0; base = 0; over = 0; reads = 0; readlog = zeros; writes = 0; writelog = zeros } ∷ replicate 15 (record { start = 0; end = 0; place = 0; height = 0; cells = zeros; begin = 0; base = 0; over = 0; reads = 0; readlog = zeros; writes = 0; writelog = zeros }) }
   pub fresh-reply : freshCall sevenCode noThreads .reply ≡ record { refusal = 0; place = 0 }
   pub fresh-left : freshCall sevenCode noThreads .state ≡ fresh sevenCode
   pub fresh-over : freshCall sevenCode wholeEnd .state ≡ fresh sevenCode
@@ -503,17 +508,17 @@ pub record Cases : Type 0 where
   pub height-ended : fits wholeCode (changed wholeEnd 0 (withHeight 2)) ≡ false
   -- "a transaction is open exactly from after BEGIN until COMMIT is done": notes empty behind BEGIN, notes before BEGIN and behind COMMIT
   pub fits-begun : fits wholeCode behindBegin ≡ true
-  pub notes-missing : fits wholeCode (changed behindBegin 1 (withNotes 0 0)) ≡ false
-  pub begin-before : fits wholeCode (changed bothForked 1 (withNotes 8 0)) ≡ false
-  pub base-before : fits wholeCode (changed bothForked 1 (withNotes 0 1)) ≡ false
-  pub begin-behind : fits wholeCode (changed behindCommit 1 (withNotes 8 0)) ≡ false
-  pub base-behind : fits wholeCode (changed behindCommit 1 (withNotes 0 1)) ≡ false
+  pub notes-missing : fits wholeCode (changed behindBegin 1 (withNotes 0 0 0)) ≡ false
+  pub begin-before : fits wholeCode (changed bothForked 1 (withNotes 8 0 0)) ≡ false
+  pub base-before : fits wholeCode (changed bothForked 1 (withNotes 0 1 0)) ≡ false
+  pub begin-behind : fits wholeCode (changed behindCommit 1 (withNotes 8 0 0)) ≡ false
+  pub base-behind : fits wholeCode (changed behindCommit 1 (withNotes 0 1 0)) ≡ false
   -- "its notes being its BEGIN's place and stack height": behind it, another thread's; one too low, one too high
-  pub begin-wrong : fits wholeCode (changed behindRead 1 (withNotes 9 0)) ≡ false
-  pub begin-other : fits wholeCode (changed behindRead 1 (withNotes 23 0)) ≡ false
+  pub begin-wrong : fits wholeCode (changed behindRead 1 (withNotes 9 0 0)) ≡ false
+  pub begin-other : fits wholeCode (changed behindRead 1 (withNotes 23 0 0)) ≡ false
   pub fits-high : fits highCode highRead ≡ true
-  pub base-low : fits highCode (changed highRead 0 (withNotes 22 1)) ≡ false
-  pub base-high : fits highCode (changed highRead 0 (withNotes 22 3)) ≡ false
+  pub base-low : fits highCode (changed highRead 0 (withNotes 22 1 0)) ≡ false
+  pub base-high : fits highCode (changed highRead 0 (withNotes 22 3 0)) ≡ false
   -- "logs .. being empty otherwise": a mark before BEGIN and behind COMMIT, its value being 0; and one with a value
   pub read-before : fits wholeCode (changed bothForked 1 (withRead 0)) ≡ false
   pub write-before : fits wholeCode (changed bothForked 1 (withWrite 0)) ≡ false
@@ -537,8 +542,8 @@ pub record Cases : Type 0 where
   pub unused-place : fits wholeCode (putAt bothForked 3 (withPlace 1 blank)) ≡ false
   pub unused-height : fits wholeCode (putAt bothForked 3 (withHeight 1 blank)) ≡ false
   pub unused-cell : fits wholeCode (putAt bothForked 3 (withCell 0 (pos 1) blank)) ≡ false
-  pub unused-begin : fits wholeCode (putAt bothForked 3 (withNotes 1 0 blank)) ≡ false
-  pub unused-base : fits wholeCode (putAt bothForked 3 (withNotes 0 1 blank)) ≡ false
+  pub unused-begin : fits wholeCode (putAt bothForked 3 (withNotes 1 0 0 blank)) ≡ false
+  pub unused-base : fits wholeCode (putAt bothForked 3 (withNotes 0 1 0 blank)) ≡ false
   pub unused-read : fits wholeCode (putAt bothForked 3 (withRead 0 blank)) ≡ false
   pub unused-read-value : fits wholeCode (putAt bothForked 3 (withReadValue 63 (pos 1) blank)) ≡ false
   pub unused-write : fits wholeCode (putAt bothForked 3 (withWrite 63 blank)) ≡ false

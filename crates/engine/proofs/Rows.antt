@@ -141,8 +141,8 @@ typed-thread t vs p =
     let fields = LL.owed T.the-type T′.the-laws t vs p in
     record {
       cells = sized 64 (t .cells) (fields .1 .1 .1 .1 .0 .1 .0 .1);
-      readlog = sized 64 (t .readlog) (fields .1 .1 .1 .1 .1 .1 .1 .1 .0 .1 .0 .1);
-      writelog = sized 64 (t .writelog) (fields .1 .1 .1 .1 .1 .1 .1 .1 .1 .1 .0 .1 .0 .1);
+      readlog = sized 64 (t .readlog) (fields .1 .1 .1 .1 .1 .1 .1 .1 .1 .0 .1 .0 .1);
+      writelog = sized 64 (t .writelog) (fields .1 .1 .1 .1 .1 .1 .1 .1 .1 .1 .1 .0 .1 .0 .1);
     }
 
 -- a number of 32 bits is in range
@@ -161,20 +161,21 @@ pub ranged-thread : (t : Thread) (vs : List Val) → Is ThreadR t vs → RangedT
 ranged-thread t vs p =
     let fields = LL.owed T.the-type T′.the-laws t vs p in
     let cells = fields .1 .1 .1 .1 .0 in
-    let readlog = fields .1 .1 .1 .1 .1 .1 .1 .1 .0 in
-    let writelog = fields .1 .1 .1 .1 .1 .1 .1 .1 .1 .1 .0 in
+    let readlog = fields .1 .1 .1 .1 .1 .1 .1 .1 .1 .0 in
+    let writelog = fields .1 .1 .1 .1 .1 .1 .1 .1 .1 .1 .1 .0 in
     record {
       cells = in-range (t .cells) (cells .0) (cells .1 .1);
       readlog = in-range (t .readlog) (readlog .0) (readlog .1 .1);
       writelog = in-range (t .writelog) (writelog .0) (writelog .1 .1);
-      reads = fields .1 .1 .1 .1 .1 .1 .1 .0 .1;
-      writes = fields .1 .1 .1 .1 .1 .1 .1 .1 .1 .0 .1;
+      reads = fields .1 .1 .1 .1 .1 .1 .1 .1 .0 .1;
+      writes = fields .1 .1 .1 .1 .1 .1 .1 .1 .1 .1 .0 .1;
       start = fields .0 .1;
       end = fields .1 .0 .1;
       place = fields .1 .1 .0 .1;
       height = fields .1 .1 .1 .0 .1;
       begin = fields .1 .1 .1 .1 .1 .0 .1;
       base = fields .1 .1 .1 .1 .1 .1 .0 .1;
+      over = fields .1 .1 .1 .1 .1 .1 .1 .0 .1;
     }
 
 -- what is known of a record by its type
@@ -209,6 +210,7 @@ known-blank =
             height = lit< tt;
             begin = lit< tt;
             base = lit< tt;
+            over = lit< tt;
           };
     }
 

@@ -32,6 +32,7 @@ pub fn spawned(start: usize, end: usize) -> thread::Thread
         cells: [0; 64],
         begin: 0,
         base: 0,
+        over: 0,
         reads: 0,
         readlog: [0; 64],
         writes: 0,
@@ -109,7 +110,7 @@ fn full(
     out.progress
 }
 
-// A pick that changes the stack of its record alone, or nothing. It has a way of its own up to the store, so that the logs are not copied.
+// A pick that changes the stack and the note of its record, or nothing. It has a way of its own up to the store, so that the logs are not copied.
 fn brief(
     code: &[u8],
     registers: &mut [i32],
@@ -131,7 +132,7 @@ fn brief(
     out.progress
 }
 
-// One pick: one that changes the stack of its record alone, or nothing, or any other.
+// One pick: one that changes the stack and the note of its record, or nothing, or any other.
 fn turn(
     code: &[u8],
     registers: &mut [i32],

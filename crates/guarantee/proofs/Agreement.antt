@@ -16,6 +16,7 @@ use Rattle.machine.specs.Answers.{sumOf}
 use Rattle.machine.specs.Source.{SThread, Halted, StepsM}
 use Rattle.machine.specs.Soup.{Carries, StandsFor, load}
 use Rattle.machine.proofs.Fresh.{fresh-fits, fresh-typed}
+use Rattle.machine.proofs.Notes.{pick-told, pick-noted, none-noted}
 use Rattle.machine.proofs.Picks.{missing-idle, ended-idle}
 use Rattle.machine.proofs.Found.{sent-back-first, committed-none, looked-found}
 use Rattle.machine.proofs.Regions.{held}
@@ -74,6 +75,9 @@ agreement job j b accepted =
       sent-back-first = λ s i v e. sent-back-first (sumOf j) (compiled j) (numberOf (s .threads)) s i v e;
       committed-none = λ s i e. committed-none (sumOf j) (compiled j) (numberOf (s .threads)) s i e;
       looked-found = λ s i from e. looked-found (sumOf j) (compiled j) (numberOf (s .threads)) s i from e;
+      told = λ s i. pick-told (sumOf j) (compiled j) (numberOf (s .threads)) s i;
+      noted = λ s f y i e. pick-noted c (sumOf j) s f y i e;
+      none-noted = λ s f i e z. none-noted (f .placed i e) z;
       fresh-fits = (fresh-fits (compiled j), fresh-typed (compiled j));
       step-fits = λ s f y i. step-fits c (sumOf j) s f y i;
       run-fits = λ s f y is. run-fits c (sumOf j) s f y is;

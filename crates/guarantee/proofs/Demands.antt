@@ -4,7 +4,7 @@ use mathlib.Core.Path.{_≡_, ap}
 use mathlib.Core.List.{List, _∷_}
 use Rattle.guarantee.specs.Demands.{Demand1, Demand2, Demand3}
 use Rattle.guarantee.proofs.Agreement.{agreement}
-use Rattle.guarantee.proofs.Histories.{call-lists, sound, every-order, sent-back, bounded}
+use Rattle.guarantee.proofs.Histories.{call-lists, sound, told-overs, every-order, sent-back, bounded}
 use Rattle.guarantee.proofs.RoundTrip.{read-back-exactly, compile-then-back, back-then-compile}
 use Rattle.guarantee.proofs.Rows.{job-rows, compile-rows, back-rows}
 use Rattle.machine.proofs.Calls.{fresh-answers, step-answers, run-answers}
@@ -13,6 +13,7 @@ use Rattle.script.specs.Outcome.{done}
 use Rattle.script.specs.Jobs.{Job}
 use Rattle.script.specs.Reader.{readJob}
 use Rattle.script.specs.Turns.{Script, turn, idle, Turned, left, turns}
+use Rattle.script.proofs.Overflows.{idle-overflows}
 use Rattle.script.proofs.Soups.{turn-steps, step-turns, turn-steps-same, step-turns-same}
 use Rattle.script.proofs.Transactions.{work-reached, work-only}
 use Rattle.word.specs.Sum.{Rule}
@@ -43,6 +44,7 @@ demand-2 =
       turn-is-step-same = turn-steps-same;
       step-is-turn-same = λ sum s soup m x. step-turns-same sum s soup m x;
       idle-turn = idle-turn′;
+      idle-over = idle-overflows;
       machine = agreement;
       read-back-exactly = read-back-exactly;
       compile-then-back = compile-then-back;
@@ -54,6 +56,7 @@ demand-3 job j b accepted =
     record {
       lists = call-lists job j b accepted;
       whole = λ h. sound job j b accepted h;
+      over = λ h. told-overs job j b accepted h;
       orders = λ is can. every-order job j b accepted is can;
       sent-back = λ h. sent-back job j b accepted h;
       ends = λ h. bounded job j b accepted h;

@@ -19,12 +19,13 @@ use Rattle.code.proofs.Foreign.{there-and-back, code-bytes}
 use Rattle.thread.specs.declared.Thread.{Thread}
 use Rattle.machine.specs.Steps as steps
 use Rattle.machine.specs.Steps.{State, Stepped, numberOf, threadAt, pick, fresh, Ran}
-use Rattle.stm.specs.Events.{Happened, counted, isIdle, isCommit, isBack, backs, order, countsOf, Counts, together}
+use Rattle.stm.specs.Events.{Happened, counted, isIdle, isCommit, isBack, backs, order, overs, countsOf, Counts, together}
 use Rattle.machine.specs.Fits.{Exists, Fits, Typed, Ranged}
 use Rattle.machine.specs.FitTest.{fits}
 use Rattle.machine.specs.Answers.{sumOf, fitting, Returned, stepOf, runOf}
 use Rattle.machine.specs.declared.RunReply.{RunReply}
 use Rattle.machine.specs.declared.StepReply.{StepReply}
+use Rattle.machine.proofs.Cuts.{run-cut}
 use Rattle.machine.proofs.Picks.{run-append}
 use Rattle.machine.proofs.FitTests.{fits-exactly}
 use Rattle.machine.proofs.Calls.{counting, step-call-counts, run-call-counts, step-refused, run-refused, step-taken, run-taken}
@@ -35,6 +36,7 @@ use Rattle.script.specs.Outcome.{Outcome, refused, done, refuse, onward, mapped
 use Rattle.script.specs.Jobs.{Job}
 use Rattle.script.specs.Reader.{readJob}
 use Rattle.script.specs.Refusal.{IsJob}
+use Rattle.script.specs.Overflows.{overflowsTurns}
 use Rattle.script.specs.Turns.{initial, turns, CanTake, Result}
 use Rattle.script.proofs.Accepts.{accepted-is-job, passed}
 use Rattle.machine.specs.InnerStands.{registerCells}
@@ -51,7 +53,7 @@ use Rattle.stm.specs.InnerMeaning.{Outside, Inside, processOf, values, meant, v
 use Rattle.stm.proofs.Sound.{start-linked, run-linked, meant-length, meant-at}
 use Rattle.stm.proofs.Complete.{Below, Realised, start-outside, complete}
 use Rattle.stm.proofs.Bound.{outside-proc, thread-count, steps-bound}
-use Rattle.stm.proofs.Counts.{steps-counted, back-counted, counts-append, together-none, none-together, together-assoc}
+use Rattle.stm.proofs.Counts.{steps-counted, back-counted, counts-append, together-none, none-together, together-assoc, over-counted}
 use Rattle.stm.proofs.SentBack as sent
 use Rattle.word.specs.Sum.{Rule}
 
@@ -135,7 +137,7 @@ same-head e = cc
 same-outside : {c d : Code} {σ τ : List ℤ} → _≡_ {A = Task registerCells} (outside c σ) (outside d τ) → (c ≡ d) × (σ ≡ τ)
 same-outside e = (cc, cc)
 
-not-outside : {body c d : Code} {base σ τ : List ℤ} {r w : Log ℤ} → _≡_ {A = Task registerCells} (inside body base c σ r w) (outside d τ) → ⊥
+not-outside : {body c d : Code} {base σ τ : List ℤ} {r w : Log ℤ} {n : ℕ} → _≡_ {A = Task registerCells} (inside body base c σ r w n) (outside d τ) → ⊥
 not-outside e = absurd (let z : _≡_ {A = ℕ} 0 1 = cc in omega arith)
 
 -- and a record that shows an ended task is at its end
@@ -249,7 +251,7 @@ module _ (job : List ℕ) (j : Job) (b : Bytes job) (accepted : readJob job ≡ 
       linked : Linked registerCells (sumOf j) sys (turns (sumOf j) (initial (j .tree)) (order events))
       linked =
           subst (λ (es : List Happened). Linked registerCells (sumOf j) sys (turns (sumOf j) (initial (j .tree)) (order es))) (sym (k .its-events))
-          (run-linked registerCells (sumOf j) (k .picks) (start registerCells (compileP (j .tree) ε)) (initial (j .tree)) (start-linked registerCells (sumOf j) (j .tree) (is-job .within .valued)) .1)
+          (run-linked registerCells (sumOf j) (k .picks) (start registerCells (compileP (j .tree) ε)) (initial (j .tree)) (start-linked registerCells (sumOf j) (j .tree) (is-job .within .valued)) .linked)
 
       registers′ : now .state .registers ≡ turns (sumOf j) (initial (j .tree)) (order events) .registers
       registers′ = k .mirrors .table ∙ (sym (values-same (sys .table)) ∙ sym (linked .registers))
@@ -281,7 +283,15 @@ module _ (job : List ℕ) (j : Job) (b : Bytes job) (accepted : readJob job ≡ 
   order-taken h =
       let k = behind h in
       subst (λ (es : List Happened). CanTake (sumOf j) (initial (j .tree)) (order es)) (sym (k .its-events))
-      (run-linked registerCells (sumOf j) (k .picks) (start registerCells (compileP (j .tree) ε)) (initial (j .tree)) (start-linked registerCells (sumOf j) (j .tree) (is-job .within .valued)) .0)
+      (run-linked registerCells (sumOf j) (k .picks) (start registerCells (compileP (j .tree) ε)) (initial (j .tree)) (start-linked registerCells (sumOf j) (j .tree) (is-job .within .valued)) .can)
+
+  -- the sums that the list tells of are those of the script's turns
+  pub told-overs : {now : Session} {events : List Happened} → History (compiled j) now events → countsOf events .over ≡ overflowsTurns (sumOf j) (initial (j .tree)) (order events)
+  told-overs {now} {events} h =
+      let k = behind h in
+      over-counted events
+      ∙ subst (λ (es : List Happened). overs es ≡ overflowsTurns (sumOf j) (initial (j .tree)) (order es)) (sym (k .its-events))
+      (run-linked registerCells (sumOf j) (k .picks) (start registerCells (compileP (j .tree) ε)) (initial (j .tree)) (start-linked registerCells (sumOf j) (j .tree) (is-job .within .valued)) .over)
 
   -- the steps of the list, idle picks uncounted, are no more than the bound: "L + (K−1)×(T−1)×M steps, or L if K is 0"
   pub bounded : {now : Session} {events : List Happened} → History (compiled j) now events → countsOf events .steps ≤ bound (j .tree)
@@ -324,9 +334,9 @@ module _ (job : List ℕ) (j : Job) (b : Bytes job) (accepted : readJob job ≡ 
     steps-history [] bel s events h = subst (λ (es : List Happened). History (compiled j) (on s) es) (sym (append-nil events)) h
     steps-history (i ∷ is) bel s events h =
         let k = behind h in
-        let one : History (compiled j) (on (pick (sumOf j) (compiled j) s i .state)) (events ++ (record { thread = i; event = pick (sumOf j) (compiled j) s i .event } ∷ [])) = followed h (step (compiled j) s i) (lent i (bel .0) s (k .typed) (k .ranges)) refl refl (comes i s (k .fit) (k .typed)) in
-        let rest = steps-history is (bel .1) (pick (sumOf j) (compiled j) s i .state) (events ++ (record { thread = i; event = pick (sumOf j) (compiled j) s i .event } ∷ [])) one in
-        subst (λ (es : List Happened). History (compiled j) (on (steps.run (sumOf j) (compiled j) (pick (sumOf j) (compiled j) s i .state) is .state)) es) (append-assoc events (record { thread = i; event = pick (sumOf j) (compiled j) s i .event } ∷ []) (steps.run (sumOf j) (compiled j) (pick (sumOf j) (compiled j) s i .state) is .events)) rest
+        let one : History (compiled j) (on (pick (sumOf j) (compiled j) s i .state)) (events ++ (record { thread = i; event = pick (sumOf j) (compiled j) s i .event; over = pick (sumOf j) (compiled j) s i .over } ∷ [])) = followed h (step (compiled j) s i) (lent i (bel .0) s (k .typed) (k .ranges)) refl refl (comes i s (k .fit) (k .typed)) in
+        let rest = steps-history is (bel .1) (pick (sumOf j) (compiled j) s i .state) (events ++ (record { thread = i; event = pick (sumOf j) (compiled j) s i .event; over = pick (sumOf j) (compiled j) s i .over } ∷ [])) one in
+        subst (λ (es : List Happened). History (compiled j) (on (steps.run (sumOf j) (compiled j) (pick (sumOf j) (compiled j) s i .state) is .state)) es) (append-assoc events (record { thread = i; event = pick (sumOf j) (compiled j) s i .event; over = pick (sumOf j) (compiled j) s i .over } ∷ []) (steps.run (sumOf j) (compiled j) (pick (sumOf j) (compiled j) s i .state) is .events)) rest
       where
         lent : (i : ℕ) → i < small → (s : State) → Typed s → Ranged s → Lent (step (compiled j) s i)
         lent i l s y z = record { code = code-bytes j (is-job .within .valued); state = y; ranges = z; picks = record { small = one-byte i (omega arith) } }
@@ -366,7 +376,7 @@ module _ (job : List ℕ) (j : Job) (b : Bytes job) (accepted : readJob job ≡ 
       linked : Linked registerCells (sumOf j) sys (turns (sumOf j) (initial (j .tree)) is)
       linked =
           subst (λ (os : List ℕ). Linked registerCells (sumOf j) sys (turns (sumOf j) (initial (j .tree)) os)) (real .taken)
-          (run-linked registerCells (sumOf j) (real .picks) (start registerCells (compileP (j .tree) ε)) (initial (j .tree)) (start-linked registerCells (sumOf j) (j .tree) (is-job .within .valued)) .1)
+          (run-linked registerCells (sumOf j) (real .picks) (start registerCells (compileP (j .tree) ε)) (initial (j .tree)) (start-linked registerCells (sumOf j) (j .tree) (is-job .within .valued)) .linked)
 
       number : length (sys .tasks) ≡ length (turns (sumOf j) (initial (j .tree)) is .threads)
       number = sym (meant-length registerCells (sys .tasks)) ∙ sym (ap length (linked .threads))
@@ -386,7 +396,7 @@ no-bytes = record { small = λ i l. absurd (omega arith) }
 counts-of : (c : Call) → reportedBy c ≡ counting (λ (r : Ran). countsOf (r .events)) (comesTo c)
 counts-of (step code s i) = step-call-counts code s i ∙ same (stepOf code s i)
   where
-    same : (o : Outcome Stepped) → counting (λ (r : Stepped). countsOf (record { thread = i; event = r .event } ∷ [])) o ≡ counting (λ (r : Ran). countsOf (r .events)) (mapped (alone i) o)
+    same : (o : Outcome Stepped) → counting (λ (r : Stepped). countsOf (record { thread = i; event = r .event; over = r .over } ∷ [])) o ≡ counting (λ (r : Ran). countsOf (r .events)) (mapped (alone i) o)
     same (refused n p) = refl
     same (done r) = refl
 counts-of (run code s is) = run-call-counts code s is
@@ -475,5 +485,6 @@ module _ (job : List ℕ) (j : Job) (b : Bytes job) (accepted : readJob job ≡ 
         step-is-run = step-is-run′;
         one-run = λ h. history-run job j b accepted h;
         reports = λ h. reports′ h;
+        cut = λ s is js y l. run-cut (is-code job j b accepted) (read job j b accepted) s is js y l;
         order-taken = λ h. order-taken job j b accepted h;
       }

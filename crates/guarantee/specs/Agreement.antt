@@ -12,7 +12,7 @@ use Rattle.code.specs.Bytes.{compiled}
 use Rattle.code.specs.Ops.{opAt}
 use Rattle.code.specs.Ops as code
 use Rattle.thread.specs.Threads.{exists, stale}
-use Rattle.machine.specs.Steps.{State, threadAt, pick, DoesOne, FirstStale, FoundIn, fresh, run}
+use Rattle.machine.specs.Steps.{State, threadAt, pick, toldBy, notedBy, DoesOne, FirstStale, FoundIn, fresh, run}
 use Rattle.machine.specs.Fits.{Exists, Fits, Typed}
 use Rattle.machine.specs.Answers.{sumOf}
 use Rattle.machine.specs.Source.{SThread, Halted, StepM, StepsM}
@@ -34,8 +34,8 @@ module _ (j : Job) where
   pub record Agreement : Type 0 where
     -- ---- picks
     -- "A pick of a thread that does not exist or has ended is idle and changes nothing but the idle count"
-    pub missing-idle : (s : State) (i : ℕ) → exists (threadAt s i) ≡ false → pick sum its s i ≡ record { state = s; event = idle }
-    pub ended-idle : (s : State) (i : ℕ) → threadAt s i .place ≡ threadAt s i .end → pick sum its s i ≡ record { state = s; event = idle }
+    pub missing-idle : (s : State) (i : ℕ) → exists (threadAt s i) ≡ false → pick sum its s i ≡ record { state = s; event = idle; over = 0 }
+    pub ended-idle : (s : State) (i : ℕ) → threadAt s i .place ≡ threadAt s i .end → pick sum its s i ≡ record { state = s; event = idle; over = 0 }
     -- "Each other pick does one instruction": the one at the thread's place
     pub does-one :
         (s : State) → Fits its s → Typed s → (i : ℕ) → Exists s i → (threadAt s i .place ≡ threadAt s i .end → ⊥) →
@@ -49,6 +49,14 @@ module _ (j : Job) where
     pub looked-found :
         (s : State) (i : ℕ) (from : Source) → pick sum its s i .event ≡ looked from →
         (v : ℕ) × ((opAt (drop (threadAt s i .place) its) ≡ done (code.read v)) × FoundIn (threadAt s i) v from)
+    -- document 02 No. 2: a pick tells of "such sums outside transactions and, as noted, in attempts that took effect", and of no other; the
+    -- others of an open attempt are noted in its thread's record
+    pub told : (s : State) (i : ℕ) → pick sum its s i .over ≡ toldBy (pick sum its s i .event) (threadAt s i)
+    pub noted :
+        (s : State) → Fits its s → Typed s → (i : ℕ) → Exists s i →
+        threadAt (pick sum its s i .state) i .over ≡ notedBy (pick sum its s i .event) (threadAt s i)
+    -- and where no transaction is open nothing is noted
+    pub none-noted : (s : State) → Fits its s → (i : ℕ) → Exists s i → threadAt s i .begin ≡ 0 → threadAt s i .over ≡ 0
     -- ---- the fit
     -- "A fresh state fits its code, and each step leaves a state that fits as one that fits, what it frees being 0"
     pub fresh-fits : Fits its (fresh its) × Typed (fresh its)

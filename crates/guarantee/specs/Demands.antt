@@ -26,12 +26,13 @@ use Rattle.script.specs.Bytes.{Bytes}
 use Rattle.script.specs.Count.{bound}
 use Rattle.script.specs.Outcome.{done, mapped}
 use Rattle.script.specs.Jobs.{Job}
+use Rattle.script.specs.Overflows.{overflowsTurns}
 use Rattle.script.specs.Reader.{readJob}
 use Rattle.script.specs.Soup.{Same, StepOn}
 use Rattle.script.specs.Source.{StepsT, StepP}
 use Rattle.script.specs.Tree.{Tran, ValT, Proc}
 use Rattle.script.specs.Turns.{Registers, work, Script, initial, turn, idle, turned, turns, CanTake}
-use Rattle.stm.specs.Events.{Happened, countsOf}
+use Rattle.stm.specs.Events.{Happened, order, countsOf}
 use Rattle.word.specs.Sum.{Rule}
 
 -- 1. "Each job, code, state and pick list that meets document 01's rules, lent an output long enough, is carried through to its result, always
@@ -79,8 +80,11 @@ pub record Demand2 : Type 0 where
       (sum : Rule) (s : Script) (soup : List Proc) {h′ : Registers} {soup′ : List Proc} →
       Same soup (s .threads) → StepP sum (s .registers) soup h′ soup′ →
       (i : ℕ) × (s′ : Script) × (turn sum s i ≡ turned s′) × (s′ .registers ≡ h′) × Same soup′ (s′ .threads)
-  -- an idle turn leaves the script as it was
+  -- an idle turn leaves the script as it was, and has no sum that falls outside the range
   pub idle-turn : (sum : Rule) (s : Script) (i : ℕ) (is : List ℕ) → turn sum s i ≡ idle → turns sum s (i ∷ is) ≡ turns sum s is
+  pub idle-over :
+      (sum : Rule) (s : Script) (i : ℕ) (is : List ℕ) → turn sum s i ≡ idle →
+      overflowsTurns sum s (i ∷ is) ≡ overflowsTurns sum s is
   -- every step of the machine
   pub machine : (job : List ℕ) (j : Job) → Bytes job → readJob job ≡ done j → Agreement j
   -- "code is read back exactly if some accepted job compiles to it, and to that job"
@@ -104,6 +108,11 @@ pub record AsScript (j : Job) : Type 0 where
   -- and alone, given one turn for each outside sum, fork and commit in the order in which these came, and each thread that has ended has the
   -- script's result for it."
   pub whole : {now : Session} {events : List Happened} → History (compiled j) now events → Whole j (now .state) events
+  -- document 02 No. 2: `over` is "the number of such sums outside transactions and .. in attempts that took effect": over the whole list, as
+  -- many sums of the script fed the order, its transactions whole, fall outside the range
+  pub over :
+      {now : Session} {events : List Happened} → History (compiled j) now events →
+      countsOf events .over ≡ overflowsTurns (sumOf j) (initial (j .tree)) (order events)
   -- "Every list of turns that the script can take is the order of some such list of calls."
   pub orders : (is : List ℕ) → CanTake (sumOf j) (initial (j .tree)) is → IsOrder j is
   -- "Whatever the picks, no thread is sent back twice between neighbouring commits or after the last, nor at all before the first."

@@ -42,7 +42,7 @@ pub record Lent (c : Call) : Type 0 where
 
 -- what a call comes to; "a step by itself counts as one with a single pick"
 abbrev pub alone : ℕ → Stepped → Ran
-alone i r = record { state = r .state; events = record { thread = i; event = r .event } ∷ [] }
+alone i r = record { state = r .state; events = record { thread = i; event = r .event; over = r .over } ∷ [] }
 
 abbrev pub comesTo : Call → Outcome Ran
 comesTo (step code s i) = mapped (alone i) (stepOf code s i)
@@ -167,6 +167,13 @@ pub record CallLists (j : Job) : Type 0 where
   pub reports :
       {now : Session} {events : List Happened} (h : History (compiled j) now events) →
       reported (callsOf h) ≡ countsOf events
+  -- a run cut in two, from any state that is lent, leaves the same state, and its two calls report the same counts together
+  pub cut :
+      (s : State) (is js : List ℕ) → Typed s → length (is ++ js) ≤ 32768 →
+      let first = run (compiled j) s is in
+      let second = run (compiled j) (stateAfter first) js in
+      (stateAfter (run (compiled j) s (is ++ js)) ≡ stateAfter second) ×
+      (reportedBy (run (compiled j) s (is ++ js)) ≡ together (reportedBy first) (reportedBy second))
   -- no turn of its order is idle in the script
   pub order-taken :
       {now : Session} {events : List Happened} → History (compiled j) now events →

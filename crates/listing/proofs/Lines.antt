@@ -19,7 +19,7 @@ use Rattle.thread.specs.Threads.{exists}
 use Rattle.thread.specs.declared.Thread.{Thread}
 
 pub counts-line : (c : Counts) →
-    (((((ascii "steps " ++ decimal (c .steps)) ++ (ascii " idle " ++ decimal (c .idle))) ++ (ascii " commits " ++ decimal (c .commits))) ++ (ascii " back " ++ decimal (c .back))) ++ ascii "\n") ≡ countsLine c
+    ((((((ascii "steps " ++ decimal (c .steps)) ++ (ascii " idle " ++ decimal (c .idle))) ++ (ascii " commits " ++ decimal (c .commits))) ++ (ascii " back " ++ decimal (c .back))) ++ (ascii " over " ++ decimal (c .over))) ++ ascii "\n") ≡ countsLine c
 unfolding countsLine
 counts-line c = simp append-assoc
 

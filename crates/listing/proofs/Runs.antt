@@ -26,7 +26,7 @@ use Rattle.listing.specs.Listed.{countsLine, threadLine, threadLines, re
 
 -- the counts of an answer
 abbrev pub countsIn : RunReply → Counts
-countsIn r = record { steps = r .steps; idle = r .idle; commits = r .commits; back = r .back }
+countsIn r = record { steps = r .steps; idle = r .idle; commits = r .commits; back = r .back; over = r .over }
 
 threads-blank : (i : ℕ) (ts : List Thread) → threadLines i (ts ++ (blank ∷ [])) ≡ threadLines i ts
 unfolding threadLines blank

@@ -40,7 +40,8 @@ unfoldable pub integer : ℤ → List ℕ
 integer (pos n) = decimal n
 integer (negsuc n) = 45 ∷ decimal (suc n)
 
--- "`steps` are picks not idle, `commits` those that took effect, `back` those sent back"
+-- "`steps` are picks not idle, `commits` those that took effect, `back` those sent back"; document 02 No. 2: "From now on the listing's first
+-- line ends in ` over N`"
 unfoldable pub countsLine : Counts → List ℕ
 countsLine c =
     ascii "steps " ++
@@ -50,7 +51,9 @@ countsLine c =
     (ascii " commits " ++
     (decimal (c .commits) ++
     (ascii " back " ++
-    (decimal (c .back) ++ ascii "\n")))))))
+    (decimal (c .back) ++
+    (ascii " over " ++
+    (decimal (c .over) ++ ascii "\n")))))))))
 
 -- "`done` is followed by the result, and an unfinished one prints `thread N open`"; "its result is the one number left on its stack"
 unfoldable pub threadLine : ℕ → Thread → List ℕ

@@ -79,15 +79,16 @@ fn put_integer(page: &mut [u8], at: usize, word: &[u8], n: i32) -> usize
 
 // The first line: the counts.
 fn put_counts(page: &mut [u8], reply: machine::RunReply) -> usize
-    requires { ⌜ 108 ≤ length (now page) ⌝ }
-    ensures { λ r. ⌜ Put 0 (countsLine (record { steps = reply .steps; idle = reply .idle; commits = reply .commits; back = reply .back })) (now (page .entry)) r (now (page .exit)) ⌝ }
-    ensures { λ r. ⌜ r ≤ 108 ⌝ }
+    requires { ⌜ 134 ≤ length (now page) ⌝ }
+    ensures { λ r. ⌜ Put 0 (countsLine (record { steps = reply .steps; idle = reply .idle; commits = reply .commits; back = reply .back; over = reply .over })) (now (page .entry)) r (now (page .exit)) ⌝ }
+    ensures { λ r. ⌜ r ≤ 134 ⌝ }
 {
     let a = put_number(page, 0, b"steps ", reply.steps);
     let b = put_number(page, a, b" idle ", reply.idle);
     let c = put_number(page, b, b" commits ", reply.commits);
     let d = put_number(page, c, b" back ", reply.back);
-    put(page, d, b"\n")
+    let e = put_number(page, d, b" over ", reply.over);
+    put(page, e, b"\n")
 }
 
 // A thread's line.
@@ -175,8 +176,8 @@ fn put_refusal(page: &mut [u8], number: usize, place: usize) -> usize
 
 // The listing of a run.
 fn put_listing(page: &mut [u8], ran: owned::Ran) -> usize
-    requires { ⌜ 4423 ≤ length (now page) ⌝ }
-    ensures { λ r. ⌜ Put 0 (listing (record { steps = ran .reply .steps; idle = ran .reply .idle; commits = ran .reply .commits; back = ran .reply .back }) (stateFrom (ran .registers) (ran .threads))) (now (page .entry)) r (now (page .exit)) ⌝ }
+    requires { ⌜ 4449 ≤ length (now page) ⌝ }
+    ensures { λ r. ⌜ Put 0 (listing (record { steps = ran .reply .steps; idle = ran .reply .idle; commits = ran .reply .commits; back = ran .reply .back; over = ran .reply .over }) (stateFrom (ran .registers) (ran .threads))) (now (page .entry)) r (now (page .exit)) ⌝ }
 {
     let reply = ran.reply;
     let threads = ran.threads;
@@ -188,7 +189,7 @@ fn put_listing(page: &mut [u8], ran: owned::Ran) -> usize
 
 // What a run of the code on a fresh state prints, or its refusal.
 fn put_run(page: &mut [u8], code: &[u8], picks: &[u8]) -> usize
-    requires { ⌜ (4423 ≤ length (now page)) × ((j : Job) × (readCode (now code) ≡ done j)) ⌝ }
+    requires { ⌜ (4449 ≤ length (now page)) × ((j : Job) × (readCode (now code) ≡ done j)) ⌝ }
     ensures { λ r. ⌜ Put 0 (printed (runOf (now (code .entry)) (fresh (now (code .entry))) (now (picks .entry)))) (now (page .entry)) r (now (page .exit)) ⌝ }
 {
     let ran = owned::shown(code, picks);
@@ -201,7 +202,7 @@ fn put_run(page: &mut [u8], code: &[u8], picks: &[u8]) -> usize
 
 // What a job and picks print.
 fn put_job(page: &mut [u8], job: &[u8], picks: &[u8]) -> usize
-    requires { ⌜ 4423 ≤ length (now page) ⌝ }
+    requires { ⌜ 4449 ≤ length (now page) ⌝ }
     ensures { λ r. ⌜ Put 0 (printed (jobRun (now (job .entry)) (now (picks .entry)))) (now (page .entry)) r (now (page .exit)) ⌝ }
 {
     let mut code = [0u8; 5005];
@@ -213,7 +214,7 @@ fn put_job(page: &mut [u8], job: &[u8], picks: &[u8]) -> usize
 
 // What an input prints.
 fn print(page: &mut [u8], input: &[u8]) -> usize
-    requires { ⌜ 4423 ≤ length (now page) ⌝ }
+    requires { ⌜ 4449 ≤ length (now page) ⌝ }
     ensures { λ r. ⌜ Put 0 (listed (now (input .entry))) (now (page .entry)) r (now (page .exit)) ⌝ }
 {
     if input.len() < 2 {
@@ -239,12 +240,12 @@ fn deliver(out: &mut [u8], text: &[u8])
     }
 }
 
-// What the run program prints for an input, into the front of `out`. Total: any input, any output. An output of 4,423 bytes is always long enough.
+// What the run program prints for an input, into the front of `out`. Total: any input, any output. An output of 4,449 bytes is always long enough.
 pub fn report(input: &[u8], out: &mut [u8]) -> Answer
     ensures { λ r. ⌜ delivered (done (listed (now (input .entry)))) (now (out .entry)) ≡ record { answer = r; output = now (out .exit) } ⌝ }
-    ensures { λ _. ⌜ length (listed (now (input .entry))) ≤ 4423 ⌝ }
+    ensures { λ _. ⌜ length (listed (now (input .entry))) ≤ 4449 ⌝ }
 {
-    let mut page = [0u8; 4423];
+    let mut page = [0u8; 4449];
     let length = print(&mut page, input);
     if out.len() < length {
         return Answer::Refused(10, 0);

@@ -21,8 +21,8 @@ use Rattle.script.specs.Jobs.{Job}
 use Rattle.script.specs.Outcome.{Outcome, done}
 use Rattle.thread.specs.declared.Action.{Action}
 use Rattle.thread.specs.declared.Thread.{Thread}
-use Rattle.thread.specs.Threads.{exists, blank, add, read, sourceOf, firstStale}
-use Rattle.thread.specs.InnerStep.{enoughFor, takesOp, sourceNumber, outsideTurn, Handed, handed, unacted, committed, committedBy, performed, attempted, stepped}
+use Rattle.thread.specs.Threads.{exists, blank, below, sumTold, adding, add, read, sourceOf, firstStale}
+use Rattle.thread.specs.InnerStep.{enoughFor, takesOp, sourceNumber, outsideTurn, Handed, handed, unacted, acting, noteAfter, overAtOnce, summing, committed, committedBy, performed, attempted, stepped}
 use Rattle.machine.specs.Steps.{State, Stepped, Acted, Child, alters, committing, commit, act, settle, threadAt, pickAmong, DoesOne}
 use Rattle.machine.specs.Fits.{Exists, Fits, Typed}
 use Rattle.machine.specs.InnerStands.{registerCells, opOf, Ready}
@@ -38,11 +38,14 @@ use Rattle.machine.proofs.Walking.{same-op}
 use Rattle.machine.proofs.Shapes.{Shape, out, open′ as shape-open, shape}
 use Rattle.machine.proofs.Runs.{shows-of}
 use Rattle.machine.proofs.Showings.{Shows, shut, open′}
+use Rattle.machine.proofs.Ranges.{low-fits}
 use Rattle.machine.proofs.Agrees.{outer, does-one}
 use Rattle.stm.specs.Events.{Source, fromWrites, fromReads, fromTable, looked, idle, summed, committed as takenEffect, sentBack, more, eventNumber, eventRegister, turnNumber, eventOf}
 use Rattle.stm.specs.InnerTasks.{Task}
+use Rattle.word.specs.InnerCount.{saturated}
 use Rattle.word.specs.Registers.{member}
-use Rattle.word.specs.Sum.{Rule, InRange}
+use Rattle.word.specs.Sum.{Rule, InRange, overflows, added}
+use Rattle.word.proofs.Counting.{saturated-exact}
 
 -- ---- a record has what its instruction takes
 enough-yes : (low h high size left : ℕ) → low ≤ h → h ≤ high → size ≤ left → enoughFor low h high size left ≡ true
@@ -101,19 +104,34 @@ ready-able {bytes} {place} {end} {h} (FORK k) {c} base b r =
 
 -- ---- what is done then is what the instruction does
 module _ (sum : Rule) (table : List ℤ) (t : Thread) where
-  performs-add : actedAs (performed sum table t (showOp code.add)) ≡ act sum table t code.add
+  -- ADD, its note being below the greatest number
+  abbrev Small : Type 0
+  Small = t .over < 18446744073709551615
+
+  noted-exact : Small → (b so : Bool) → cond b (t .over) (cond so (saturated (t .over) 1) (t .over)) ≡ cond b (t .over) (t .over + cond so 1 0)
+  noted-exact l true so = refl
+  noted-exact l false true = saturated-exact (t .over) 1 (omega arith)
+  noted-exact l false false = omega arith
+
+  sums : Small → summing sum t ≡ acting 2 (outsideTurn (t .begin)) (sumTold t) (add sum t)
+  unfolding summing noteAfter overAtOnce added add
+  sums l =
+      ap (λ (n : ℕ). acting 2 (outsideTurn (t .begin)) (sumTold t) (adding n (sum (below t 2) (below t 1)) t))
+      (noted-exact l (eqb (t .begin) 0) (overflows (below t 2) (below t 1)))
+
+  performs-add : Small → actedAs (performed sum table t (showOp code.add)) ≡ act sum table t code.add
   unfolding actedAs performed act eventOf outsideTurn
-  performs-add = go (eqb (t .begin) 0)
+  performs-add l = ap (λ (a : Action). actedAs (handed a table)) (sums l) ∙ go (eqb (t .begin) 0) (sumTold t)
     where
-      go : (b : Bool) → alters (add sum t) table (summed (eqb (cond b 1 0) 0)) ≡ alters (add sum t) table (summed (not b))
-      go true = refl
-      go false = refl
+      go : (b : Bool) (n : ℕ) → alters (add sum t) table (summed (eqb (cond b 1 0) 0)) n ≡ alters (add sum t) table (summed (not b)) n
+      go true n = refl
+      go false n = refl
 
   performs-read : (v : ℕ) → actedAs (performed sum table t (showOp (code.read v))) ≡ act sum table t (code.read v)
   unfolding actedAs performed act eventOf sourceNumber sourceOf
   performs-read v = go (member (t .writes) v) (member (t .reads) v)
     where
-      go : (a b : Bool) → _≡_ {A = Acted} (record { thread = read table v t; table = table; children = childrenAs (cond a 5 (cond b 6 7)) 0 0; event = eventOf (cond a 5 (cond b 6 7)) 0 0 }) (alters (read table v t) table (looked (cond a fromWrites (cond b fromReads fromTable))))
+      go : (a b : Bool) → _≡_ {A = Acted} (record { thread = read table v t; table = table; children = childrenAs (cond a 5 (cond b 6 7)) 0 0; event = eventOf (cond a 5 (cond b 6 7)) 0 0; over = 0 }) (alters (read table v t) table (looked (cond a fromWrites (cond b fromReads fromTable))) 0)
       go true b = refl
       go false true = refl
       go false false = refl
@@ -126,30 +144,30 @@ module _ (sum : Rule) (table : List ℤ) (t : Thread) where
       go true = refl
       go false = refl
 
-  performs-acts : (op : Op) → actedAs (performed sum table t (showOp op)) ≡ act sum table t op
+  performs-acts : Small → (op : Op) → actedAs (performed sum table t (showOp op)) ≡ act sum table t op
   unfolding actedAs performed act eventOf
-  performs-acts (code.push n) = refl
-  performs-acts (code.fork size) = refl
-  performs-acts code.begin = refl
-  performs-acts (code.write v) = refl
-  performs-acts code.add = performs-add
-  performs-acts (code.read v) = performs-read v
-  performs-acts code.commit = performs-commit
+  performs-acts l (code.push n) = refl
+  performs-acts l (code.fork size) = refl
+  performs-acts l code.begin = refl
+  performs-acts l (code.write v) = refl
+  performs-acts l code.add = performs-add l
+  performs-acts l (code.read v) = performs-read v
+  performs-acts l code.commit = performs-commit
 
   -- and the other way: every number that is handed back is the event's
-  hands-add : performed sum table t (showOp code.add) ≡ handedAs (act sum table t code.add)
+  hands-add : Small → performed sum table t (showOp code.add) ≡ handedAs (act sum table t code.add)
   unfolding handedAs performed act eventNumber eventRegister turnNumber outsideTurn
-  hands-add = go (eqb (t .begin) 0)
+  hands-add l = ap (λ (a : Action). handed a table) (sums l) ∙ go (eqb (t .begin) 0) (sumTold t)
     where
-      go : (b : Bool) → handed (record { thread = add sum t; event = 2; register = 0; turn = cond b 1 0; start = 0; end = 0 }) table ≡ handedAs (alters (add sum t) table (summed (not b)))
-      go true = refl
-      go false = refl
+      go : (b : Bool) (n : ℕ) → handed (acting 2 (cond b 1 0) n (add sum t)) table ≡ handedAs (alters (add sum t) table (summed (not b)) n)
+      go true n = refl
+      go false n = refl
 
   hands-read : (v : ℕ) → performed sum table t (showOp (code.read v)) ≡ handedAs (act sum table t (code.read v))
   unfolding handedAs performed act eventNumber eventRegister turnNumber sourceNumber sourceOf
   hands-read v = go (member (t .writes) v) (member (t .reads) v)
     where
-      go : (a b : Bool) → handed (record { thread = read table v t; event = cond a 5 (cond b 6 7); register = 0; turn = 0; start = 0; end = 0 }) table ≡ handedAs (alters (read table v t) table (looked (cond a fromWrites (cond b fromReads fromTable))))
+      go : (a b : Bool) → handed (record { thread = read table v t; event = cond a 5 (cond b 6 7); register = 0; turn = 0; over = 0; start = 0; end = 0 }) table ≡ handedAs (alters (read table v t) table (looked (cond a fromWrites (cond b fromReads fromTable))) 0)
       go true b = refl
       go false true = refl
       go false false = refl
@@ -162,18 +180,18 @@ module _ (sum : Rule) (table : List ℤ) (t : Thread) where
       go true = refl
       go false = refl
 
-  performs-hands : (op : Op) → performed sum table t (showOp op) ≡ handedAs (act sum table t op)
+  performs-hands : Small → (op : Op) → performed sum table t (showOp op) ≡ handedAs (act sum table t op)
   unfolding handedAs performed act eventNumber eventRegister turnNumber
-  performs-hands (code.push n) = refl
-  performs-hands (code.fork size) = refl
-  performs-hands code.begin = refl
-  performs-hands (code.write v) = refl
-  performs-hands code.add = hands-add
-  performs-hands (code.read v) = hands-read v
-  performs-hands code.commit = hands-commit
+  performs-hands l (code.push n) = refl
+  performs-hands l (code.fork size) = refl
+  performs-hands l code.begin = refl
+  performs-hands l (code.write v) = refl
+  performs-hands l code.add = hands-add l
+  performs-hands l (code.read v) = hands-read v
+  performs-hands l code.commit = hands-commit
 
   -- nothing done
-  idle-acts : actedAs (handed (unacted t) table) ≡ alters t table idle
+  idle-acts : actedAs (handed (unacted t) table) ≡ alters t table idle 0
   unfolding actedAs eventOf
   idle-acts = refl
 
@@ -198,6 +216,26 @@ module _ (sum : Rule) (table : List ℤ) (t : Thread) where
         let b : attempted sum bytes table t (showOp op) ≡ performed sum table t (showOp op) = rw (attempted, k) in
         a ∙ (ap (λ (x : Outcome Op). attempted sum bytes table t (shownOp x)) o ∙ b)
 
+-- ---- no more sums are told than are noted, or one
+pub act-low : (sum : Rule) (table : List ℤ) (t : Thread) → t .over < 6000 → (op : Op) → act sum table t op .over < 6000
+unfolding act commit
+act-low sum table t l (code.push n) = omega arith
+act-low sum table t l code.add = go (eqb (t .begin) 0) (overflows (below t 2) (below t 1))
+  where
+    go : (b o : Bool) → cond b (cond o 1 0) 0 < 6000
+    go true true = omega arith
+    go true false = omega arith
+    go false o = omega arith
+act-low sum table t l (code.fork size) = omega arith
+act-low sum table t l code.begin = omega arith
+act-low sum table t l (code.read v) = omega arith
+act-low sum table t l (code.write v) = omega arith
+act-low sum table t l code.commit = go (ltb (firstStale 64 0 t table) 64)
+  where
+    go : (b : Bool) → committing b table t (firstStale 64 0 t table) .over < 6000
+    go true = omega arith
+    go false = l
+
 -- ---- in a state that fits
 there : (t : Thread) → exists t ≡ true → t .start ≡ 0 → ⊥
 there t e z = never (sym (ap (λ (n : ℕ). not (eqb n 0)) z) ∙ e)
@@ -213,6 +251,9 @@ base-low {bytes} {t} h = go (shape (h .region) (h .outer) (h .somewhere) (h .pla
     go (shape-open body c k r i e g) = let q = h .placed .base in let l = g .again .low in omega arith
 
 module _ {bytes : List ℕ} {j : Job} (c : IsCode bytes j) (sum : Rule) where
+  small : (s : State) → Fits bytes s → Typed s → (i : ℕ) → threadAt s i .over < 18446744073709551615
+  small s f y i = let l = low-fits c s f y i .over in omega arith
+
   step-performs : (s : State) → Fits bytes s → Typed s → (i : ℕ) → Exists s i → (threadAt s i .place ≡ threadAt s i .end → ⊥) → (op : Op) → opAt (drop (threadAt s i .place) bytes) ≡ done op → stepped sum bytes (s .registers) (threadAt s i) ≡ performed sum (s .registers) (threadAt s i) (showOp op)
   step-performs s f y i e ne op o = go (shows-of (held c (outer c) s f y i e))
     where
@@ -233,13 +274,13 @@ module _ {bytes : List ℕ} {j : Job} (c : IsCode bytes j) (sum : Rule) where
 
   -- the step on a thread's record is the instruction at its place, and each number that it hands back is that instruction's
   pub step-acts : (s : State) → Fits bytes s → Typed s → (i : ℕ) → Exists s i → (threadAt s i .place ≡ threadAt s i .end → ⊥) → (op : Op) → opAt (drop (threadAt s i .place) bytes) ≡ done op → stepped sum bytes (s .registers) (threadAt s i) ≡ handedAs (act sum (s .registers) (threadAt s i) op)
-  step-acts s f y i e ne op o = step-performs s f y i e ne op o ∙ performs-hands sum (s .registers) (threadAt s i) op
+  step-acts s f y i e ne op o = step-performs s f y i e ne op o ∙ performs-hands sum (s .registers) (threadAt s i) (small s f y i) op
 
   acted-as : (s : State) → Fits bytes s → Typed s → (i : ℕ) → Exists s i → (threadAt s i .place ≡ threadAt s i .end → ⊥) → (op : Op) → opAt (drop (threadAt s i .place) bytes) ≡ done op → actedAs (stepped sum bytes (s .registers) (threadAt s i)) ≡ act sum (s .registers) (threadAt s i) op
-  acted-as s f y i e ne op o = ap actedAs (step-performs s f y i e ne op o) ∙ performs-acts sum (s .registers) (threadAt s i) op
+  acted-as s f y i e ne op o = ap actedAs (step-performs s f y i e ne op o) ∙ performs-acts sum (s .registers) (threadAt s i) (small s f y i) op
 
   -- a pick that no instruction follows hands the record back idle
-  pub idle-step : (table : List ℤ) (t : Thread) → ((t .start ≡ 0) ⊎ (t .place ≡ t .end)) → stepped sum bytes table t ≡ handedAs (alters t table idle)
+  pub idle-step : (table : List ℤ) (t : Thread) → ((t .start ≡ 0) ⊎ (t .place ≡ t .end)) → stepped sum bytes table t ≡ handedAs (alters t table idle 0)
   unfolding handedAs eventNumber eventRegister turnNumber
   idle-step table t (inl e) = no-thread-stays sum table t bytes e
   idle-step table t (inr e) = ended-stays sum table t bytes e
@@ -249,12 +290,12 @@ module _ {bytes : List ℕ} {j : Job} (c : IsCode bytes j) (sum : Rule) where
   unfolding settle
   step-picks s f y count i l = go (exists (threadAt s i)) refl (eqb (threadAt s i .place) (threadAt s i .end)) refl
     where
-      still : stepped sum bytes (s .registers) (threadAt s i) ≡ handed (unacted (threadAt s i)) (s .registers) → record { state = s; event = idle } ≡ settle count s i (actedAs (stepped sum bytes (s .registers) (threadAt s i)))
+      still : stepped sum bytes (s .registers) (threadAt s i) ≡ handed (unacted (threadAt s i)) (s .registers) → record { state = s; event = idle; over = 0 } ≡ settle count s i (actedAs (stepped sum bytes (s .registers) (threadAt s i)))
       still e =
           sym
           (ap (λ (h : Handed). settle count s i (actedAs h)) e
           ∙ (ap (settle count s i) (idle-acts sum (s .registers) (threadAt s i))
-          ∙ ap (λ (ts : List Thread). record { state = record { registers = s .registers; threads = ts }; event = idle }) (set-getD (s .threads) i blank)))
+          ∙ ap (λ (ts : List Thread). record { state = record { registers = s .registers; threads = ts }; event = idle; over = 0 }) (set-getD (s .threads) i blank)))
 
       no-start : (b : Bool) → eqb (threadAt s i .start) 0 ≡ b → not b ≡ false → threadAt s i .start ≡ 0
       no-start true e f = eqb-true (threadAt s i .start) 0 e

@@ -15,9 +15,9 @@ use Rattle.machine.specs.Answers as answers
 use Rattle.machine.specs.declared.FreshReply.{FreshReply}
 use Rattle.machine.specs.declared.StepReply.{StepReply}
 use Rattle.machine.specs.declared.RunReply.{RunReply}
-use Rattle.machine.specs.Answers.{sumOf, rightLengths, fitting, freshOf, stepOf, runOf, freshReply, stepReply, runReply, freshSays, stepSays, runSays, Returned, returned, freshCall, stepCall, runCall, FreshAnswer, StepAnswer, RunAnswer, stepCounts, runCounts}
+use Rattle.machine.specs.Answers.{sumOf, Told, rightLengths, fitting, freshOf, stepOf, runOf, freshReply, stepReply, runReply, freshSays, stepSays, runSays, Returned, returned, freshCall, stepCall, runCall, FreshAnswer, StepAnswer, RunAnswer, stepCounts, runCounts}
 use Rattle.stm.specs.Events.{fromWrites, fromReads, fromTable, Event, idle, pushed, summed, forked, begun, looked, wrote, committed, sentBack, Counts, uncounted, tally, countsOf, eventNumber}
-use Rattle.stm.proofs.Counts.{event-of}
+use Rattle.stm.proofs.Counts.{event-of, same-counts}
 use Rattle.machine.proofs.Numbers.{never}
 use Rattle.machine.proofs.FitTests.{fits-exactly}
 use Rattle.machine.proofs.Fresh.{fresh-fits, fresh-typed}
@@ -255,17 +255,17 @@ fresh-says code s = by (readCode code) refl
         go true = refl
         go false = refl
 
-pub step-says : (code : List ℕ) (s : State) (i : ℕ) → stepSays (stepCall code s i .reply) ≡ mapped (λ (r : Stepped). r .event) (stepOf code s i)
+pub step-says : (code : List ℕ) (s : State) (i : ℕ) → stepSays (stepCall code s i .reply) ≡ mapped (λ (r : Stepped). record { event = r .event; over = r .over }) (stepOf code s i)
 unfolding stepCall stepOf
 step-says code s i = by (readCode code) refl
   where
-    by : (o : Outcome Job) → readCode code ≡ o → stepSays (returned (λ (r : Stepped). r .state) stepReply s (onward o (λ j. fitting code s (done (pick (sumOf j) code s i)))) .reply) ≡ mapped (λ (r : Stepped). r .event) (onward o (λ j. fitting code s (done (pick (sumOf j) code s i))))
+    by : (o : Outcome Job) → readCode code ≡ o → stepSays (returned (λ (r : Stepped). r .state) stepReply s (onward o (λ j. fitting code s (done (pick (sumOf j) code s i)))) .reply) ≡ mapped (λ (r : Stepped). record { event = r .event; over = r .over }) (onward o (λ j. fitting code s (done (pick (sumOf j) code s i))))
     by (refused n p) e = eleventh (λ m q. stepSays (stepReply (refused m q)) ≡ refused m q) code n p e refl
     by (done j) e = go (not (fits code s))
       where
-        go : (b : Bool) → stepSays (returned (λ (r : Stepped). r .state) stepReply s (refuse b 12 0 (done (pick (sumOf j) code s i))) .reply) ≡ mapped (λ (r : Stepped). r .event) (refuse b 12 0 (done (pick (sumOf j) code s i)))
+        go : (b : Bool) → stepSays (returned (λ (r : Stepped). r .state) stepReply s (refuse b 12 0 (done (pick (sumOf j) code s i))) .reply) ≡ mapped (λ (r : Stepped). record { event = r .event; over = r .over }) (refuse b 12 0 (done (pick (sumOf j) code s i)))
         go true = refl
-        go false = ap done (event-of (pick (sumOf j) code s i .event))
+        go false = ap (λ (e : Event). done (record { event = e; over = pick (sumOf j) code s i .over })) (event-of (pick (sumOf j) code s i .event))
 
 pub run-says : (code : List ℕ) (s : State) (is : List ℕ) → runSays (runCall code s is .reply) ≡ mapped (λ (r : Ran). countsOf (r .events)) (runOf code s is)
 unfolding runCall runOf
@@ -281,22 +281,22 @@ run-says code s is = by (readCode code) refl
         go false false = refl
 
 -- ---- the counts that an answer reports are those of its picks
-pub step-reports : (r : Stepped) (i : ℕ) → stepCounts (stepReply (done r)) ≡ countsOf (record { thread = i; event = r .event } ∷ [])
+pub step-reports : (r : Stepped) (i : ℕ) → stepCounts (stepReply (done r)) ≡ countsOf (record { thread = i; event = r .event; over = r .over } ∷ [])
 unfolding countsOf tally eventNumber
 step-reports r i = by (r .event)
   where
-    by : (e : Event) → stepCounts (stepReply (done (record { state = r .state; event = e }))) ≡ countsOf (record { thread = i; event = e } ∷ [])
-    by idle = refl
-    by pushed = refl
-    by (summed inside) = refl
-    by forked = refl
-    by begun = refl
-    by (looked fromWrites) = refl
-    by (looked fromReads) = refl
-    by (looked fromTable) = refl
-    by wrote = refl
-    by committed = refl
-    by (sentBack v) = refl
+    by : (e : Event) → stepCounts (stepReply (done (record { state = r .state; event = e; over = r .over }))) ≡ countsOf (record { thread = i; event = e; over = r .over } ∷ [])
+    by idle = same-counts refl refl refl refl (omega arith)
+    by pushed = same-counts refl refl refl refl (omega arith)
+    by (summed inside) = same-counts refl refl refl refl (omega arith)
+    by forked = same-counts refl refl refl refl (omega arith)
+    by begun = same-counts refl refl refl refl (omega arith)
+    by (looked fromWrites) = same-counts refl refl refl refl (omega arith)
+    by (looked fromReads) = same-counts refl refl refl refl (omega arith)
+    by (looked fromTable) = same-counts refl refl refl refl (omega arith)
+    by wrote = same-counts refl refl refl refl (omega arith)
+    by committed = same-counts refl refl refl refl (omega arith)
+    by (sentBack v) = same-counts refl refl refl refl (omega arith)
 
 pub run-reports : (r : Ran) → runCounts (runReply (done r)) ≡ countsOf (r .events)
 run-reports r = refl
@@ -306,12 +306,12 @@ abbrev pub counting : {A : Type 0} → (A → Counts) → Outcome A → Counts
 counting f (refused number place) = uncounted
 counting f (done a) = f a
 
-pub step-call-counts : (code : List ℕ) (s : State) (i : ℕ) → stepCounts (stepCall code s i .reply) ≡ counting (λ (r : Stepped). countsOf (record { thread = i; event = r .event } ∷ [])) (stepOf code s i)
+pub step-call-counts : (code : List ℕ) (s : State) (i : ℕ) → stepCounts (stepCall code s i .reply) ≡ counting (λ (r : Stepped). countsOf (record { thread = i; event = r .event; over = r .over } ∷ [])) (stepOf code s i)
 unfolding stepCall stepOf
 step-call-counts code s i = by (readCode code) refl
   where
     result : Outcome Stepped → Type 0
-    result o = stepCounts (returned (λ (r : Stepped). r .state) stepReply s o .reply) ≡ counting (λ (r : Stepped). countsOf (record { thread = i; event = r .event } ∷ [])) o
+    result o = stepCounts (returned (λ (r : Stepped). r .state) stepReply s o .reply) ≡ counting (λ (r : Stepped). countsOf (record { thread = i; event = r .event; over = r .over } ∷ [])) o
 
     by : (o : Outcome Job) → readCode code ≡ o → result (onward o (λ j. fitting code s (done (pick (sumOf j) code s i))))
     by (refused n p) e = eleventh (λ m q. stepCounts (stepReply (refused m q)) ≡ uncounted) code n p e refl

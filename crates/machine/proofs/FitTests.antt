@@ -7,8 +7,8 @@ use mathlib.Core.List.{List, [], _∷_, _++_}
 use mathlib.Core.Option.{Option, none, some}
 use native.Mathlib.Decide.{decLt, ℕ-discrete}
 use native.Mathlib.Omega.{arith}
-use borrow.Author.Tests.{eqb-true, eq-eqb, lt-ltb, le-ltb, ltb-false}
-use lib.Dec.{eqb, ltb}
+use borrow.Author.Tests.{eqb-true, eq-eqb, lt-ltb, le-ltb, ltb-false, leb-true, le-leb}
+use lib.Dec.{eqb, ltb, leb}
 use lib.IntN.{ℤ, pos, negsuc}
 use lib.ListN.{length, drop, getD, getD-replicate, length-replicate, List·getD-eq-default}
 use lib.Seq.{ext-getD}
@@ -81,6 +81,7 @@ record Agrees (t : Thread) (w : Walked) : Type 0 where
   height : t .height ≡ w .height
   begin : t .begin ≡ w .begin
   base : t .base ≡ w .base
+  over : t .over ≤ w .adds
   no-reads : w .begin ≡ 0 → t .reads ≡ registers.none
   no-writes : w .begin ≡ 0 → t .writes ≡ registers.none
 
@@ -91,21 +92,24 @@ agrees t w e =
     let b3 = eqb (t .base) (w .base) in
     let b5 = eqb (t .reads) registers.none in
     let b6 = eqb (t .writes) registers.none in
+    let b7 = leb (t .over) (w .adds) in
     let b4 = not (eqb (w .begin) 0) || (b5 && b6) in
-    let r1 = second b1 (b2 && (b3 && b4)) e in
-    let r2 = second b2 (b3 && b4) r1 in
-    let r3 = second b3 b4 r2 in
+    let r1 = second b1 (b2 && (b3 && (b7 && b4))) e in
+    let r2 = second b2 (b3 && (b7 && b4)) r1 in
+    let r3 = second b3 (b7 && b4) r2 in
+    let r4 = second b7 b4 r3 in
     record {
-      height = eqb-true (t .height) (w .height) (first b1 (b2 && (b3 && b4)) e);
-      begin = eqb-true (t .begin) (w .begin) (first b2 (b3 && b4) r1);
-      base = eqb-true (t .base) (w .base) (first b3 b4 r2);
-      no-reads = λ z. eqb-true (t .reads) registers.none (first b5 b6 (rw (eq-eqb (w .begin) 0 z) at r3));
-      no-writes = λ z. eqb-true (t .writes) registers.none (second b5 b6 (rw (eq-eqb (w .begin) 0 z) at r3));
+      height = eqb-true (t .height) (w .height) (first b1 (b2 && (b3 && (b7 && b4))) e);
+      begin = eqb-true (t .begin) (w .begin) (first b2 (b3 && (b7 && b4)) r1);
+      base = eqb-true (t .base) (w .base) (first b3 (b7 && b4) r2);
+      over = leb-true (t .over) (w .adds) (first b7 b4 r3);
+      no-reads = λ z. eqb-true (t .reads) registers.none (first b5 b6 (rw (eq-eqb (w .begin) 0 z) at r4));
+      no-writes = λ z. eqb-true (t .writes) registers.none (second b5 b6 (rw (eq-eqb (w .begin) 0 z) at r4));
     }
 
 agree : (t : Thread) (w : Walked) → Agrees t w → agreesWith t (some w) ≡ true
 agree t w a =
-    rw (eq-eqb (t .height) (w .height) (a .height), eq-eqb (t .begin) (w .begin) (a .begin), eq-eqb (t .base) (w .base) (a .base))
+    rw (eq-eqb (t .height) (w .height) (a .height), eq-eqb (t .begin) (w .begin) (a .begin), eq-eqb (t .base) (w .base) (a .base), le-leb (t .over) (w .adds) (a .over))
     (go (eqb (w .begin) 0) refl)
   where
     go : (b : Bool) → eqb (w .begin) 0 ≡ b → (not b || (eqb (t .reads) registers.none && eqb (t .writes) registers.none)) ≡ true
@@ -143,6 +147,7 @@ is-placed bytes t y e = go (walkTo bytes t) refl (first (agreesWith t (walkTo by
           height = a .height;
           begin = a .begin;
           base = a .base;
+          over = a .over;
           no-reads = a .no-reads;
           no-writes = a .no-writes;
           reads-free = all-freed (member (t .reads)) (t .readlog) (y .readlog) (first b2 (b3 && b4) r1);
@@ -165,7 +170,7 @@ place bytes t p =
     agreed : agreesWith t (walkTo bytes t) ≡ true
     agreed =
         rw (walked-found bytes t (p .walked) (p .walks))
-        (agree t (p .walked) (record { height = p .height; begin = p .begin; base = p .base; no-reads = p .no-reads; no-writes = p .no-writes }))
+        (agree t (p .walked) (record { height = p .height; begin = p .begin; base = p .base; over = p .over; no-reads = p .no-reads; no-writes = p .no-writes }))
 
 -- ---- a record of no thread
 zeroed : (ns : List ℤ) → length ns ≡ 64 → free (λ n. false) ns ≡ true → ns ≡ zeros
@@ -189,6 +194,7 @@ is-blank t y e =
     let b4 = eqb (t .height) 0 in
     let b5 = eqb (t .begin) 0 in
     let b6 = eqb (t .base) 0 in
+    let b0 = eqb (t .over) 0 in
     let b7 = eqb (t .reads) 0 in
     let b8 = eqb (t .writes) 0 in
     let b9 = free (λ n. false) (t .cells) in
@@ -198,7 +204,8 @@ is-blank t y e =
     let r8 = b9 && r9 in
     let r7 = b8 && r8 in
     let r6 = b7 && r7 in
-    let r5 = b6 && r6 in
+    let r0 = b0 && r6 in
+    let r5 = b6 && r0 in
     let r4 = b5 && r5 in
     let r3 = b4 && r4 in
     let r2 = b3 && r3 in
@@ -208,7 +215,8 @@ is-blank t y e =
     let e3 = second b3 r3 e2 in
     let e4 = second b4 r4 e3 in
     let e5 = second b5 r5 e4 in
-    let e6 = second b6 r6 e5 in
+    let e0 = second b6 r0 e5 in
+    let e6 = second b0 r6 e0 in
     let e7 = second b7 r7 e6 in
     let e8 = second b8 r8 e7 in
     let e9 = second b9 r9 e8 in
@@ -219,7 +227,8 @@ is-blank t y e =
       height = eqb-true (t .height) 0 (first b4 r4 e3) i;
       cells = zeroed (t .cells) (y .cells) (first b9 r9 e8) i;
       begin = eqb-true (t .begin) 0 (first b5 r5 e4) i;
-      base = eqb-true (t .base) 0 (first b6 r6 e5) i;
+      base = eqb-true (t .base) 0 (first b6 r0 e5) i;
+      over = eqb-true (t .over) 0 (first b0 r6 e0) i;
       reads = eqb-true (t .reads) 0 (first b7 r7 e6) i;
       readlog = zeroed (t .readlog) (y .readlog) (first b10 b11 e9) i;
       writes = eqb-true (t .writes) 0 (first b8 r8 e7) i;

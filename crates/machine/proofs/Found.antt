@@ -62,7 +62,7 @@ module _ (sum : Rule) (bytes : List ℕ) (count : ℕ) (s : State) (i : ℕ) whe
   unfolding settle
   pick-does = go (ltb i (length (s .threads))) refl (exists (threadAt s i)) refl (eqb (threadAt s i .place) (threadAt s i .end)) refl
     where
-      still : pickAmong sum bytes count s i ≡ record { state = s; event = idle } → Does sum bytes s i (pickAmong sum bytes count s i .event)
+      still : pickAmong sum bytes count s i ≡ record { state = s; event = idle; over = 0 } → Does sum bytes s i (pickAmong sum bytes count s i .event)
       still e = subst (λ (r : Stepped). Does sum bytes s i (r .event)) (sym e) nothing
 
       at-place : (o : Outcome Op) → opAt (drop (threadAt s i .place) bytes) ≡ o → Does sum bytes s i (doing sum count s i (threadAt s i) o .event)

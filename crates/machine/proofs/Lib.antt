@@ -22,3 +22,5 @@ pub mod Ranges
 pub mod Tallies
 pub mod Found
 pub mod Actings
+pub mod Notes
+pub mod Cuts

@@ -25,7 +25,7 @@ use Rattle.machine.proofs.Picks.{missing-idle, ended-idle, does}
 use Rattle.machine.proofs.Codes.{stands-end, stands-inside, ready-op}
 use Rattle.machine.proofs.Showings.{Shows, shut, open′}
 use Rattle.machine.proofs.Simulates.{Held, Born, nobody, child, Simulated, from-outside, from-inside}
-use Rattle.stm.specs.InnerTasks.{Task, outside, over, Did, System, taskAt, started, put, did, next, stepOutside, stepTask}
+use Rattle.stm.specs.InnerTasks.{Task, outside, ended, Did, System, taskAt, started, put, did, next, stepOutside, stepTask}
 use Rattle.stm.specs.InnerMeaning.{Outside, Inside}
 use Rattle.word.specs.Sum.{Rule}
 
@@ -43,11 +43,12 @@ pub record Mirrors (bytes : List ℕ) (s : State) (sys : System registerCells) :
 -- what a pick leaves of both
 pub record Mirrored (bytes : List ℕ) (sum : Rule) (s : State) (sys : System registerCells) (i : ℕ) : Type 0 where
   pub event : pick sum bytes s i .event ≡ did registerCells sum sys i .event
+  pub over : pick sum bytes s i .over ≡ did registerCells sum sys i .over
   pub mirrors : Mirrors bytes (pick sum bytes s i .state) (next registerCells sum sys i)
 
 -- a pick that is not idle does the instruction at the thread's place
 pub data Picked (bytes : List ℕ) (sum : Rule) (s : State) (sys : System registerCells) (i : ℕ) (old : List Child) : Type 0 where
-  stood : pick sum bytes s i ≡ record { state = s; event = idle } → did registerCells sum sys i ≡ record { task = taskAt registerCells sys i; table = sys .table; children = []; event = idle } → Picked bytes sum s sys i old
+  stood : pick sum bytes s i ≡ record { state = s; event = idle; over = 0 } → did registerCells sum sys i ≡ record { task = taskAt registerCells sys i; table = sys .table; children = []; event = idle; over = 0 } → Picked bytes sum s sys i old
   went : (r : Stepped) → pick sum bytes s i ≡ r → Exists s i → Simulated bytes s i (threadAt s i) old r (did registerCells sum sys i) → Picked bytes sum s sys i old
 
 module _ (bytes : List ℕ) (sum : Rule) where
@@ -78,7 +79,7 @@ module _ (bytes : List ℕ) (sum : Rule) where
       ended σ q z =
           stood
           (ended-idle sum bytes (numberOf (s .threads)) s i z)
-          (ap (λ (y : Task registerCells). stepTask registerCells sum (sys .table) y) q ∙ ap (λ (y : Task registerCells). record { task = y; table = sys .table; children = []; event = idle }) (sym q))
+          (ap (λ (y : Task registerCells). stepTask registerCells sum (sys .table) y) q ∙ ap (λ (y : Task registerCells). record { task = y; table = sys .table; children = []; event = idle; over = 0 }) (sym q))
 
       go : (t : Task registerCells) → taskAt registerCells sys i ≡ t → Shows bytes (threadAt s i) t → Picked bytes sum s sys i (h .placed .walked .children)
       go t q (shut ε r o z) = ended (stackFrom (threadAt s i .cells) 0 (threadAt s i .height)) q (stands-end (r .stands))
@@ -92,7 +93,7 @@ module _ (bytes : List ℕ) (sum : Rule) where
 pub same-start : (a b : Thread) → a .start ≡ b .start → exists b ≡ true → exists a ≡ true
 same-start a b e x = ap (λ (n : ℕ). not (eqb n 0)) e ∙ x
 
-getD-front : (xs : List (Task registerCells)) (y : Task registerCells) (k : ℕ) → k < length xs → getD (xs ++ (y ∷ [])) k (over registerCells) ≡ getD xs k (over registerCells)
+getD-front : (xs : List (Task registerCells)) (y : Task registerCells) (k : ℕ) → k < length xs → getD (xs ++ (y ∷ [])) k (ended registerCells) ≡ getD xs k (ended registerCells)
 getD-front [] y k l = absurd (omega arith)
 getD-front (x ∷ xs) y zero l = refl
 getD-front (x ∷ xs) y (suc k) l = getD-front xs y k (omega arith)
@@ -139,19 +140,19 @@ module _ {bytes : List ℕ} where
           ap (λ (y : ℕ). exists (getD (set (s .threads) i t) y blank)) (long ∙ sym (m .number))
           ∙ (ap (λ (y : Thread). exists y) (getD-set-other (s .threads) i (numberOf (s .threads)) t blank (λ q. absurd (let z = m .number in omega arith))) ∙ at-end (s .threads))
 
-      each-shown : (k : ℕ) → k < length (set (sys .tasks) i task) → Shows bytes (getD (set (s .threads) i t) k blank) (getD (set (sys .tasks) i task) k (over registerCells))
+      each-shown : (k : ℕ) → k < length (set (sys .tasks) i task) → Shows bytes (getD (set (s .threads) i t) k blank) (getD (set (sys .tasks) i task) k (ended registerCells))
       each-shown k less = go (eqb k i) refl
         where
-          go : (b : Bool) → eqb k i ≡ b → Shows bytes (getD (set (s .threads) i t) k blank) (getD (set (sys .tasks) i task) k (over registerCells))
+          go : (b : Bool) → eqb k i ≡ b → Shows bytes (getD (set (s .threads) i t) k blank) (getD (set (sys .tasks) i task) k (ended registerCells))
           go true q =
               let z : k ≡ i = eqb-true k i q in
               let a : getD (set (s .threads) i t) k blank ≡ t = at-i k z in
-              let b : getD (set (sys .tasks) i task) k (over registerCells) ≡ task = subst (λ (y : ℕ). getD (set (sys .tasks) i task) y (over registerCells) ≡ task) (sym z) (getD-set-same (sys .tasks) i task (over registerCells) l) in
+              let b : getD (set (sys .tasks) i task) k (ended registerCells) ≡ task = subst (λ (y : ℕ). getD (set (sys .tasks) i task) y (ended registerCells) ≡ task) (sym z) (getD-set-same (sys .tasks) i task (ended registerCells) l) in
               subst (λ (y : Task registerCells). Shows bytes (getD (set (s .threads) i t) k blank) y) (sym b) (subst (λ (y : Thread). Shows bytes y task) (sym a) x)
           go false q =
               let z = eqb-false k i q in
               let a = getD-set-other (s .threads) i k t blank z in
-              let b = getD-set-other (sys .tasks) i k task (over registerCells) z in
+              let b = getD-set-other (sys .tasks) i k task (ended registerCells) z in
               subst (λ (y : Task registerCells). Shows bytes (getD (set (s .threads) i t) k blank) y) (sym b) (subst (λ (y : Thread). Shows bytes y (taskAt registerCells sys k)) (sym a) (m .shown k (omega (arith, long))))
 
   -- a child's record and its task come behind
@@ -186,13 +187,13 @@ module _ {bytes : List ℕ} where
       last : exists (getD (set (s .threads) n t) (length (sys .tasks ++ (task ∷ []))) blank) ≡ false
       last = ap (λ (y : ℕ). exists (getD (set (s .threads) n t) y blank)) long ∙ (ap (λ (y : Thread). exists y) (getD-set-other (s .threads) n (suc n) t blank (λ q. absurd (omega arith))) ∙ none)
 
-      each-shown : (k : ℕ) → k < length (sys .tasks ++ (task ∷ [])) → Shows bytes (getD (set (s .threads) n t) k blank) (getD (sys .tasks ++ (task ∷ [])) k (over registerCells))
+      each-shown : (k : ℕ) → k < length (sys .tasks ++ (task ∷ [])) → Shows bytes (getD (set (s .threads) n t) k blank) (getD (sys .tasks ++ (task ∷ [])) k (ended registerCells))
       each-shown k less = go (eqb k n) refl
         where
-          go : (b : Bool) → eqb k n ≡ b → Shows bytes (getD (set (s .threads) n t) k blank) (getD (sys .tasks ++ (task ∷ [])) k (over registerCells))
+          go : (b : Bool) → eqb k n ≡ b → Shows bytes (getD (set (s .threads) n t) k blank) (getD (sys .tasks ++ (task ∷ [])) k (ended registerCells))
           go true q =
               let z : k ≡ length (sys .tasks) = eqb-true k n q ∙ m .number in
-              let b : getD (sys .tasks ++ (task ∷ [])) k (over registerCells) ≡ task = subst (λ (y : ℕ). getD (sys .tasks ++ (task ∷ [])) y (over registerCells) ≡ task) (sym z) (getD-append-seam (sys .tasks) task [] (over registerCells)) in
+              let b : getD (sys .tasks ++ (task ∷ [])) k (ended registerCells) ≡ task = subst (λ (y : ℕ). getD (sys .tasks ++ (task ∷ [])) y (ended registerCells) ≡ task) (sym z) (getD-append-seam (sys .tasks) task [] (ended registerCells)) in
               subst (λ (y : Task registerCells). Shows bytes (getD (set (s .threads) n t) k blank) y) (sym b) (subst (λ (y : Thread). Shows bytes y task) (sym (at-n k (eqb-true k n q))) x)
           go false q =
               let z = eqb-false k n q in
@@ -201,9 +202,9 @@ module _ {bytes : List ℕ} where
               subst (λ (y : Task registerCells). Shows bytes (getD (set (s .threads) n t) k blank) y) (sym (getD-front (sys .tasks) task k g)) (subst (λ (y : Thread). Shows bytes y (taskAt registerCells sys k)) (sym (getD-set-other (s .threads) n k t blank z)) (m .shown k g))
 
 -- ---- a pick
-over-idle : (sum : Rule) (table : List ℤ) (t : Task registerCells) → t ≡ over registerCells → stepTask registerCells sum table t ≡ record { task = t; table = table; children = []; event = idle }
+over-idle : (sum : Rule) (table : List ℤ) (t : Task registerCells) → t ≡ ended registerCells → stepTask registerCells sum table t ≡ record { task = t; table = table; children = []; event = idle; over = 0 }
 unfolding stepTask stepOutside
-over-idle sum table t e = ap (λ (x : Task registerCells). stepTask registerCells sum table x) e ∙ ap (λ (x : Task registerCells). record { task = x; table = table; children = []; event = idle }) (sym e)
+over-idle sum table t e = ap (λ (x : Task registerCells). stepTask registerCells sum table x) e ∙ ap (λ (x : Task registerCells). record { task = x; table = table; children = []; event = idle; over = 0 }) (sym e)
 
 pub spawned-exists : (start end : ℕ) → 1 ≤ start → exists (spawned start end) ≡ true
 unfolding spawned
@@ -215,14 +216,15 @@ spawned-shows start end k r o = shut k r o refl
 
 module _ (bytes : List ℕ) (sum : Rule) where
   -- a pick that leaves both as they were
-  still : (s : State) (sys : System registerCells) → Mirrors bytes s sys → (i : ℕ) → pick sum bytes s i ≡ record { state = s; event = idle } → did registerCells sum sys i ≡ record { task = taskAt registerCells sys i; table = sys .table; children = []; event = idle } → Mirrored bytes sum s sys i
+  still : (s : State) (sys : System registerCells) → Mirrors bytes s sys → (i : ℕ) → pick sum bytes s i ≡ record { state = s; event = idle; over = 0 } → did registerCells sum sys i ≡ record { task = taskAt registerCells sys i; table = sys .table; children = []; event = idle; over = 0 } → Mirrored bytes sum s sys i
   unfolding next
   still s sys m i p d =
       let a : put registerCells sys i (did registerCells sum sys i) ≡ record { table = sys .table; tasks = set (sys .tasks) i (taskAt registerCells sys i) ++ [] } = ap (λ (x : Did registerCells). put registerCells sys i x) d in
-      let b : set (sys .tasks) i (taskAt registerCells sys i) ++ [] ≡ sys .tasks = append-nil (set (sys .tasks) i (taskAt registerCells sys i)) ∙ set-getD (sys .tasks) i (over registerCells) in
+      let b : set (sys .tasks) i (taskAt registerCells sys i) ++ [] ≡ sys .tasks = append-nil (set (sys .tasks) i (taskAt registerCells sys i)) ∙ set-getD (sys .tasks) i (ended registerCells) in
       let c : put registerCells sys i (did registerCells sum sys i) ≡ sys = a ∙ ap (λ (x : List (Task registerCells)). record { table = sys .table; tasks = x }) b in
       record {
         event = ap (λ (x : Stepped). x .event) p ∙ sym (ap (λ (x : Did registerCells). x .event) d);
+        over = ap (λ (x : Stepped). x .over) p ∙ sym (ap (λ (x : Did registerCells). x .over) d);
         mirrors = subst (λ (x : System registerCells). Mirrors bytes (pick sum bytes s i .state) x) (sym c) (subst (λ (x : Stepped). Mirrors bytes (x .state) sys) (sym p) m);
       }
 
@@ -250,12 +252,12 @@ module _ (bytes : List ℕ) (sum : Rule) where
           (grown (record { registers = r .state .registers; threads = set (s .threads) i (x .thread) }) (record { table = r .state .registers; tasks = set (sys .tasks) i (d .task) }) one (subst (λ (y : ℕ). y < 16) (sym number) (f k refl)) behind (spawned start end) (outside k []) (spawned-exists start end there) (spawned-shows start end k ready o))
 
   -- a number with no thread is idle in both
-  pub idle-missing : (s : State) (sys : System registerCells) → Mirrors bytes s sys → ((i : ℕ) → Exists s (suc i) → Exists s i) → (i : ℕ) → length (sys .tasks) ≤ i → (pick sum bytes s i ≡ record { state = s; event = idle }) × (did registerCells sum sys i ≡ record { task = taskAt registerCells sys i; table = sys .table; children = []; event = idle })
+  pub idle-missing : (s : State) (sys : System registerCells) → Mirrors bytes s sys → ((i : ℕ) → Exists s (suc i) → Exists s i) → (i : ℕ) → length (sys .tasks) ≤ i → (pick sum bytes s i ≡ record { state = s; event = idle; over = 0 }) × (did registerCells sum sys i ≡ record { task = taskAt registerCells sys i; table = sys .table; children = []; event = idle; over = 0 })
   idle-missing s sys m gap i l = go (exists (threadAt s i)) refl
     where
-      go : (b : Bool) → exists (threadAt s i) ≡ b → (pick sum bytes s i ≡ record { state = s; event = idle }) × (did registerCells sum sys i ≡ record { task = taskAt registerCells sys i; table = sys .table; children = []; event = idle })
+      go : (b : Bool) → exists (threadAt s i) ≡ b → (pick sum bytes s i ≡ record { state = s; event = idle; over = 0 }) × (did registerCells sum sys i ≡ record { task = taskAt registerCells sys i; table = sys .table; children = []; event = idle; over = 0 })
       go true e = absurd (let a = exists-below s gap i e in let z = m .number in omega arith)
-      go false e = (missing-idle sum bytes (numberOf (s .threads)) s i e, over-idle sum (sys .table) (taskAt registerCells sys i) (List·getD-eq-default (sys .tasks) (over registerCells) l))
+      go false e = (missing-idle sum bytes (numberOf (s .threads)) s i e, over-idle sum (sys .table) (taskAt registerCells sys i) (List·getD-eq-default (sys .tasks) (ended registerCells) l))
 
   -- a pick does the same to a state and to the system that it shows
   pub pick-mirrors : (s : State) (sys : System registerCells) → Mirrors bytes s sys → ((i : ℕ) → Exists s (suc i) → Exists s i) → (i : ℕ) → (Exists s i → Held bytes (threadAt s i)) → ((k : Code) → did registerCells sum sys i .children ≡ k ∷ [] → numberOf (s .threads) < 16) → Mirrored bytes sum s sys i
@@ -270,6 +272,7 @@ module _ (bytes : List ℕ) (sum : Rule) where
       by old l (went r p e x) =
           record {
             event = ap (λ (y : Stepped). y .event) p ∙ x .event;
+            over = ap (λ (y : Stepped). y .over) p ∙ x .over;
             mirrors = subst (λ (y : Stepped). Mirrors bytes (y .state) (put registerCells sys i (did registerCells sum sys i))) (sym p) (stepped s sys m gap i l old r (did registerCells sum sys i) room x);
           }
 

@@ -67,21 +67,21 @@ or-true true = refl
 or-true false = refl
 
 module _ (sum : Rule) (bytes : List ℕ) (count : ℕ) (s : State) (i : ℕ) where
-  pub no-record : ltb i (length (s .threads)) ≡ false → pickAmong sum bytes count s i ≡ record { state = s; event = idle }
+  pub no-record : ltb i (length (s .threads)) ≡ false → pickAmong sum bytes count s i ≡ record { state = s; event = idle; over = 0 }
   unfolding pickAmong
   no-record e = rw (pickAmong, e)
 
   -- "A pick of a thread that does not exist .. is idle"
-  pub missing-idle : exists (threadAt s i) ≡ false → pickAmong sum bytes count s i ≡ record { state = s; event = idle }
+  pub missing-idle : exists (threadAt s i) ≡ false → pickAmong sum bytes count s i ≡ record { state = s; event = idle; over = 0 }
   unfolding pickAmong
   missing-idle e = rw (pickAmong, e, or-true (not (ltb i (length (s .threads)))))
 
   -- "or has ended"
-  pub ended-idle : threadAt s i .place ≡ threadAt s i .end → pickAmong sum bytes count s i ≡ record { state = s; event = idle }
+  pub ended-idle : threadAt s i .place ≡ threadAt s i .end → pickAmong sum bytes count s i ≡ record { state = s; event = idle; over = 0 }
   unfolding pickAmong
   ended-idle z = go (ltb i (length (s .threads))) refl (exists (threadAt s i)) refl
     where
-      go : (a : Bool) → ltb i (length (s .threads)) ≡ a → (b : Bool) → exists (threadAt s i) ≡ b → pickAmong sum bytes count s i ≡ record { state = s; event = idle }
+      go : (a : Bool) → ltb i (length (s .threads)) ≡ a → (b : Bool) → exists (threadAt s i) ≡ b → pickAmong sum bytes count s i ≡ record { state = s; event = idle; over = 0 }
       go false l b e = no-record l
       go true l false e = missing-idle e
       go true l true e = rw (pickAmong, l, e, z, eq-eqb (threadAt s i .end) (threadAt s i .end) refl)
@@ -94,7 +94,7 @@ module _ (sum : Rule) (bytes : List ℕ) (count : ℕ) (s : State) (i : ℕ) whe
   pub does : (op : Op) → ltb i (length (s .threads)) ≡ true → exists (threadAt s i) ≡ true → (threadAt s i .place ≡ threadAt s i .end → ⊥) → opAt (drop (threadAt s i .place) bytes) ≡ done op → pickAmong sum bytes count s i ≡ settle count s i (act sum (s .registers) (threadAt s i) op)
   does op l e z f = busy l e z ∙ ap (λ (o : Outcome Op). doing sum count s i (threadAt s i) o) f
 
-  idle-lawful : pickAmong sum bytes count s i ≡ record { state = s; event = idle } → PickLawful s (pickAmong sum bytes count s i)
+  idle-lawful : pickAmong sum bytes count s i ≡ record { state = s; event = idle; over = 0 } → PickLawful s (pickAmong sum bytes count s i)
   idle-lawful e = subst (λ (r : Stepped). PickLawful s r) (sym e) (record { still = λ x. refl; table = λ x. refl })
 
   pick-lawful : PickLawful s (pickAmong sum bytes count s i)

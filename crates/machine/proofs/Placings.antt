@@ -1,6 +1,6 @@
 -- Each instruction leaves a thread's record as one that fits, and of its type. Assumes nothing.
 use Prim.Native.Nat.{ℕ, zero, suc, _+_, _-_, _≤_, _<_}
-use mathlib.Core.Bool.{Bool, true, false}
+use mathlib.Core.Bool.{Bool, true, false, cond}
 use mathlib.Core.Path.{_≡_, refl, sym, ap, subst, _∙_}
 use mathlib.Core.List.{List, [], _∷_, _++_}
 use native.Mathlib.Omega.{arith}
@@ -11,7 +11,7 @@ use lib.IntN.{ℤ, pos}
 use lib.ListN.{length, drop, getD, set, take, replicate, length-set, length-append, length-replicate}
 use lib.Seq.{getD-set-same, getD-set-other, length-take-le}
 use Rattle.thread.specs.declared.Thread.{Thread}
-use Rattle.thread.specs.Threads.{zeros, spawned, push, add, begin, below, sourceOf, readFrom, noted, read, write, closed}
+use Rattle.thread.specs.Threads.{sumNoted, zeros, spawned, push, add, begin, below, sourceOf, readFrom, noted, read, write, closed}
 use Rattle.stm.specs.Events.{Source, fromWrites, fromReads, fromTable}
 use Rattle.machine.specs.Fits.{Walked, unmoved, walkOp, nextPlace, Walks, starts, passes, Placed, TypedThread}
 use Rattle.machine.specs.InnerStands.{undone}
@@ -19,7 +19,8 @@ use Rattle.code.specs.Ops.{Op, opAt}
 use Rattle.code.specs.Ops as code
 use Rattle.script.specs.Outcome.{done}
 use Rattle.word.specs.Registers.{member, with}
-use Rattle.word.specs.Sum.{Rule}
+use Rattle.word.specs.Sum.{Rule, overflows, overOf}
+use Rattle.machine.proofs.Walking.{no-adds}
 use Rattle.word.proofs.Sets.{member-same, member-other}
 
 -- ---- lists of 64 numbers
@@ -103,15 +104,16 @@ module _ {bytes : List ℕ} (t : Thread) (p : Placed bytes t) (inside : t .place
   pushed-free n i l f = getD-set-other (t .cells) (t .height) i n (pos 0) (λ e. absurd (omega arith)) ∙ f
 
   -- PUSH, and FORK's 0
-  unfoldable pub placed-push : (op : Op) (n : ℤ) → opAt (drop (t .place) bytes) ≡ done op → walkOp op (t .place) (p .walked) .height ≡ suc (p .walked .height) → walkOp op (t .place) (p .walked) .begin ≡ p .walked .begin → walkOp op (t .place) (p .walked) .base ≡ p .walked .base → Placed bytes (push n (nextPlace op (t .place)) t)
+  unfoldable pub placed-push : (op : Op) (n : ℤ) → opAt (drop (t .place) bytes) ≡ done op → walkOp op (t .place) (p .walked) .height ≡ suc (p .walked .height) → walkOp op (t .place) (p .walked) .begin ≡ p .walked .begin → walkOp op (t .place) (p .walked) .base ≡ p .walked .base → walkOp op (t .place) (p .walked) .adds ≡ p .walked .adds → Placed bytes (push n (nextPlace op (t .place)) t)
   unfolding push
-  placed-push op n e h b c =
+  placed-push op n e h b c a =
       record {
         walked = walkOp op (t .place) (p .walked);
         walks = passes (p .walks) inside e;
         height = ap suc (p .height) ∙ sym h;
         begin = p .begin ∙ sym b;
         base = p .base ∙ sym c;
+        over = let o = p .over in omega arith;
         no-reads = λ z. p .no-reads (sym b ∙ z);
         no-writes = λ z. p .no-writes (sym b ∙ z);
         reads-free = p .reads-free;
@@ -128,6 +130,7 @@ module _ {bytes : List ℕ} (t : Thread) (p : Placed bytes t) (inside : t .place
         height = ap (λ (h : ℕ). h - 1) (p .height);
         begin = p .begin;
         base = p .base;
+        over = noted-low;
         no-reads = p .no-reads;
         no-writes = p .no-writes;
         reads-free = p .reads-free;
@@ -135,6 +138,19 @@ module _ {bytes : List ℕ} (t : Thread) (p : Placed bytes t) (inside : t .place
         cells-free = above;
       }
     where
+      most-one : (b : Bool) → cond b 1 0 ≤ 1
+      most-one true = omega arith
+      most-one false = omega arith
+
+      counts : (b : Bool) (over adds n : ℕ) → n ≤ 1 → over ≤ adds → (b ≡ true → adds ≡ 0) → cond b over (over + n) ≤ cond b 0 (suc adds)
+      counts true over adds n l o z = let y = z refl in omega arith
+      counts false over adds n l o z = omega arith
+
+      noted-low : sumNoted t ≤ cond (eqb (p .walked .begin) 0) 0 (suc (p .walked .adds))
+      noted-low =
+          subst (λ (k : ℕ). cond (eqb k 0) (t .over) (t .over + overOf (below t 2) (below t 1)) ≤ cond (eqb (p .walked .begin) 0) 0 (suc (p .walked .adds))) (sym (p .begin))
+          (counts (eqb (p .walked .begin) 0) (t .over) (p .walked .adds) (overOf (below t 2) (below t 1)) (most-one (overflows (below t 2) (below t 1))) (p .over) (λ z. no-adds bytes (t .start) (t .end) (p .walks) (eqb-true (p .walked .begin) 0 z)))
+
       once : List ℤ
       once = set (t .cells) (t .height - 2) (sum (below t 2) (below t 1))
 
@@ -166,6 +182,7 @@ module _ {bytes : List ℕ} (t : Thread) (p : Placed bytes t) (inside : t .place
         height = ap suc (p .height);
         begin = p .begin;
         base = p .base;
+        over = p .over;
         no-reads = not-closed open′;
         no-writes = not-closed open′;
         reads-free = λ u m. free u m (eqb u v) refl (member (t .reads) u) refl;
@@ -197,6 +214,7 @@ module _ {bytes : List ℕ} (t : Thread) (p : Placed bytes t) (inside : t .place
         height = ap suc (p .height);
         begin = p .begin;
         base = p .base;
+        over = p .over;
         no-reads = not-closed open′;
         no-writes = not-closed open′;
         reads-free = p .reads-free;
@@ -210,6 +228,7 @@ module _ {bytes : List ℕ} (t : Thread) (p : Placed bytes t) (inside : t .place
         height = ap suc (p .height);
         begin = p .begin;
         base = p .base;
+        over = p .over;
         no-reads = not-closed open′;
         no-writes = not-closed open′;
         reads-free = noted-free v small _;
@@ -240,6 +259,7 @@ module _ {bytes : List ℕ} (t : Thread) (p : Placed bytes t) (inside : t .place
         height = p .height;
         begin = p .begin;
         base = p .base;
+        over = p .over;
         no-reads = not-closed;
         no-writes = not-closed;
         reads-free = p .reads-free;
@@ -264,6 +284,7 @@ module _ {bytes : List ℕ} (t : Thread) (p : Placed bytes t) (inside : t .place
         height = p .height;
         begin = refl;
         base = p .height;
+        over = omega arith;
         no-reads = λ z. refl;
         no-writes = λ z. refl;
         reads-free = λ v m. getD-zeros 64 v;
@@ -281,6 +302,7 @@ module _ {bytes : List ℕ} (t : Thread) (p : Placed bytes t) (inside : t .place
         height = p .height;
         begin = refl;
         base = refl;
+        over = omega arith;
         no-reads = λ z. refl;
         no-writes = λ z. refl;
         reads-free = λ v m. getD-zeros 64 v;
@@ -302,6 +324,7 @@ placed-back t w e ws =
       height = e;
       begin = refl;
       base = refl;
+      over = omega arith;
       no-reads = λ z. refl;
       no-writes = λ z. refl;
       reads-free = λ v m. getD-zeros 64 v;
@@ -323,6 +346,7 @@ placed-spawned bytes start end =
       height = refl;
       begin = refl;
       base = refl;
+      over = omega arith;
       no-reads = λ z. refl;
       no-writes = λ z. refl;
       reads-free = λ v m. getD-zeros 64 v;

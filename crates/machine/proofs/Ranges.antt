@@ -21,6 +21,7 @@ use Rattle.machine.specs.Fits.{Walked, Exists, Fits, Typed, RangedThread
 use Rattle.machine.specs.InnerStands.{opOf, Ready, InRangeRule}
 use Rattle.machine.specs.Stands.{Stands, ValuedI, ValuedC}
 use Rattle.machine.proofs.Numbers.{in-table}
+use Rattle.machine.proofs.Walking.{adds-low}
 use Rattle.machine.proofs.Codes.{stands-end, stands-inside, ready-op}
 use Rattle.machine.proofs.Shapes.{Shape, out, open′ as shape-open, shape}
 use Rattle.machine.proofs.Placings.{getD-zeros}
@@ -182,15 +183,16 @@ values-settle count s i a v w =
 values-instruction : (sum : Rule) → InRangeRule sum → (s : State) (i : ℕ) (t : Thread) (ins : Instruction) → ValuedI ins → Values t → AllValues s → AllValues (instruction sum s i t (opOf ins) .state)
 values-instruction sum f s i t ins o v a = values-settle (numberOf (s .threads)) s i (act sum (s .registers) t (opOf ins)) (values-act sum f (s .registers) t ins o v (a .registers)) a
 
--- ---- the places and the heights of a record
+-- ---- the places, the heights and the note of a record
 -- all below 6,000, which is far below 2 ^ 64
-record Low (t : Thread) : Type 0 where
-  start : t .start < 6000
-  end : t .end < 6000
-  place : t .place < 6000
-  height : t .height < 6000
-  begin : t .begin < 6000
-  base : t .base < 6000
+pub record Low (t : Thread) : Type 0 where
+  pub start : t .start < 6000
+  pub end : t .end < 6000
+  pub place : t .place < 6000
+  pub height : t .height < 6000
+  pub begin : t .begin < 6000
+  pub base : t .base < 6000
+  pub over : t .over < 6000
 
 fits-64 : (n : ℕ) → n < 6000 → n < 2 ^ 64
 fits-64 n l = omega arith
@@ -209,6 +211,7 @@ both t l v =
       height = fits-64 (t .height) (l .height);
       begin = fits-64 (t .begin) (l .begin);
       base = fits-64 (t .base) (l .base);
+      over = fits-64 (t .over) (l .over);
     }
 
 values-of : (s : State) → Ranged s → AllValues s
@@ -220,7 +223,7 @@ values-of s r =
 
 low-blank : Low blank
 unfolding blank
-low-blank = record { start = omega arith; end = omega arith; place = omega arith; height = omega arith; begin = omega arith; base = omega arith }
+low-blank = record { start = omega arith; end = omega arith; place = omega arith; height = omega arith; begin = omega arith; base = omega arith; over = omega arith }
 
 -- code that stands in the bytes is within them
 stands-within : {bytes : List ℕ} {place end : ℕ} {c : Code} → Stands bytes place end c → (place ≤ end) × (end ≤ length bytes)
@@ -257,7 +260,9 @@ low-held {bytes} {t} short h = go (shape (h .region) (h .outer) (h .somewhere) (
         let hq = height in
         let bq′ = begin′ in
         let eq′ = base in
-        record { start = omega arith; end = omega arith; place = omega arith; height = omega arith; begin = omega arith; base = omega arith }
+        let a = adds-low bytes (t .start) (t .end) (h .placed .walks) in
+        let o = h .placed .over in
+        record { start = omega arith; end = omega arith; place = omega arith; height = omega arith; begin = omega arith; base = omega arith; over = omega arith }
 
     go : Shape bytes (t .start) (t .end) (t .place) (h .placed .walked) → Low t
     go (out c r o b z) = here 0 0 b (omega arith) z (omega arith) r
@@ -290,7 +295,7 @@ module _ {code : List ℕ} {j : Job} (c : IsCode code j) where
       let d = c .within .few in
       omega arith
 
-  low-fits : (s : State) → Fits code s → Typed s → (i : ℕ) → Low (threadAt s i)
+  pub low-fits : (s : State) → Fits code s → Typed s → (i : ℕ) → Low (threadAt s i)
   low-fits s f y i = go (exists (threadAt s i)) refl
     where
       go : (b : Bool) → exists (threadAt s i) ≡ b → Low (threadAt s i)
@@ -309,7 +314,7 @@ module _ {code : List ℕ} {j : Job} (c : IsCode code j) where
     unfolding ValuedC
     pick-values s f y a i = go (exists (threadAt s i)) refl
       where
-        stays : pick sum code s i ≡ record { state = s; event = idle } → AllValues (pick sum code s i .state)
+        stays : pick sum code s i ≡ record { state = s; event = idle; over = 0 } → AllValues (pick sum code s i .state)
         stays e = subst (λ (r : Stepped). AllValues (r .state)) (sym e) a
 
         by : Exists s i → (k : Code) {h : ℕ} → Ready code (threadAt s i .place) (threadAt s i .end) k h → AllValues (pick sum code s i .state)

@@ -22,7 +22,7 @@ use Rattle.machine.proofs.Mirrors.{Mirrors, Picked, stood, went, works,
 use Rattle.machine.proofs.Numbers.{below-exists}
 use Rattle.machine.proofs.Regions.{held}
 use Rattle.machine.proofs.Keeps.{keeps, has-room}
-use Rattle.stm.specs.InnerTasks.{Task, outside, inside, over, Did, System, taskAt, did, next, endOf, eventsOf}
+use Rattle.stm.specs.InnerTasks.{Task, outside, inside, ended, Did, System, taskAt, did, next, endOf, eventsOf}
 use Rattle.stm.specs.InnerMeaning.{Outside, Inside}
 use Rattle.stm.proofs.Sizes.{step-length}
 use Rattle.word.specs.Sum.{Rule}
@@ -45,7 +45,7 @@ shows-of {bytes} {t} h = go (shape (h .region) (h .outer) (h .somewhere) (h .pla
     go (shape-open body c k r i e g) =
         let base : t .base ≡ h .placed .walked .base = h .placed .base in
         let begin : t .begin ≡ h .placed .walked .begin = h .placed .begin in (
-          inside body (stackFrom (t .cells) 0 (t .base)) c (stackFrom (t .cells) (t .base) k) (readLog t) (writeLog t),
+          inside body (stackFrom (t .cells) 0 (t .base)) c (stackFrom (t .cells) (t .base) k) (readLog t) (writeLog t) (t .over),
           open′ body c k (ready c r) (subst (λ (n : ℕ). Inside c k n) (sym base) i) (h .placed .height ∙ (e ∙ ap (λ (n : ℕ). k + n) (sym base))) (subst (λ (n : ℕ). 1 ≤ n) (sym begin) (g .somewhere)) (subst (λ (n : ℕ). Ready bytes (t .begin) (t .end) (BEGIN ⨾ body) n) (sym base) (subst (λ (n : ℕ). Ready bytes n (t .end) (BEGIN ⨾ body) (h .placed .walked .base)) (sym begin) (g .again))) (subst (λ (n : ℕ). Outside (BEGIN ⨾ body) n) (sym base) (g .outside)) (g .same),
         )
 
@@ -53,7 +53,7 @@ shows-of {bytes} {t} h = go (shape (h .region) (h .outer) (h .somewhere) (h .pla
 record Row (P : ℕ → Task registerCells → Type 0) (n : ℕ) : Type 0 where
   tasks : List (Task registerCells)
   long : length tasks ≡ n
-  each : (i : ℕ) → i < n → P i (getD tasks i (over registerCells))
+  each : (i : ℕ) → i < n → P i (getD tasks i (ended registerCells))
 
 row : (P : ℕ → Task registerCells → Type 0) (n : ℕ) → ((i : ℕ) → i < n → (t : Task registerCells) × P i t) → Row P n
 row P zero f = record { tasks = []; long = refl; each = λ i l. absurd (omega arith) }
@@ -62,7 +62,7 @@ row P (suc n) f =
     let rest = row (λ i t. P (suc i) t) n (λ i l. f (suc i) (omega arith)) in
     record { tasks = first .0 ∷ rest .tasks; long = ap suc (rest .long); each = each′ first rest }
   where
-    each′ : (first : (t : Task registerCells) × P 0 t) (rest : Row (λ i t. P (suc i) t) n) (i : ℕ) → i < suc n → P i (getD (first .0 ∷ rest .tasks) i (over registerCells))
+    each′ : (first : (t : Task registerCells) × P 0 t) (rest : Row (λ i t. P (suc i) t) n) (i : ℕ) → i < suc n → P i (getD (first .0 ∷ rest .tasks) i (ended registerCells))
     each′ first rest zero l = first .1
     each′ first rest (suc i) l = rest .each i (omega arith)
 
@@ -75,7 +75,7 @@ module _ {bytes : List ℕ} {j : Job} (c : IsCode bytes j) (o : Outside (compile
         record { records = f .records; table = refl; number = sym (r .long); shown = λ i l. r .each i (subst (λ (n : ℕ). i < n) (r .long) l) },
       )
 
-  childless : (sum : Rule) (s : State) (sys : System registerCells) (i : ℕ) → did registerCells sum sys i ≡ record { task = taskAt registerCells sys i; table = sys .table; children = []; event = idle } → (k : Code) → did registerCells sum sys i .children ≡ k ∷ [] → numberOf (s .threads) < 16
+  childless : (sum : Rule) (s : State) (sys : System registerCells) (i : ℕ) → did registerCells sum sys i ≡ record { task = taskAt registerCells sys i; table = sys .table; children = []; event = idle; over = 0 } → (k : Code) → did registerCells sum sys i .children ≡ k ∷ [] → numberOf (s .threads) < 16
   childless sum s sys i d k e = absurd (let q : _≡_ {A = List Code} [] (k ∷ []) = sym (ap (λ (x : Did registerCells). x .children) d) ∙ e in let z : _≡_ {A = ℕ} 0 1 = cc in omega arith)
 
   -- a forked child has a record
@@ -92,9 +92,10 @@ module _ {bytes : List ℕ} {j : Job} (c : IsCode bytes j) (o : Outside (compile
           by e (held c o s f y i e) (works bytes sum s sys m i l (held c o s f y i e))
       go (no l) = childless sum s sys i (idle-missing bytes sum s sys m (f .no-gap) i (omega arith) .1)
 
-  -- a pick leaves a state that fits and a system that it shows, with the same event
+  -- a pick leaves a state that fits and a system that it shows, with the same event and the same sums told
   pub record Kept (sum : Rule) (s : State) (sys : System registerCells) (i : ℕ) : Type 0 where
     pub event : pick sum bytes s i .event ≡ did registerCells sum sys i .event
+    pub over : pick sum bytes s i .over ≡ did registerCells sum sys i .over
     pub mirrors : Mirrors bytes (pick sum bytes s i .state) (next registerCells sum sys i)
     pub fits : Fits bytes (pick sum bytes s i .state)
     pub typed : Typed (pick sum bytes s i .state)
@@ -111,9 +112,9 @@ module _ {bytes : List ℕ} {j : Job} (c : IsCode bytes j) (o : Outside (compile
       all : Fits bytes (pick sum bytes s i .state) → Typed (pick sum bytes s i .state) → Kept sum s sys i
       all g z =
           let x = pick-mirrors bytes sum s sys m (f .no-gap) i (holds i) (room-for sum s sys f y m i) in
-          record { event = x .event; mirrors = x .mirrors; fits = g; typed = z }
+          record { event = x .event; over = x .over; mirrors = x .mirrors; fits = g; typed = z }
 
-      same-state : pick sum bytes s i ≡ record { state = s; event = idle } → Kept sum s sys i
+      same-state : pick sum bytes s i ≡ record { state = s; event = idle; over = 0 } → Kept sum s sys i
       same-state p = all (subst (λ (x : Stepped). Fits bytes (x .state)) (sym p) f) (subst (λ (x : Stepped). Typed (x .state)) (sym p) y)
 
       by : (e : Exists s i) (h : Held bytes (threadAt s i)) → Picked bytes sum s sys i (h .placed .walked .children) → Kept sum s sys i
@@ -142,7 +143,7 @@ module _ {bytes : List ℕ} {j : Job} (c : IsCode bytes j) (o : Outside (compile
       let k = pick-keeps sum s sys f y m i in
       let r = run-keeps sum is (pick sum bytes s i .state) (next registerCells sum sys i) (k .fits) (k .typed) (k .mirrors) in
       record {
-        events = ap (λ (e : Event). record { thread = i; event = e } ∷ run sum bytes (pick sum bytes s i .state) is .events) (k .event) ∙ ap (λ (l : List Happened). record { thread = i; event = did registerCells sum sys i .event } ∷ l) (r .events);
+        events = λ n. record { thread = i; event = k .event n; over = k .over n } ∷ r .events n;
         mirrors = r .mirrors;
         fits = r .fits;
         typed = r .typed;

@@ -7,8 +7,8 @@ use lib.ListN.{drop}
 use Rattle.code.specs.Compile.{Instruction, Code, PUSH, ADD, READ, WRITE, BEGIN, COMMIT, FORK, ε, _⨾_}
 use Rattle.code.specs.Ops.{Op, opAt}
 use Rattle.script.specs.Outcome.{done}
-use Rattle.machine.specs.Fits.{Walked, notes, shut, walkOp, nextPlace, Walks, starts, passes}
-use Rattle.machine.proofs.Walking.{same-op, not-before}
+use Rattle.machine.specs.Fits.{Walked, shut, walkOp, nextPlace, Walks, starts, passes}
+use Rattle.machine.proofs.Walking.{same-op, not-before, no-adds}
 use Rattle.machine.specs.InnerStands.{opOf, Ready, undone}
 use Rattle.machine.proofs.Codes.{stands-end, ready-op, ready-next}
 use Rattle.stm.specs.InnerMeaning.{taking1, taking2, TakesOutside, TakesInside, Outside, Inside, behind}
@@ -39,13 +39,13 @@ pub data Shape (bytes : List ℕ) (start end place : ℕ) (w : Walked) : Type 0 
   out : (c : Code) → Ready bytes place end c (w .height) → Outside c (w .height) → w .begin ≡ 0 → w .base ≡ 0 → Shape bytes start end place w
   open′ : (body c : Code) (k : ℕ) → Ready bytes place end c (w .height) → Inside c k (w .base) → w .height ≡ k + w .base → Begun bytes start end w body c → Shape bytes start end place w
 
-shut-same : (w : Walked) → w .begin ≡ 0 → w .base ≡ 0 → shut w ≡ w
-shut-same w b c = ap (λ (n : ℕ). notes n 0 w) (sym b) ∙ ap (λ (n : ℕ). notes (w .begin) n w) (sym c)
+shut-same : (w : Walked) → w .begin ≡ 0 → w .base ≡ 0 → w .adds ≡ 0 → shut w ≡ w
+shut-same w b c a = λ i. record { height = w .height; begin = sym b i; base = sym c i; adds = sym a i; children = w .children }
 
 module _ {bytes : List ℕ} {start end : ℕ} where
   -- where no transaction is open
   shut-walk : {place : ℕ} (w : Walked) → w .begin ≡ 0 → w .base ≡ 0 → Walks bytes start end place w → Walks bytes start end place (shut w)
-  shut-walk {place} w b c ws = subst (λ (x : Walked). Walks bytes start end place x) (sym (shut-same w b c)) ws
+  shut-walk {place} w b c ws = subst (λ (x : Walked). Walks bytes start end place x) (sym (shut-same w b c (no-adds bytes start end ws b))) ws
 
   module _ (place : ℕ) (w : Walked) (started : 1 ≤ place) (ws : Walks bytes start end place w) where
     abbrev After : Op → Type 0

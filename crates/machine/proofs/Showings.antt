@@ -27,7 +27,7 @@ use Rattle.word.proofs.Sets.{member-none, member-same, member-other}
 -- the task that a record shows, its code standing where its place is
 pub data Shows (bytes : List ℕ) (t : Thread) : Task registerCells → Type 0 where
   shut : (c : Code) → Ready bytes (t .place) (t .end) c (t .height) → Outside c (t .height) → t .begin ≡ 0 → Shows bytes t (outside c (stackFrom (t .cells) 0 (t .height)))
-  open′ : (body c : Code) (k : ℕ) → Ready bytes (t .place) (t .end) c (t .height) → Inside c k (t .base) → t .height ≡ k + t .base → 1 ≤ t .begin → Ready bytes (t .begin) (t .end) (BEGIN ⨾ body) (t .base) → Outside (BEGIN ⨾ body) (t .base) → behind c ≡ behind body → Shows bytes t (inside body (stackFrom (t .cells) 0 (t .base)) c (stackFrom (t .cells) (t .base) k) (readLog t) (writeLog t))
+  open′ : (body c : Code) (k : ℕ) → Ready bytes (t .place) (t .end) c (t .height) → Inside c k (t .base) → t .height ≡ k + t .base → 1 ≤ t .begin → Ready bytes (t .begin) (t .end) (BEGIN ⨾ body) (t .base) → Outside (BEGIN ⨾ body) (t .base) → behind c ≡ behind body → Shows bytes t (inside body (stackFrom (t .cells) 0 (t .base)) c (stackFrom (t .cells) (t .base) k) (readLog t) (writeLog t) (t .over))
 
 -- ---- stacks
 stack-same : (cells cells′ : List ℤ) (base k : ℕ) → ((i : ℕ) → i < k + base → getD cells i (pos 0) ≡ getD cells′ i (pos 0)) → stackFrom cells base k ≡ stackFrom cells′ base k

@@ -15,7 +15,7 @@ use Rattle.code.specs.Bytes.{instructionsBytes}
 use Rattle.code.specs.Counts.{Takes}
 use Rattle.code.specs.Ops as code
 use Rattle.thread.specs.declared.Thread.{Thread}
-use Rattle.thread.specs.Threads.{zeros, spawned, push, add, begin, below, sourceOf, readFrom, noted, read, write, closed, firstStale, overlaid, logOf, readLog, writeLog}
+use Rattle.thread.specs.Threads.{zeros, spawned, push, add, begin, below, sumTold, sumNoted, sourceOf, readFrom, noted, read, write, closed, firstStale, overlaid, logOf, readLog, writeLog}
 use Rattle.stm.specs.Events.{Source, fromWrites, fromReads, fromTable, summed, looked, sentBack, committed}
 use Rattle.machine.specs.Steps.{State, Stepped, numberOf, committing, commit, instruction, Child, act, settle}
 use Rattle.machine.specs.Fits.{walkOp, nextPlace, Walks, Placed, TypedThread}
@@ -29,7 +29,7 @@ use Rattle.machine.proofs.Showings.{Shows, shut, open′, stack-suc, st
 use Rattle.stm.specs.InnerTasks.{Log, outside, inside, Did, Found, logged, goes, found, foundIn, overwritten, commits, stepOutside, stepInside}
 use Rattle.stm.specs.InnerMeaning.{TakesOutside, TakesInside, Outside, Inside, behind}
 use Rattle.word.specs.Registers.{member}
-use Rattle.word.specs.Sum.{Rule}
+use Rattle.word.specs.Sum.{Rule, overOf}
 
 -- a thread's record that fits, and its own code
 pub record Held (bytes : List ℕ) (t : Thread) : Type 0 where
@@ -48,6 +48,7 @@ pub data Born (bytes : List ℕ) (ts : List Thread) (n : ℕ) : List Code → Li
 -- a step of thread i, which was t and had passed the FORKs of `old`, and the step of its task
 pub record Simulated (bytes : List ℕ) (s : State) (i : ℕ) (t : Thread) (old : List Child) (r : Stepped) (d : Did registerCells) : Type 0 where
   pub event : r .event ≡ d .event
+  pub over : r .over ≡ d .over
   pub registers : tableOf (r .state) ≡ d .table
   pub thread : Thread
   pub born : List Child
@@ -59,12 +60,13 @@ pub record Simulated (bytes : List ℕ) (s : State) (i : ℕ) (t : Thread) (old 
   pub start : thread .start ≡ t .start
   pub end : thread .end ≡ t .end
 
-shown-inside : {bytes : List ℕ} {t : Thread} {body c : Code} {b b′ σ σ′ : List ℤ} {r r′ : Log (registerCells .Cell)} {w w′ : Log ℤ} → Shows bytes t (inside body b c σ r w) → b ≡ b′ → σ ≡ σ′ → r ≡ r′ → w ≡ w′ → Shows bytes t (inside body b′ c σ′ r′ w′)
-shown-inside {bytes} {t} {body} {c} {b} {b′} {σ} {σ′} {r} {r′} {w} {w′} s e f g h =
-    subst (λ (x : Log ℤ). Shows bytes t (inside body b′ c σ′ r′ x)) h
-    (subst (λ (x : Log (registerCells .Cell)). Shows bytes t (inside body b′ c σ′ x w)) g
-    (subst (λ (x : List ℤ). Shows bytes t (inside body b′ c x r w)) f
-    (subst (λ (x : List ℤ). Shows bytes t (inside body x c σ r w)) e s)))
+shown-inside : {bytes : List ℕ} {t : Thread} {body c : Code} {b b′ σ σ′ : List ℤ} {r r′ : Log (registerCells .Cell)} {w w′ : Log ℤ} {o o′ : ℕ} → Shows bytes t (inside body b c σ r w o) → b ≡ b′ → σ ≡ σ′ → r ≡ r′ → w ≡ w′ → o ≡ o′ → Shows bytes t (inside body b′ c σ′ r′ w′ o′)
+shown-inside {bytes} {t} {body} {c} {b} {b′} {σ} {σ′} {r} {r′} {w} {w′} {o} {o′} s e f g h k =
+    subst (λ (x : ℕ). Shows bytes t (inside body b′ c σ′ r′ w′ x)) k
+    (subst (λ (x : Log ℤ). Shows bytes t (inside body b′ c σ′ r′ x o)) h
+    (subst (λ (x : Log (registerCells .Cell)). Shows bytes t (inside body b′ c σ′ x w o)) g
+    (subst (λ (x : List ℤ). Shows bytes t (inside body b′ c x r w o)) f
+    (subst (λ (x : List ℤ). Shows bytes t (inside body x c σ r w o)) e s))))
 
 shown-outside : {bytes : List ℕ} {t : Thread} {c : Code} {σ σ′ : List ℤ} → Shows bytes t (outside c σ) → σ ≡ σ′ → Shows bytes t (outside c σ′)
 shown-outside {bytes} {t} {c} s e = subst (λ (x : List ℤ). Shows bytes t (outside c x)) e s
@@ -91,12 +93,13 @@ module _ {bytes : List ℕ} (sum : Rule) (s : State) (j : ℕ) (t : Thread) (h :
       let k : suc (t .height) ≤ 64 = ready-takes r in
       record {
         event = refl;
+        over = refl;
         registers = refl;
         thread = push n (t .place + 5) t;
         born = [];
         threads = nobody;
         typed = typed-push n (t .place + 5) t (h .typed);
-        placed = placed-push t (h .placed) l (code.push n) n (ready-op r) refl refl refl;
+        placed = placed-push t (h .placed) l (code.push n) n (ready-op r) refl refl refl refl;
         kids = refl;
         shows = shown-outside (shut c (ready-next r) o z) (stack-push (t .cells) 0 (t .height) (t .height) n (omega arith) (omega arith));
         start = refl;
@@ -108,12 +111,13 @@ module _ {bytes : List ℕ} (sum : Rule) (s : State) (j : ℕ) (t : Thread) (h :
       let k : suc (t .height) ≤ 64 = ready-takes r .0 in
       record {
         event = refl;
+        over = refl;
         registers = refl;
         thread = push (pos 0) (t .place + 3 + length (instructionsBytes m)) t;
         born = record { start = t .place + 3; end = t .place + 3 + length (instructionsBytes m) } ∷ [];
         threads = child (t .place + 3) (t .place + 3 + length (instructionsBytes m)) (ready-child r) (o .0) (omega arith);
         typed = typed-push (pos 0) (t .place + 3 + length (instructionsBytes m)) t (h .typed);
-        placed = placed-push t (h .placed) l (code.fork (length (instructionsBytes m))) (pos 0) (ready-op r) refl refl refl;
+        placed = placed-push t (h .placed) l (code.fork (length (instructionsBytes m))) (pos 0) (ready-op r) refl refl refl refl;
         kids = refl;
         shows = shown-outside (shut c (ready-next r) (o .1) z) (stack-push (t .cells) 0 (t .height) (t .height) (pos 0) (omega arith) (omega arith));
         start = refl;
@@ -128,6 +132,7 @@ module _ {bytes : List ℕ} (sum : Rule) (s : State) (j : ℕ) (t : Thread) (h :
       let w = h .somewhere in
       record {
         event = refl;
+        over = refl;
         registers = refl;
         thread = begin t;
         born = [];
@@ -135,7 +140,7 @@ module _ {bytes : List ℕ} (sum : Rule) (s : State) (j : ℕ) (t : Thread) (h :
         typed = typed-begin t (h .typed);
         placed = placed-begin t (h .placed) l (ready-op r) (omega arith);
         kids = refl;
-        shows = shown-inside (open′ c c 0 (ready-next r) o (omega arith) (omega arith) r o refl) refl nothing-above (log-none zeros) (log-none zeros);
+        shows = shown-inside (open′ c c 0 (ready-next r) o (omega arith) (omega arith) r o refl) refl nothing-above (log-none zeros) (log-none zeros) refl;
         start = refl;
         end = refl;
       }
@@ -151,6 +156,7 @@ module _ {bytes : List ℕ} (sum : Rule) (s : State) (j : ℕ) (t : Thread) (h :
           let room : t .height ≤ 64 = r .low in
           record {
             event = ap (λ (b : Bool). summed (not b)) (eq-eqb (t .begin) 0 z);
+            over = told k e;
             registers = refl;
             thread = add sum t;
             born = [];
@@ -163,6 +169,12 @@ module _ {bytes : List ℕ} (sum : Rule) (s : State) (j : ℕ) (t : Thread) (h :
             end = refl;
           }
         where
+          told : (k : ℕ) → t .height ≡ suc (suc k) → sumTold t ≡ overOf (getD (t .cells) (k + 0) (pos 0)) (getD (t .cells) (suc k + 0) (pos 0))
+          told k e =
+              let a : t .height - 2 ≡ k + 0 = omega arith in
+              let b : t .height - 1 ≡ suc k + 0 = omega arith in
+              rw (eq-eqb (t .begin) 0 z, a, b)
+
           added : (k : ℕ) → t .height ≡ suc (suc k) → t .height ≤ 64 → stackFrom (add sum t .cells) 0 (t .height - 1) ≡ sum (getD (t .cells) (k + 0) (pos 0)) (getD (t .cells) (suc k + 0) (pos 0)) ∷ stackFrom (t .cells) 0 k
           added k e room =
               let y = h .typed .cells in
@@ -193,7 +205,7 @@ module _ {bytes : List ℕ} (sum : Rule) (s : State) (j : ℕ) (t : Thread) (h :
   abbrev pub below-base : List ℤ
   below-base = stackFrom (t .cells) 0 (t .base)
 
-  inner-push : (n : ℤ) (body c : Code) (k : ℕ) → Inner (PUSH n) body c k → Sim (instruction sum s j t (code.push n)) (stepInside registerCells sum (tableOf s) body below-base (PUSH n ⨾ c) (stackFrom (t .cells) (t .base) k) reads writes)
+  inner-push : (n : ℤ) (body c : Code) (k : ℕ) → Inner (PUSH n) body c k → Sim (instruction sum s j t (code.push n)) (stepInside registerCells sum (tableOf s) body below-base (PUSH n ⨾ c) (stackFrom (t .cells) (t .base) k) reads writes (t .over))
   unfolding act settle stepInside Inside TakesInside Takes nextPlace walkOp push placed-push behind
   inner-push n body c k x =
       let l = stands-inside (x .ready .stands) in
@@ -202,19 +214,20 @@ module _ {bytes : List ℕ} (sum : Rule) (s : State) (j : ℕ) (t : Thread) (h :
       let m : suc (t .height) ≤ 64 = ready-takes (x .ready) in
       record {
         event = refl;
+        over = refl;
         registers = refl;
         thread = push n (t .place + 5) t;
         born = [];
         threads = nobody;
         typed = typed-push n (t .place + 5) t (h .typed);
-        placed = placed-push t (h .placed) l (code.push n) n (ready-op (x .ready)) refl refl refl;
+        placed = placed-push t (h .placed) l (code.push n) n (ready-op (x .ready)) refl refl refl refl;
         kids = refl;
-        shows = shown-inside (open′ body c (suc k) (ready-next (x .ready)) (x .goes-on) (omega arith) (x .somewhere) (x .again) (x .outer) (x .same)) (stack-set (t .cells) 0 (t .base) (t .height) n (omega arith)) (stack-push (t .cells) (t .base) k (t .height) n e (omega arith)) refl refl;
+        shows = shown-inside (open′ body c (suc k) (ready-next (x .ready)) (x .goes-on) (omega arith) (x .somewhere) (x .again) (x .outer) (x .same)) (stack-set (t .cells) 0 (t .base) (t .height) n (omega arith)) (stack-push (t .cells) (t .base) k (t .height) n e (omega arith)) refl refl refl;
         start = refl;
         end = refl;
       }
 
-  inner-add : (body c : Code) (k : ℕ) → Inner ADD body c (suc (suc k)) → Sim (instruction sum s j t code.add) (stepInside registerCells sum (tableOf s) body below-base (ADD ⨾ c) (stackFrom (t .cells) (t .base) (suc (suc k))) reads writes)
+  inner-add : (body c : Code) (k : ℕ) → Inner ADD body c (suc (suc k)) → Sim (instruction sum s j t code.add) (stepInside registerCells sum (tableOf s) body below-base (ADD ⨾ c) (stackFrom (t .cells) (t .base) (suc (suc k))) reads writes (t .over))
   unfolding act settle stepInside Inside TakesInside nextPlace walkOp add placed-add behind stackFrom
   inner-add body c k x =
       let l = stands-inside (x .ready .stands) in
@@ -222,7 +235,8 @@ module _ {bytes : List ℕ} (sum : Rule) (s : State) (j : ℕ) (t : Thread) (h :
       let e = x .height in
       let room = x .ready .low in
       record {
-        event = ap (λ (b : Bool). summed (not b)) (ne-eqb (t .begin) 0 (λ z. absurd (let w = x .somewhere in omega arith)));
+        event = ap (λ (b : Bool). summed (not b)) (ne-eqb (t .begin) 0 not-shut);
+        over = ap (λ (b : Bool). cond b (overOf (below t 2) (below t 1)) 0) (ne-eqb (t .begin) 0 not-shut);
         registers = refl;
         thread = add sum t;
         born = [];
@@ -230,11 +244,21 @@ module _ {bytes : List ℕ} (sum : Rule) (s : State) (j : ℕ) (t : Thread) (h :
         typed = typed-add sum t (h .typed);
         placed = placed-add t (h .placed) l sum (ready-op (x .ready)) (omega arith) (omega arith);
         kids = refl;
-        shows = shown-inside (open′ body c (suc k) (ready-next (x .ready)) (x .goes-on) (omega arith) (x .somewhere) (x .again) (x .outer) (x .same)) lower upper refl refl;
+        shows = shown-inside (open′ body c (suc k) (ready-next (x .ready)) (x .goes-on) (omega arith) (x .somewhere) (x .again) (x .outer) (x .same)) lower upper refl refl counted;
         start = refl;
         end = refl;
       }
     where
+      not-shut : t .begin ≡ 0 → ⊥
+      not-shut z = absurd (let w = x .somewhere in omega arith)
+
+      counted : sumNoted t ≡ t .over + overOf (getD (t .cells) (k + t .base) (pos 0)) (getD (t .cells) (suc k + t .base) (pos 0))
+      counted =
+          let e = x .height in
+          let a : t .height - 2 ≡ k + t .base = omega arith in
+          let b : t .height - 1 ≡ suc k + t .base = omega arith in
+          rw (ne-eqb (t .begin) 0 not-shut, a, b)
+
       lower : stackFrom (set (set (t .cells) (t .height - 2) (sum (below t 2) (below t 1))) (t .height - 1) (pos 0)) 0 (t .base) ≡ below-base
       lower =
           let e = x .height in
@@ -259,13 +283,14 @@ module _ {bytes : List ℕ} (sum : Rule) (s : State) (j : ℕ) (t : Thread) (h :
   found-same v l false true = refl
   found-same v l false false = ap (λ (r : Log ℤ). record { value = getD (s .registers) v (pos 0); source = fromTable; reads = r }) (sym (log-with (t .reads) (t .readlog) v (getD (s .registers) v (pos 0)) l (h .typed .readlog)))
 
-  inner-read : (v : ℕ) (body c : Code) (k : ℕ) → Inner (READ v) body c k → Sim (instruction sum s j t (code.read v)) (stepInside registerCells sum (tableOf s) body below-base (READ v ⨾ c) (stackFrom (t .cells) (t .base) k) reads writes)
+  inner-read : (v : ℕ) (body c : Code) (k : ℕ) → Inner (READ v) body c k → Sim (instruction sum s j t (code.read v)) (stepInside registerCells sum (tableOf s) body below-base (READ v ⨾ c) (stackFrom (t .cells) (t .base) k) reads writes (t .over))
   unfolding act settle stepInside Inside TakesInside Takes nextPlace walkOp behind found read sourceOf logOf push
   inner-read v body c k x =
-      subst (λ (f : Found registerCells). Sim (instruction sum s j t (code.read v)) (goes registerCells (inside body below-base c (f .value ∷ stackFrom (t .cells) (t .base) k) (f .reads) writes) (s .registers) (looked (f .source))))
+      subst (λ (f : Found registerCells). Sim (instruction sum s j t (code.read v)) (goes registerCells (inside body below-base c (f .value ∷ stackFrom (t .cells) (t .base) k) (f .reads) writes (t .over)) (s .registers) (looked (f .source))))
       (sym (found-same v (x .goes-on .0) (member (t .writes) v) (member (t .reads) v)))
       (record {
         event = refl;
+        over = refl;
         registers = refl;
         thread = read (s .registers) v t;
         born = [];
@@ -284,22 +309,22 @@ module _ {bytes : List ℕ} (sum : Rule) (s : State) (j : ℕ) (t : Thread) (h :
       placed-read-kids : placed-read t (h .placed) l (s .registers) v (x .goes-on .0) (ready-op (x .ready)) (x .somewhere) .walked .children ≡ h .placed .walked .children
       placed-read-kids = read-kids t (h .placed) l (s .registers) v (x .goes-on .0) (ready-op (x .ready)) (x .somewhere)
 
-      shown : (from : Source) (n : ℤ) → Shows bytes (push n (t .place + 2) (noted from v n t)) (inside body below-base c (n ∷ stackFrom (t .cells) (t .base) k) (logOf (noted from v n t .reads) (noted from v n t .readlog)) writes)
+      shown : (from : Source) (n : ℤ) → Shows bytes (push n (t .place + 2) (noted from v n t)) (inside body below-base c (n ∷ stackFrom (t .cells) (t .base) k) (logOf (noted from v n t .reads) (noted from v n t .readlog)) writes (t .over))
       shown fromWrites n =
           let y = h .typed .cells in
           let e = x .height in
           let m : suc (t .height) ≤ 64 = ready-takes (x .ready) in
-          shown-inside (open′ body c (suc k) (ready-next (x .ready)) (x .goes-on .1) (omega arith) (x .somewhere) (x .again) (x .outer) (x .same)) (stack-set (t .cells) 0 (t .base) (t .height) n (omega arith)) (stack-push (t .cells) (t .base) k (t .height) n e (omega arith)) refl refl
+          shown-inside (open′ body c (suc k) (ready-next (x .ready)) (x .goes-on .1) (omega arith) (x .somewhere) (x .again) (x .outer) (x .same)) (stack-set (t .cells) 0 (t .base) (t .height) n (omega arith)) (stack-push (t .cells) (t .base) k (t .height) n e (omega arith)) refl refl refl
       shown fromReads n =
           let y = h .typed .cells in
           let e = x .height in
           let m : suc (t .height) ≤ 64 = ready-takes (x .ready) in
-          shown-inside (open′ body c (suc k) (ready-next (x .ready)) (x .goes-on .1) (omega arith) (x .somewhere) (x .again) (x .outer) (x .same)) (stack-set (t .cells) 0 (t .base) (t .height) n (omega arith)) (stack-push (t .cells) (t .base) k (t .height) n e (omega arith)) refl refl
+          shown-inside (open′ body c (suc k) (ready-next (x .ready)) (x .goes-on .1) (omega arith) (x .somewhere) (x .again) (x .outer) (x .same)) (stack-set (t .cells) 0 (t .base) (t .height) n (omega arith)) (stack-push (t .cells) (t .base) k (t .height) n e (omega arith)) refl refl refl
       shown fromTable n =
           let y = h .typed .cells in
           let e = x .height in
           let m : suc (t .height) ≤ 64 = ready-takes (x .ready) in
-          shown-inside (open′ body c (suc k) (ready-next (x .ready)) (x .goes-on .1) (omega arith) (x .somewhere) (x .again) (x .outer) (x .same)) (stack-set (t .cells) 0 (t .base) (t .height) n (omega arith)) (stack-push (t .cells) (t .base) k (t .height) n e (omega arith)) refl refl
+          shown-inside (open′ body c (suc k) (ready-next (x .ready)) (x .goes-on .1) (omega arith) (x .somewhere) (x .again) (x .outer) (x .same)) (stack-set (t .cells) 0 (t .base) (t .height) n (omega arith)) (stack-push (t .cells) (t .base) k (t .height) n e (omega arith)) refl refl refl
 
       start′ : (from : Source) → noted from v (readFrom from (s .registers) t v) t .start ≡ t .start
       start′ fromWrites = refl
@@ -311,7 +336,7 @@ module _ {bytes : List ℕ} (sum : Rule) (s : State) (j : ℕ) (t : Thread) (h :
       end′ fromReads = refl
       end′ fromTable = refl
 
-  inner-write : (v : ℕ) (body c : Code) (k : ℕ) → Inner (WRITE v) body c (suc k) → Sim (instruction sum s j t (code.write v)) (stepInside registerCells sum (tableOf s) body below-base (WRITE v ⨾ c) (stackFrom (t .cells) (t .base) (suc k)) reads writes)
+  inner-write : (v : ℕ) (body c : Code) (k : ℕ) → Inner (WRITE v) body c (suc k) → Sim (instruction sum s j t (code.write v)) (stepInside registerCells sum (tableOf s) body below-base (WRITE v ⨾ c) (stackFrom (t .cells) (t .base) (suc k)) reads writes (t .over))
   unfolding act settle stepInside Inside TakesInside nextPlace walkOp write placed-write behind stackFrom
   inner-write v body c k x =
       let l = stands-inside (x .ready .stands) in
@@ -319,6 +344,7 @@ module _ {bytes : List ℕ} (sum : Rule) (s : State) (j : ℕ) (t : Thread) (h :
       let a : t .height - 1 ≡ k + t .base = omega arith in
       record {
         event = refl;
+        over = refl;
         registers = refl;
         thread = write v t;
         born = [];
@@ -326,13 +352,13 @@ module _ {bytes : List ℕ} (sum : Rule) (s : State) (j : ℕ) (t : Thread) (h :
         typed = typed-write v t (h .typed);
         placed = placed-write t (h .placed) l v (x .goes-on .0) (ready-op (x .ready)) (x .somewhere);
         kids = refl;
-        shows = shown-inside (open′ body c (suc k) (ready-next (x .ready)) (x .goes-on .1) e (x .somewhere) (x .again) (x .outer) (x .same)) refl refl refl (log-with (t .writes) (t .writelog) v (below t 1) (x .goes-on .0) (h .typed .writelog) ∙ ap (λ (p : ℕ). logged writes v (getD (t .cells) p (pos 0))) a);
+        shows = shown-inside (open′ body c (suc k) (ready-next (x .ready)) (x .goes-on .1) e (x .somewhere) (x .again) (x .outer) (x .same)) refl refl refl (log-with (t .writes) (t .writelog) v (below t 1) (x .goes-on .0) (h .typed .writelog) ∙ ap (λ (p : ℕ). logged writes v (getD (t .cells) p (pos 0))) a) refl;
         start = refl;
         end = refl;
       }
 
   -- COMMIT: both find the same first stale register
-  inner-commit : (body c : Code) → Inner COMMIT body c 1 → (v : ℕ) → Sim (settle (numberOf (s .threads)) s j (commit (s .registers) t v)) (commits registerCells (tableOf s) body below-base c (getD (t .cells) (0 + t .base) (pos 0)) writes v)
+  inner-commit : (body c : Code) → Inner COMMIT body c 1 → (v : ℕ) → Sim (settle (numberOf (s .threads)) s j (commit (s .registers) t v)) (commits registerCells (tableOf s) body below-base c (getD (t .cells) (0 + t .base) (pos 0)) writes (t .over) v)
   unfolding commit settle Inside TakesInside behind closed nextPlace
   inner-commit body c x v = go (ltb v 64)
     where
@@ -340,14 +366,15 @@ module _ {bytes : List ℕ} (sum : Rule) (s : State) (j : ℕ) (t : Thread) (h :
       l = stands-inside (x .ready .stands)
 
       go : (b : Bool) → Sim (settle (numberOf (s .threads)) s j (committing b (s .registers) t v)) (elim b [
-        | true ↦ record { task = outside (BEGIN ⨾ body) below-base; table = s .registers; children = []; event = sentBack v }
-        | false ↦ record { task = outside c (getD (t .cells) (0 + t .base) (pos 0) ∷ below-base); table = overwritten registerCells 64 0 writes (tableOf s); children = []; event = committed }
+        | true ↦ record { task = outside (BEGIN ⨾ body) below-base; table = s .registers; children = []; event = sentBack v; over = 0 }
+        | false ↦ record { task = outside c (getD (t .cells) (0 + t .base) (pos 0) ∷ below-base); table = overwritten registerCells 64 0 writes (tableOf s); children = []; event = committed; over = t .over }
       ])
       go true =
           let y = h .typed .cells in
           let z = x .again .low in
           record {
             event = refl;
+            over = refl;
             registers = refl;
             thread = closed (t .begin) (t .base) t;
             born = [];
@@ -366,6 +393,7 @@ module _ {bytes : List ℕ} (sum : Rule) (s : State) (j : ℕ) (t : Thread) (h :
           let f : suc (t .base) ≡ t .height = omega arith in
           record {
             event = refl;
+            over = refl;
             registers = overlaid-same 64 0 t (s .registers);
             thread = closed (t .place + 1) (t .height) t;
             born = [];
@@ -381,13 +409,13 @@ module _ {bytes : List ℕ} (sum : Rule) (s : State) (j : ℕ) (t : Thread) (h :
           one-above : stackFrom (t .cells) 0 (suc (t .base)) ≡ getD (t .cells) (0 + t .base) (pos 0) ∷ below-base
           one-above = stack-suc (t .cells) 0 (t .base) ∙ ap (λ (p : ℕ). getD (t .cells) p (pos 0) ∷ below-base) (let e : t .base + 0 ≡ 0 + t .base = omega arith in e)
 
-  commit-found : (body c : Code) → Inner COMMIT body c 1 → Sim (instruction sum s j t code.commit) (stepInside registerCells sum (tableOf s) body below-base (COMMIT ⨾ c) (stackFrom (t .cells) (t .base) 1) reads writes)
+  commit-found : (body c : Code) → Inner COMMIT body c 1 → Sim (instruction sum s j t code.commit) (stepInside registerCells sum (tableOf s) body below-base (COMMIT ⨾ c) (stackFrom (t .cells) (t .base) 1) reads writes (t .over))
   unfolding act settle stepInside stackFrom
   commit-found body c x =
-      subst (λ (v : ℕ). Sim (instruction sum s j t code.commit) (commits registerCells (tableOf s) body below-base c (getD (t .cells) (0 + t .base) (pos 0)) writes v)) (first-same 64 0 t (s .registers)) (inner-commit body c x (firstStale 64 0 t (s .registers)))
+      subst (λ (v : ℕ). Sim (instruction sum s j t code.commit) (commits registerCells (tableOf s) body below-base c (getD (t .cells) (0 + t .base) (pos 0)) writes (t .over) v)) (first-same 64 0 t (s .registers)) (inner-commit body c x (firstStale 64 0 t (s .registers)))
 
   -- any instruction inside
-  pub from-inside : (i : Instruction) (body c : Code) (k : ℕ) → Inner i body c k → Sim (instruction sum s j t (opOf i)) (stepInside registerCells sum (tableOf s) body below-base (i ⨾ c) (stackFrom (t .cells) (t .base) k) reads writes)
+  pub from-inside : (i : Instruction) (body c : Code) (k : ℕ) → Inner i body c k → Sim (instruction sum s j t (opOf i)) (stepInside registerCells sum (tableOf s) body below-base (i ⨾ c) (stackFrom (t .cells) (t .base) k) reads writes (t .over))
   unfolding act settle Inside TakesInside
   from-inside (PUSH n) body c k x = inner-push n body c k x
   from-inside ADD body c zero x = absurd (x .goes-on)

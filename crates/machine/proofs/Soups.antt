@@ -247,7 +247,7 @@ not-idle committed x q = refl
 not-idle (sentBack v) x q = refl
 
 data Move (bytes : List ℕ) (sum : Rule) (s : State) (i : ℕ) (m : SThread) : Type 0 where
-  ended : m .code ≡ ε → pick sum bytes s i ≡ record { state = s; event = idle } → Move bytes sum s i m
+  ended : m .code ≡ ε → pick sum bytes s i ≡ record { state = s; event = idle; over = 0 } → Move bytes sum s i m
   moves : (r : Stepped) → pick sum bytes s i ≡ r → Follows bytes sum s i (threadAt s i) m r → Move bytes sum s i m
 
 module _ (bytes : List ℕ) (sum : Rule) where
@@ -328,7 +328,7 @@ module _ (bytes : List ℕ) (sum : Rule) where
   pub pick-steps : (s : State) (sys : System registerCells) → Mirrors bytes s sys → ((i : ℕ) → Exists s (suc i) → Exists s i) → ((i : ℕ) → Exists s i → Held bytes (threadAt s i)) → (i : ℕ) → ((k : Code) → did registerCells sum sys i .children ≡ k ∷ [] → numberOf (s .threads) < 16) → (soup : List SThread) → Soup bytes s soup → isIdle (pick sum bytes s i .event) ≡ false → (h′ : Registers) × ((soup′ : List SThread) × PickOn bytes sum s i soup h′ soup′)
   pick-steps s sys a gap holds i room soup x busy = go (decLt i (numberOf (s .threads)))
     where
-      no-idle : pick sum bytes s i ≡ record { state = s; event = idle } → ⊥
+      no-idle : pick sum bytes s i ≡ record { state = s; event = idle; over = 0 } → ⊥
       no-idle p = never (ap (λ (y : Stepped). isIdle (y .event)) p) busy
 
       by : i < length soup → Move bytes sum s i (getD soup i nobody) → (h′ : Registers) × ((soup′ : List SThread) × PickOn bytes sum s i soup h′ soup′)

@@ -35,11 +35,11 @@ module _ {code : List ℕ} {j : Job} (c : IsCode code j) (sum : Rule) where
   tallied-on (i ∷ is) s f y before =
       let one = pick sum code s i in
       let g = step-fits c sum s f y i in
-      let r = tallied-on is (pick sum code s i .state) (g .0) (g .1) (tally (pick sum code s i .event) before) in
-      ap (λ (n : ℕ). tallied sum code (pick sum code s i .state) (record { threads = n; counts = tally (pick sum code s i .event) before }) is) (sym (pick-number s f y i)) ∙ (r ∙ ap (λ (k : Counts). record {
+      let r = tallied-on is (pick sum code s i .state) (g .0) (g .1) (tally (pick sum code s i .event) (pick sum code s i .over) before) in
+      ap (λ (n : ℕ). tallied sum code (pick sum code s i .state) (record { threads = n; counts = tally (pick sum code s i .event) (pick sum code s i .over) before }) is) (sym (pick-number s f y i)) ∙ (r ∙ ap (λ (k : Counts). record {
         state = run sum code (pick sum code s i .state) is .state;
         progress = record { threads = numberOf (run sum code (pick sum code s i .state) is .state .threads); counts = k };
-      }) (tally-behind (pick sum code s i .event) before (countsOf (run sum code (pick sum code s i .state) is .events))))
+      }) (tally-behind (pick sum code s i .event) (pick sum code s i .over) before (countsOf (run sum code (pick sum code s i .state) is .events))))
 
   -- from the number of threads and no counts: the run, the number of threads that it leaves, and its counts
   pub tallied-run : (s : State) → Fits code s → Typed s → (is : List ℕ) → tallied sum code s (record { threads = numberOf (s .threads); counts = uncounted }) is ≡ record {

@@ -1,6 +1,6 @@
 -- The walk along a thread's own code: the function finds what the relation has, which is one for each place. Assumes nothing.
 use Prim.Native.Nat.{ℕ, zero, suc, _+_, _≤_, _<_}
-use mathlib.Core.Bool.{Bool, true, false}
+use mathlib.Core.Bool.{Bool, true, false, cond}
 use mathlib.Core.Path.{_≡_, refl, sym, subst, _∙_}
 use mathlib.Core.List.{List}
 use mathlib.Core.Option.{Option, none, some}
@@ -83,6 +83,39 @@ module _ (bytes : List ℕ) (start end : ℕ) where
     where
       some-same : _≡_ {A = Option Walked} (some w) (some v) → w ≡ v
       some-same e = cc
+
+  -- ADDs are counted in open transactions only, and each takes a byte
+  pub no-adds : {p : ℕ} {w : Walked} → Walks bytes start end p w → w .begin ≡ 0 → w .adds ≡ 0
+  unfolding walkOp
+  no-adds starts z = refl
+  no-adds (passes {place} {w} {op} ws l e) z = one op w z (λ y. no-adds ws y)
+    where
+      one : (op : Op) (w : Walked) → walkOp op place w .begin ≡ 0 → (w .begin ≡ 0 → w .adds ≡ 0) → walkOp op place w .adds ≡ 0
+      one (code.push n) w z f = f z
+      one code.add w z f = rw (eq-eqb (w .begin) 0 z)
+      one (code.fork size) w z f = f z
+      one code.begin w z f = refl
+      one (code.read v) w z f = f z
+      one (code.write v) w z f = f z
+      one code.commit w z f = refl
+
+  pub adds-low : {p : ℕ} {w : Walked} → Walks bytes start end p w → w .adds + start ≤ p
+  unfolding walkOp nextPlace
+  adds-low starts = omega arith
+  adds-low (passes {place} {w} {op} ws l e) = one op w (adds-low ws)
+    where
+      one : (op : Op) (w : Walked) → w .adds + start ≤ place → walkOp op place w .adds + start ≤ nextPlace op place
+      one (code.push n) w f = omega arith
+      one code.add w f = go (eqb (w .begin) 0)
+        where
+          go : (b : Bool) → cond b 0 (suc (w .adds)) + start ≤ place + 1
+          go true = omega arith
+          go false = omega arith
+      one (code.fork size) w f = omega arith
+      one code.begin w f = let n = not-before ws in omega arith
+      one (code.read v) w f = omega arith
+      one (code.write v) w f = omega arith
+      one code.commit w f = let n = not-before ws in omega arith
 
   -- what the function finds is walked
   pub found-walks : (fuel q p : ℕ) (w v : Walked) → Walks bytes start end p w → walk fuel bytes end q p w ≡ some v → Walks bytes start end q v

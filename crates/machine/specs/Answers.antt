@@ -49,7 +49,7 @@ freshReply (refused number place) = record { refusal = number; place = place }
 freshReply (done s) = record { refusal = 0; place = 0 }
 
 abbrev pub stepReply : Outcome Stepped → StepReply
-stepReply (refused number place) = record { refusal = number; place = place; event = 0; register = 0; turn = 0 }
+stepReply (refused number place) = record { refusal = number; place = place; event = 0; register = 0; turn = 0; over = 0 }
 stepReply (done r) =
     record {
       refusal = 0;
@@ -57,13 +57,14 @@ stepReply (done r) =
       event = eventNumber (r .event);
       register = eventRegister (r .event);
       turn = turnNumber (r .event);
+      over = r .over;
     }
 
 abbrev pub runReply : Outcome Ran → RunReply
-runReply (refused number place) = record { refusal = number; place = place; steps = 0; idle = 0; commits = 0; back = 0 }
+runReply (refused number place) = record { refusal = number; place = place; steps = 0; idle = 0; commits = 0; back = 0; over = 0 }
 runReply (done r) =
     let c = countsOf (r .events) in
-    record { refusal = 0; place = 0; steps = c .steps; idle = c .idle; commits = c .commits; back = c .back }
+    record { refusal = 0; place = 0; steps = c .steps; idle = c .idle; commits = c .commits; back = c .back; over = c .over }
 
 -- and what an answer says
 abbrev pub saying : {A : Type 0} → (refusal place : ℕ) → A → Outcome A
@@ -73,11 +74,16 @@ saying (suc number) place a = refused (suc number) place
 abbrev pub freshSays : FreshReply → Outcome (Unit {0})
 freshSays r = saying (r .refusal) (r .place) tt
 
-abbrev pub stepSays : StepReply → Outcome Event
-stepSays r = saying (r .refusal) (r .place) (eventOf (r .event) (r .register) (r .turn))
+-- what a step tells: what the pick did, and the sums that it tells of
+pub record Told : Type 0 where
+  pub event : Event
+  pub over : ℕ
+
+abbrev pub stepSays : StepReply → Outcome Told
+stepSays r = saying (r .refusal) (r .place) (record { event = eventOf (r .event) (r .register) (r .turn); over = r .over })
 
 abbrev pub runSays : RunReply → Outcome Counts
-runSays r = saying (r .refusal) (r .place) (record { steps = r .steps; idle = r .idle; commits = r .commits; back = r .back })
+runSays r = saying (r .refusal) (r .place) (record { steps = r .steps; idle = r .idle; commits = r .commits; back = r .back; over = r .over })
 
 -- ---- what a call returns: the registers and the records that it leaves, and its answer
 pub record Returned (Reply : Type 0) : Type 0 where
@@ -133,7 +139,7 @@ abbrev pub reporting : (refusal : ℕ) → Counts → Counts
 reporting zero c = c
 reporting (suc number) c = uncounted
 
--- a step's: one step, or one idle pick; one commit if it is 9, one send-back if it is 10
+-- a step's: one step, or one idle pick; one commit if it is 9, one send-back if it is 10; the sums that it tells of
 abbrev pub stepCounts : StepReply → Counts
 stepCounts r =
     reporting
@@ -143,7 +149,8 @@ stepCounts r =
       idle = more (eqb (r .event) 0) 0;
       commits = more (eqb (r .event) 9) 0;
       back = more (eqb (r .event) 10) 0;
+      over = r .over;
     })
 
 abbrev pub runCounts : RunReply → Counts
-runCounts r = reporting (r .refusal) (record { steps = r .steps; idle = r .idle; commits = r .commits; back = r .back })
+runCounts r = reporting (r .refusal) (record { steps = r .steps; idle = r .idle; commits = r .commits; back = r .back; over = r .over })

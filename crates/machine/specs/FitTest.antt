@@ -3,7 +3,7 @@ use Prim.Native.Nat.{ℕ, zero, suc}
 use mathlib.Core.Bool.{Bool, true, false, cond, not, _&&_, _||_}
 use mathlib.Core.List.{List, [], _∷_, _++_}
 use mathlib.Core.Option.{Option, none, some}
-use lib.Dec.{eqb, ltb}
+use lib.Dec.{eqb, leb, ltb}
 use lib.IntN.{ℤ, pos}
 use lib.ListN.{length, drop, getD}
 use lib.Signed.{ltZ}
@@ -51,7 +51,7 @@ agreesWith t none = false
 agreesWith t (some w) =
     eqb (t .height) (w .height)
     && (eqb (t .begin) (w .begin)
-    && (eqb (t .base) (w .base) && (not (eqb (w .begin) 0) || (eqb (t .reads) registers.none && eqb (t .writes) registers.none))))
+    && (eqb (t .base) (w .base) && (leb (t .over) (w .adds) && (not (eqb (w .begin) 0) || (eqb (t .reads) registers.none && eqb (t .writes) registers.none)))))
 
 -- a thread's record
 unfoldable pub placed : List ℕ → Thread → Bool
@@ -67,9 +67,10 @@ allZero t =
     && (eqb (t .height) 0
     && (eqb (t .begin) 0
     && (eqb (t .base) 0
+    && (eqb (t .over) 0
     && (eqb (t .reads) 0
     && (eqb (t .writes) 0
-    && (free (λ n. false) (t .cells) && (free (λ n. false) (t .readlog) && free (λ n. false) (t .writelog))))))))))
+    && (free (λ n. false) (t .cells) && (free (λ n. false) (t .readlog) && free (λ n. false) (t .writelog)))))))))))
 
 -- threads first, each placed; then records of no thread only
 unfoldable pub noneBehind : List Thread → Bool

@@ -1,8 +1,9 @@
 -- Document 01: "A state fits its code if ..". A test that decides it is in FitTest.
 use Prim.Native.Nat.{ℕ, suc, _+_, _-_, _≤_, _<_, _^_}
 use mathlib.Core.Path.{_≡_}
-use mathlib.Core.Bool.{true, false}
+use mathlib.Core.Bool.{true, false, cond}
 use mathlib.Core.List.{List, [], _∷_}
+use lib.Dec.{eqb}
 use lib.IntN.{ℤ, pos}
 use lib.ListN.{length, drop, getD}
 use Rattle.thread.specs.declared.Thread.{Thread}
@@ -14,26 +15,31 @@ use Rattle.script.specs.Outcome.{done}
 use Rattle.word.specs.Registers.{none, member}
 use Rattle.word.specs.Sum.{InRange}
 
--- What the instructions before a place leave there: the stack height; the place and stack height of the BEGIN of an open transaction, 0
--- if none is open; and the child codes of the FORKs passed, the last one first.
+-- What the instructions before a place leave there: the stack height; the place and stack height of the BEGIN of an open transaction, and the
+-- ADDs passed since, 0 if none is open; and the child codes of the FORKs passed, the last one first.
 pub record Walked : Type 0 where
   pub height : ℕ
   pub begin : ℕ
   pub base : ℕ
+  pub adds : ℕ
   pub children : List Child
 
 abbrev pub unmoved : Walked
-unmoved = record { height = 0; begin = 0; base = 0; children = [] }
+unmoved = record { height = 0; begin = 0; base = 0; adds = 0; children = [] }
 
--- another stack height; other notes; a FORK passed
+-- another stack height; other notes, no ADD passed since; an ADD passed; a FORK passed
 abbrev pub risen : ℕ → Walked → Walked
-risen height w = record { height = height; begin = w .begin; base = w .base; children = w .children }
+risen height w = record { height = height; begin = w .begin; base = w .base; adds = w .adds; children = w .children }
 
 abbrev pub notes : (begin base : ℕ) → Walked → Walked
-notes begin base w = record { height = w .height; begin = begin; base = base; children = w .children }
+notes begin base w = record { height = w .height; begin = begin; base = base; adds = 0; children = w .children }
+
+abbrev pub addPassed : Walked → Walked
+addPassed w =
+    record { height = w .height; begin = w .begin; base = w .base; adds = cond (eqb (w .begin) 0) 0 (suc (w .adds)); children = w .children }
 
 abbrev pub forking : Child → Walked → Walked
-forking child w = record { height = w .height; begin = w .begin; base = w .base; children = child ∷ w .children }
+forking child w = record { height = w .height; begin = w .begin; base = w .base; adds = w .adds; children = child ∷ w .children }
 
 -- no transaction is open
 abbrev pub shut : Walked → Walked
@@ -42,7 +48,7 @@ shut w = notes 0 0 w
 -- the instruction at a place
 unfoldable pub walkOp : Op → (place : ℕ) → Walked → Walked
 walkOp (code.push n) q w = risen (suc (w .height)) w
-walkOp code.add q w = risen (w .height - 1) w
+walkOp code.add q w = risen (w .height - 1) (addPassed w)
 walkOp (code.fork size) q w = forking (record { start = q + 3; end = q + 3 + size }) (risen (suc (w .height)) w)
 walkOp code.begin q w = notes q (w .height) w
 walkOp (code.read v) q w = risen (suc (w .height)) w
@@ -91,6 +97,8 @@ pub record Placed (bytes : List ℕ) (t : Thread) : Type 0 where
   -- empty otherwise"
   pub begin : t .begin ≡ walked .begin
   pub base : t .base ≡ walked .base
+  -- document 02 No. 2: "An open attempt's count is one of its notes; above the ADDs passed since its BEGIN the state is foreign"
+  pub over : t .over ≤ walked .adds
   -- "logs .. being empty otherwise"
   pub no-reads : walked .begin ≡ 0 → t .reads ≡ none
   pub no-writes : walked .begin ≡ 0 → t .writes ≡ none
@@ -145,7 +153,7 @@ pub record TypedThread (t : Thread) : Type 0 where
 abbrev pub Typed : State → Type 0
 Typed s = (i : ℕ) → TypedThread (threadAt s i)
 
--- and numbers of 32 bits, sets of 64 bits, places and heights of 64 bits
+-- and numbers of 32 bits, sets of 64 bits, places, heights and counts of 64 bits
 pub record RangedThread (t : Thread) : Type 0 where
   pub cells : (n : ℕ) → InRange (getD (t .cells) n (pos 0))
   pub readlog : (v : ℕ) → InRange (getD (t .readlog) v (pos 0))
@@ -158,6 +166,7 @@ pub record RangedThread (t : Thread) : Type 0 where
   pub height : t .height < 2 ^ 64
   pub begin : t .begin < 2 ^ 64
   pub base : t .base < 2 ^ 64
+  pub over : t .over < 2 ^ 64
 
 pub record Ranged (s : State) : Type 0 where
   pub registers : (v : ℕ) → InRange (getD (s .registers) v (pos 0))

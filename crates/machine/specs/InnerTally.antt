@@ -12,8 +12,8 @@ pub record Progress : Type 0 where
   pub counts : Counts
 
 -- what a pick adds to both
-abbrev pub advanced : Event → Progress → Progress
-advanced e p = record { threads = more (isFork e) (p .threads); counts = tally e (p .counts) }
+abbrev pub advanced : Event → (over : ℕ) → Progress → Progress
+advanced e over p = record { threads = more (isFork e) (p .threads); counts = tally e over (p .counts) }
 
 pub record Tallied : Type 0 where
   pub state : State
@@ -23,7 +23,7 @@ pub record Tallied : Type 0 where
 unfoldable pub turned : Rule → (code : List ℕ) → State → Progress → (pick : ℕ) → Tallied
 turned sum bytes s p i =
     let one = pickAmong sum bytes (p .threads) s i in
-    record { state = one .state; progress = advanced (one .event) p }
+    record { state = one .state; progress = advanced (one .event) (one .over) p }
 
 -- picks, one after the other
 unfoldable pub tallied : Rule → (code : List ℕ) → State → Progress → (picks : List ℕ) → Tallied

@@ -19,6 +19,7 @@ actedAs h =
       table = h .table;
       children = childrenAs (h .acted .event) (h .acted .start) (h .acted .end);
       event = eventOf (h .acted .event) (h .acted .register) (h .acted .turn);
+      over = h .acted .over;
     }
 
 -- a child's code, or 0 and 0
@@ -35,6 +36,7 @@ handedAs a =
             event = eventNumber (a .event);
             register = eventRegister (a .event);
             turn = turnNumber (a .event);
+            over = a .over;
             start = childOf (a .children) .start;
             end = childOf (a .children) .end;
           };

@@ -7,13 +7,13 @@ use lib.Dec.{eqb, ltb}
 use lib.IntN.{ℤ, pos}
 use lib.ListN.{length, drop, getD, set, replicate}
 use Rattle.thread.specs.declared.Thread.{Thread}
-use Rattle.thread.specs.Threads.{exists, blank, spawned, push, add, begin, sourceOf, read, write, closed, stale, firstStale, overlaid}
+use Rattle.thread.specs.Threads.{exists, blank, spawned, below, push, sumTold, add, begin, sourceOf, read, write, closed, stale, firstStale, overlaid}
 use Rattle.stm.specs.Events.{Source, fromWrites, fromReads, fromTable, Event, idle, pushed, summed, forked, begun, looked, wrote, committed, sentBack, Happened, isIdle}
 use Rattle.code.specs.Ops.{Op, opAt}
 use Rattle.code.specs.Ops as code
 use Rattle.script.specs.Outcome.{Outcome, refused, done}
 use Rattle.word.specs.Registers.{member}
-use Rattle.word.specs.Sum.{Rule}
+use Rattle.word.specs.Sum.{Rule, overOf}
 
 -- the register table and the thread table
 pub record State : Type 0 where
@@ -38,46 +38,51 @@ pub record Child : Type 0 where
   pub end : ℕ
 
 -- ---- one instruction of one thread
--- what an instruction leaves: the thread's record, the register table, the child's code if one was forked, and what was done
+-- what an instruction leaves: the thread's record, the register table, the child's code if one was forked, what was done, and how many sums
+-- that fell outside the range it tells of
 pub record Acted : Type 0 where
   pub thread : Thread
   pub table : List ℤ
   pub children : List Child
   pub event : Event
+  pub over : ℕ
 
--- an instruction that changes its thread's record alone
-abbrev pub alters : Thread → (table : List ℤ) → Event → Acted
-alters t table event = record { thread = t; table = table; children = []; event = event }
+-- an instruction that forks nothing
+abbrev pub alters : Thread → (table : List ℤ) → Event → (over : ℕ) → Acted
+alters t table event over = record { thread = t; table = table; children = []; event = event; over = over }
 
 -- COMMIT: "With a stale one the thread is sent back: to its BEGIN, stack height as noted, logs and notes emptied. Otherwise the write log
--- goes into the table and the commit has taken effect"; v is the first stale register, or 64
+-- goes into the table and the commit has taken effect"; v is the first stale register, or 64. Document 02 No. 2: sums count "as noted, in
+-- attempts that took effect"
 abbrev pub committing : (stale : Bool) → (table : List ℤ) → Thread → (v : ℕ) → Acted
-committing true table t v = alters (closed (t .begin) (t .base) t) table (sentBack v)
-committing false table t v = alters (closed (t .place + 1) (t .height) t) (overlaid 64 0 t table) committed
+committing true table t v = alters (closed (t .begin) (t .base) t) table (sentBack v) 0
+committing false table t v = alters (closed (t .place + 1) (t .height) t) (overlaid 64 0 t table) committed (t .over)
 
 unfoldable pub commit : (table : List ℤ) → Thread → (v : ℕ) → Acted
 commit table t v = committing (ltb v 64) table t v
 
 -- each instruction, in document 01's order
 unfoldable pub act : Rule → (table : List ℤ) → Thread → Op → Acted
-act sum table t (code.push n) = alters (push n (t .place + 5) t) table pushed
-act sum table t code.add = alters (add sum t) table (summed (not (eqb (t .begin) 0)))
+act sum table t (code.push n) = alters (push n (t .place + 5) t) table pushed 0
+act sum table t code.add = alters (add sum t) table (summed (not (eqb (t .begin) 0))) (sumTold t)
 act sum table t (code.fork size) =
     record {
       thread = push (pos 0) (t .place + 3 + size) t;
       table = table;
       children = record { start = t .place + 3; end = t .place + 3 + size } ∷ [];
       event = forked;
+      over = 0;
     }
-act sum table t code.begin = alters (begin t) table begun
-act sum table t (code.read v) = alters (read table v t) table (looked (sourceOf t v))
-act sum table t (code.write v) = alters (write v t) table wrote
+act sum table t code.begin = alters (begin t) table begun 0
+act sum table t (code.read v) = alters (read table v t) table (looked (sourceOf t v)) 0
+act sum table t (code.write v) = alters (write v t) table wrote 0
 act sum table t code.commit = commit table t (firstStale 64 0 t table)
 
 -- ---- one pick
 pub record Stepped : Type 0 where
   pub state : State
   pub event : Event
+  pub over : ℕ
 
 -- a child becomes the next thread, `count` being the number of threads
 abbrev pub seated : (count : ℕ) → List Child → List Thread → List Thread
@@ -90,10 +95,11 @@ settle count s i a =
     record {
       state = record { registers = a .table; threads = seated count (a .children) (set (s .threads) i (a .thread)) };
       event = a .event;
+      over = a .over;
     }
 
 abbrev pub doing : Rule → (count : ℕ) → State → ℕ → Thread → Outcome Op → Stepped
-doing sum count s i t (refused number place) = record { state = s; event = idle }
+doing sum count s i t (refused number place) = record { state = s; event = idle; over = 0 }
 doing sum count s i t (done op) = settle count s i (act sum (s .registers) t op)
 
 -- "A pick of a thread that does not exist or has ended is idle and changes nothing": the picked thread's record is taken out, does the
@@ -101,7 +107,7 @@ doing sum count s i t (done op) = settle count s i (act sum (s .registers) t op)
 unfoldable pub pickAmong : Rule → (code : List ℕ) → (count : ℕ) → State → ℕ → Stepped
 pickAmong sum bytes count s i =
     elim (not (ltb i (length (s .threads))) || (not (exists (threadAt s i)) || eqb (threadAt s i .place) (threadAt s i .end))) [
-      | true ↦ record { state = s; event = idle }
+      | true ↦ record { state = s; event = idle; over = 0 }
       | false ↦ doing sum count s i (threadAt s i) (opAt (drop (threadAt s i .place) bytes))
     ]
 
@@ -111,6 +117,33 @@ pick sum bytes s i = pickAmong sum bytes (numberOf (s .threads)) s i
 -- one instruction of thread i, which is t
 abbrev pub instruction : Rule → State → ℕ → Thread → Op → Stepped
 instruction sum s i t op = settle (numberOf (s .threads)) s i (act sum (s .registers) t op)
+
+-- ---- document 02 No. 2, by a pick's event and its thread's record before the pick
+-- the sums that it tells of: "such sums outside transactions and, as noted, in attempts that took effect"
+abbrev pub toldBy : Event → Thread → ℕ
+toldBy idle t = 0
+toldBy pushed t = 0
+toldBy (summed true) t = 0
+toldBy (summed false) t = overOf (below t 2) (below t 1)
+toldBy forked t = 0
+toldBy begun t = 0
+toldBy (looked source) t = 0
+toldBy wrote t = 0
+toldBy committed t = t .over
+toldBy (sentBack v) t = 0
+
+-- the count that it leaves among the notes: "An open attempt's count is one of its notes"
+abbrev pub notedBy : Event → Thread → ℕ
+notedBy idle t = t .over
+notedBy pushed t = t .over
+notedBy (summed true) t = t .over + overOf (below t 2) (below t 1)
+notedBy (summed false) t = t .over
+notedBy forked t = t .over
+notedBy begun t = 0
+notedBy (looked source) t = t .over
+notedBy wrote t = t .over
+notedBy committed t = 0
+notedBy (sentBack v) t = 0
 
 -- "Each other pick does one instruction": the one at the thread's place
 pub record DoesOne (sum : Rule) (code : List ℕ) (s : State) (i : ℕ) : Type 0 where
@@ -147,4 +180,4 @@ run sum bytes s [] = record { state = s; events = [] }
 run sum bytes s (i ∷ is) =
     let one = pick sum bytes s i in
     let rest = run sum bytes (one .state) is in
-    record { state = rest .state; events = record { thread = i; event = one .event } ∷ rest .events }
+    record { state = rest .state; events = record { thread = i; event = one .event; over = one .over } ∷ rest .events }

@@ -19,6 +19,9 @@ pub struct StepReply {
     pub register: usize,
     // 1 if the pick took a turn, else 0
     pub turn: usize,
+    // 1 if it was a sum outside a transaction that left the range of 32 bits; if it was a commit, how many sums of its attempt did, as noted;
+    // else 0
+    pub over: usize,
 }
 
 // The answer of `run`: the refusal as above, and the counts of its picks, 0 throughout if it was refused.
@@ -30,4 +33,6 @@ pub struct RunReply {
     pub idle: usize,
     pub commits: usize,
     pub back: usize,
+    // sums that left the range of 32 bits, outside transactions and, as noted, in attempts that took effect
+    pub over: usize,
 }

@@ -26,6 +26,7 @@ fn filler() -> thread::Thread {
         cells: [7; 64],
         begin: 7,
         base: 7,
+        over: 7,
         reads: 7,
         readlog: [7; 64],
         writes: 7,
@@ -63,25 +64,26 @@ fn field(t: thread::Thread, k: usize) -> u64 {
         3 => t.height as u64,
         4 => t.begin as u64,
         5 => t.base as u64,
-        6 => t.reads,
+        6 => t.over as u64,
+        7 => t.reads,
         _ => t.writes,
     }
 }
 
-// Number k of a record: 0 to 7 start, end, place, height, begin, base, reads, writes; from 8 the stack cells, from 72 the read log's values,
-// from 136 the write log's.
+// Number k of a record: 0 to 8 start, end, place, height, begin, base, over, reads, writes; from 9 the stack cells, from 73 the read log's
+// values, from 137 the write log's.
 fn number(t: thread::Thread, k: usize) -> u64 {
-    if k < 8 {
+    if k < 9 {
         return field(t, k);
     }
-    if k < 72 {
-        return bits(t.cells[k - 8]);
+    if k < 73 {
+        return bits(t.cells[k - 9]);
     }
-    if k < 136 {
-        return bits(t.readlog[k - 72]);
+    if k < 137 {
+        return bits(t.readlog[k - 73]);
     }
-    if k < 200 {
-        return bits(t.writelog[k - 136]);
+    if k < 201 {
+        return bits(t.writelog[k - 137]);
     }
     0
 }
@@ -108,7 +110,7 @@ fn sum_registers(registers: [i32; 65]) -> Running {
 fn sum_thread(sum: Running, t: thread::Thread) -> Running {
     let mut s = sum;
     let mut k: usize = 0;
-    while k < 200 {
+    while k < 201 {
         s = and(s, number(t, k));
         k += 1;
     }
@@ -146,7 +148,7 @@ fn same_registers(a: [i32; 65], b: [i32; 65]) -> bool {
 
 fn same_thread(a: thread::Thread, b: thread::Thread) -> bool {
     let mut k: usize = 0;
-    while k < 200 {
+    while k < 201 {
         if number(a, k) != number(b, k) {
             return false;
         }
@@ -182,7 +184,7 @@ pub fn same(a: Memory, b: Memory) -> bool {
 
 // ---- changes that a text asks for. Names are numbers by `text::word_number`
 
-// The number, as in `number`, that a field's name stands for, or that its first entry has; 200 for any other name.
+// The number, as in `number`, that a field's name stands for, or that its first entry has; 201 for any other name.
 fn field_number(name: u64) -> usize {
     match name {
         20579924 => 0, // start
@@ -191,12 +193,13 @@ fn field_number(name: u64) -> usize {
         273980692 => 3, // height
         2268462 => 4, // begin
         67173 => 5, // base
-        19039379 => 6, // reads
-        790941875 => 7, // writes
-        103820 => 8, // cell
-        19496317415 => 72, // readlog
-        809924473319 => 136, // writelog
-        _ => 200,
+        514226 => 6, // over
+        19039379 => 7, // reads
+        790941875 => 8, // writes
+        103820 => 9, // cell
+        19496317415 => 73, // readlog
+        809924473319 => 137, // writelog
+        _ => 201,
     }
 }
 
@@ -229,6 +232,10 @@ fn put_field(mut t: thread::Thread, k: usize, value: u64) -> thread::Thread {
             t
         }
         6 => {
+            t.over = n;
+            t
+        }
+        7 => {
             t.reads = value;
             t
         }
@@ -241,20 +248,20 @@ fn put_field(mut t: thread::Thread, k: usize, value: u64) -> thread::Thread {
 
 // A record with another number k, counted as in `number`.
 fn put(mut t: thread::Thread, k: usize, n: text::Number) -> thread::Thread {
-    if k < 8 {
+    if k < 9 {
         return put_field(t, k, n.value);
     }
     let v = text::signed(n);
-    if k < 72 {
-        t.cells[k - 8] = v;
+    if k < 73 {
+        t.cells[k - 9] = v;
         return t;
     }
-    if k < 136 {
-        t.readlog[k - 72] = v;
+    if k < 137 {
+        t.readlog[k - 73] = v;
         return t;
     }
-    if k < 200 {
-        t.writelog[k - 136] = v;
+    if k < 201 {
+        t.writelog[k - 137] = v;
         return t;
     }
     t
@@ -314,7 +321,7 @@ impl Memory {
         if i > 16 {
             return self.bad();
         }
-        if k > 199 {
+        if k > 200 {
             return self.bad();
         }
         if !n.good {
@@ -330,7 +337,7 @@ impl Memory {
     fn with_thread(self, words: &[u8]) -> Memory {
         let i = text::size(text::part(words, b' ', 2), 16);
         let k = field_number(text::word_number(text::part(words, b' ', 3)));
-        if k < 8 {
+        if k < 9 {
             return self.with_number(i, k, text::parse_number(text::part(words, b' ', 4)));
         }
         let entry = text::size(text::part(words, b' ', 4), 63);

@@ -61,7 +61,7 @@ number n b e = free-line (decimal n) b (decimal-free 10 n (lit< tt)) e
 -- each line of a listing is one
 counts-one : (c : Counts) → oneLine (countsLine c) ≡ true
 unfolding countsLine ascii oneLine
-counts-one c = number (c .steps) _ (number (c .idle) _ (number (c .commits) _ (number (c .back) _ refl)))
+counts-one c = number (c .steps) _ (number (c .idle) _ (number (c .commits) _ (number (c .back) _ (number (c .over) _ refl))))
 
 refusal-one : (n p : ℕ) → oneLine (refusalLine n p) ≡ true
 unfolding refusalLine ascii oneLine

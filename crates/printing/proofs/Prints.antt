@@ -28,6 +28,7 @@ use Rattle.script.specs.Jobs.{Job}
 use Rattle.script.specs.Outcome.{done}
 use Rattle.script.specs.Reader.{readJob}
 use Rattle.stm.specs.Events.{Counts, countsOf}
+use Rattle.stm.proofs.Counts.{same-counts}
 use Rattle.thread.specs.Threads.{exists, blank}
 use Rattle.thread.specs.declared.Thread.{Thread}
 use Rattle.printing.specs.Printing.{linesOf, HasLine, doneLine, openLine, Tells, SameResults}
@@ -48,11 +49,9 @@ counts-told c d e =
     let p = number-told (c .steps) (d .steps) _ _ (follows (ascii "steps ") _ _ e) in
     let q = number-told (c .idle) (d .idle) _ _ (follows (ascii "idle ") _ _ (p .1)) in
     let r = number-told (c .commits) (d .commits) _ _ (follows (ascii "commits ") _ _ (q .1)) in
-    let s : c .back ≡ d .back = decimal-told (c .back) (d .back) (precedes (decimal (c .back)) (decimal (d .back)) 10 (follows (ascii "back ") _ _ (r .1))) in
-    ap {B = Counts} (λ (n : ℕ). record { steps = n; idle = c .idle; commits = c .commits; back = c .back }) (p .0)
-    ∙ ap {B = Counts} (λ (n : ℕ). record { steps = d .steps; idle = n; commits = c .commits; back = c .back }) (q .0)
-    ∙ ap {B = Counts} (λ (n : ℕ). record { steps = d .steps; idle = d .idle; commits = n; back = c .back }) (r .0)
-    ∙ ap {B = Counts} (λ (n : ℕ). record { steps = d .steps; idle = d .idle; commits = d .commits; back = n }) s
+    let s = number-told (c .back) (d .back) _ _ (follows (ascii "back ") _ _ (r .1)) in
+    let u : c .over ≡ d .over = decimal-told (c .over) (d .over) (precedes (decimal (c .over)) (decimal (d .over)) 10 (follows (ascii "over ") _ _ (s .1))) in
+    same-counts (p .0) (q .0) (r .0) (s .0) u
 
 -- a refusal's line tells its number and place
 pub refusal-told : (n p m q : ℕ) → refusalLine n p ≡ refusalLine m q → (n ≡ m) × (p ≡ q)

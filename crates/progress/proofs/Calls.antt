@@ -28,6 +28,7 @@ use Rattle.machine.proofs.FitTests.{fits-exactly}
 use Rattle.script.specs.Bytes.{Bytes}
 use Rattle.script.specs.Jobs.{Job}
 use Rattle.script.specs.Outcome.{Outcome, refused, done}
+use Rattle.stm.specs.Events as events
 use Rattle.stm.specs.Events.{Event, Counts, uncounted, countsOf, eventNumber, eventRegister, turnNumber}
 use Rattle.survey.specs.InnerRecords.{surveyOf}
 use Rattle.survey.specs.InnerWalk.{surveyFits}
@@ -57,7 +58,7 @@ driven-refusal bytes (suc left) (i ∷ is) d =
 
 -- the answer by the state and the counts
 answers : (d : Driven) (r : Ran) (n : ℕ) → d .progress .refusal ≡ 0 → _≡_ {A = tally.Tallied} (record { state = d .state; progress = shown (d .progress) }) (record { state = r .state; progress = record { threads = n; counts = countsOf (r .events) } }) → answering d ≡ record { state = r .state; reply = runReply (done r) }
-answers d r n z e = ap₂ (λ (k : ℕ) (x : tally.Tallied). record { state = x .state; reply = record { refusal = k; place = 0; steps = x .progress .counts .steps; idle = x .progress .counts .idle; commits = x .progress .counts .commits; back = x .progress .counts .back } }) z e
+answers d r n z e = ap₂ (λ (k : ℕ) (x : tally.Tallied). record { state = x .state; reply = record { refusal = k; place = 0; steps = x .progress .counts .steps; idle = x .progress .counts .idle; commits = x .progress .counts .commits; back = x .progress .counts .back; over = x .progress .counts .over } }) z e
 
 number-low : (ts : List Thread) → numberOf ts ≤ length ts
 unfolding numberOf
@@ -97,7 +98,7 @@ module _ (code : List ℕ) (s : State) (is : List ℕ) (b : Bytes code) (y : Typ
       let few : surveyOf (s .threads) .count ≤ 16 = let a = number-low (s .threads) in let r = f .records in omega arith in
       let short = k .short in
       let p : Progress = beginning 0 (surveyOf (s .threads) .count) (length is) in
-      let room : Room (length is) p = record { threads = omega arith; steps = omega arith; idle = omega arith; commits = omega arith; back = omega arith } in
+      let room : Room (length is) p = record { threads = omega arith; steps = omega arith; idle = omega arith; commits = omega arith; back = omega arith; over = omega arith } in
       let ran : runOf code s is ≡ done (run wrapping code s is) = rw (k .read, k .fit, le-ltb 32768 (length is) (k .short)) in
       answers (driven code (length is) is (record { state = s; progress = p })) (run wrapping code s is) (numberOf (run wrapping code s is .state .threads)) (driven-refusal code (length is) is (record { state = s; progress = p })) (drive-runs c is s f y p (ap (λ (m : ℕ). record { threads = m; counts = uncounted }) n) room)
       ∙ sym (run-taken code s is (run wrapping code s is) ran)
@@ -111,8 +112,8 @@ module _ (code : List ℕ) (s : State) (is : List ℕ) (b : Bytes code) (y : Typ
       go (suc n) e = ap (λ (r : ℕ). from (beginning r (surveyOf (s .threads) .count) (length is))) e ∙ refused-run n e
 
 -- ---- a step
-answers-step : (s : State) (who : ℕ) (g : Given) (r : Stepped) → settledBy s who g .state ≡ r .state → g .picked .progress .refusal ≡ 0 → Tells (r .event) (g .picked .progress) → _≡_ {A = Returned StepReply} (record { state = settledBy s who g .state; reply = stepReplyOf (g .picked .progress) }) (record { state = r .state; reply = stepReply (done r) })
-answers-step s who g r a z w = λ i. record { state = a i; reply = record { refusal = z i; place = 0; event = w .event i; register = w .register i; turn = w .turn i } }
+answers-step : (s : State) (who : ℕ) (g : Given) (r : Stepped) → settledBy s who g .state ≡ r .state → g .picked .progress .refusal ≡ 0 → Tells (r .event) (g .picked .progress) → g .picked .progress .over ≡ r .over → _≡_ {A = Returned StepReply} (record { state = settledBy s who g .state; reply = stepReplyOf (g .picked .progress) }) (record { state = r .state; reply = stepReply (done r) })
+answers-step s who g r a z w o = λ i. record { state = a i; reply = record { refusal = z i; place = 0; event = w .event i; register = w .register i; turn = w .turn i; over = o i } }
 
 pub step-refuses : (code : List ℕ) (s : State) (i n : ℕ) → refusalOf (readCode code) (fits code s) 1 ≡ suc n → stepOf code s i ≡ refused (suc n) 0
 unfolding stepOf refusalOf
@@ -140,7 +141,7 @@ module _ (code : List ℕ) (s : State) (i : ℕ) (b : Bytes code) (y : Typed s) 
   refused-step n e = rw (ne-eqb (suc n) 0 (λ e. absurd (omega arith))) (sym (step-refused code s i (suc n) 0 (step-refuses code s i n e)))
 
   taken-step : refusalOf (readCode code) (fits code s) 1 ≡ 0 → one-from (beginning 0 (surveyOf (s .threads) .count) 1) ≡ stepCall code s i
-  unfolding beginning stepOf driven tally.turned
+  unfolding beginning stepOf driven tally.turned events.tally
   taken-step e =
       let k = admits code s 1 e in
       let c = read-is-code code (k .job) b (k .read) in
@@ -148,13 +149,15 @@ module _ (code : List ℕ) (s : State) (i : ℕ) (b : Bytes code) (y : Typed s) 
       let n : surveyOf (s .threads) .count ≡ numberOf (s .threads) = survey-count (s .threads) (survey-parts (surveyOf (s .threads)) code (length (s .registers)) (survey-fits code s ∙ k .fit) .good) in
       let few : surveyOf (s .threads) .count ≤ 16 = let a = number-low (s .threads) in let r = f .records in omega arith in
       let p : Progress = beginning 0 (surveyOf (s .threads) .count) 1 in
-      let low : Low p = record { threads = omega arith; steps = omega arith; idle = omega arith; commits = omega arith; back = omega arith } in
+      let low : Low p = record { threads = omega arith; steps = omega arith; idle = omega arith; commits = omega arith; back = omega arith; over = omega arith } in
       let t = perform-turns c s f y i p low in
       let w = perform-tells c s f y i p in
       let same : pickAmong wrapping code (p .threads) s i ≡ pick wrapping code s i = ap (λ (m : ℕ). pickAmong wrapping code m s i) n in
       let ran : stepOf code s i ≡ done (pick wrapping code s i) = rw (k .read, k .fit) in
       let state = ap (λ (x : tally.Tallied). x .state) t ∙ ap (λ (x : Stepped). x .state) same in
-      answers-step s (whichOf i) (pickedBy code (s .registers) i (threadAt s (whichOf i)) p) (pick wrapping code s i) state (kept-refusal code (s .registers) i (threadAt s (whichOf i)) p) (subst (λ (x : Stepped). Tells (x .event) (pickedBy code (s .registers) i (threadAt s (whichOf i)) p .picked .progress)) same w)
+      let one : 0 + pickAmong wrapping code (p .threads) s i .over ≡ pickAmong wrapping code (p .threads) s i .over = omega arith in
+      let over = ap (λ (x : tally.Tallied). x .progress .counts .over) t ∙ (one ∙ ap (λ (x : Stepped). x .over) same) in
+      answers-step s (whichOf i) (pickedBy code (s .registers) i (threadAt s (whichOf i)) p) (pick wrapping code s i) state (kept-refusal code (s .registers) i (threadAt s (whichOf i)) p) (subst (λ (x : Stepped). Tells (x .event) (pickedBy code (s .registers) i (threadAt s (whichOf i)) p .picked .progress)) same w) over
       ∙ sym (step-taken code s i (pick wrapping code s i) ran)
 
   pub step-by-value : steppedBy code s i ≡ stepCall code s i

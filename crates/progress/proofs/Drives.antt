@@ -1,5 +1,5 @@
 -- Picks by value, one after the other, are the run with its counts; and which refusal a call has. Assumes nothing.
-use Prim.Native.Nat.{ℕ, zero, suc, _+_, _<_, _≤_}
+use Prim.Native.Nat.{ℕ, zero, suc, _+_, _*_, _<_, _≤_}
 use mathlib.Core.Bool.{Bool, true, false, cond, not}
 use mathlib.Core.Path.{_≡_, refl, sym, ap, ap₂, subst, _∙_}
 use mathlib.Core.List.{List, [], _∷_}
@@ -12,7 +12,7 @@ use Rattle.code.specs.Reader.{readCode}
 use Rattle.code.proofs.Foreign.{only-foreign}
 use Rattle.progress.specs.InnerProgress.{moreTo, advancedTo, whichOf, Given, pickedOf, pickedBy, refusalOf, Low, shown, settledBy, Driven, drivenBy, driven, Room}
 use Rattle.progress.specs.declared.Progress.{Progress}
-use Rattle.progress.proofs.Turns.{perform-turns}
+use Rattle.progress.proofs.Turns.{few-told, perform-turns}
 use Rattle.machine.specs.Answers.{sumOf, fitting, runOf, stepOf}
 use Rattle.machine.specs.Fits.{Fits, Typed}
 use Rattle.machine.specs.FitTest.{fits}
@@ -25,7 +25,9 @@ use Rattle.script.specs.Outcome.{Outcome, refused, done, refuse, onward}
 use Rattle.stm.specs.Events.{Event, isFork, more, uncounted, countsOf}
 use Rattle.thread.specs.declared.Thread.{Thread}
 use Rattle.thread.specs.InnerStep.{Handed, handed, unacted, stepped}
+use Rattle.word.specs.InnerCount.{saturated}
 use Rattle.word.specs.Sum.{wrapping}
+use Rattle.word.proofs.Counting.{saturated-exact}
 
 -- ---- the numbers stay low
 more-low : (b : Bool) (n m : ℕ) → n + suc m < 18446744073709551615 → moreTo b n + m < 18446744073709551615
@@ -37,24 +39,28 @@ more-low true n m l = go (eqb n 18446744073709551615)
     go true = omega arith
     go false = omega arith
 
-room-after : (event register turn n : ℕ) (p : Progress) → Room (suc n) p → Room n (advancedTo event register turn p)
+plus-low : (a b m : ℕ) → b < 6000 → a + 6000 * suc (suc m) < 18446744073709551615 → saturated a b + 6000 * suc m < 18446744073709551615
+plus-low a b m few l = let e = saturated-exact a b (omega arith) in omega arith
+
+room-after : (event register turn over n : ℕ) (p : Progress) → over < 6000 → Room (suc n) p → Room n (advancedTo event register turn over p)
 unfolding advancedTo
-room-after event register turn n p r =
+room-after event register turn over n p few r =
     record {
       threads = more-low (eqb event 3) (p .threads) n (r .threads);
       steps = more-low (not (eqb event 0)) (p .steps) n (r .steps);
       idle = more-low (eqb event 0) (p .idle) n (r .idle);
       commits = more-low (eqb event 9) (p .commits) n (r .commits);
       back = more-low (eqb event 10) (p .back) n (r .back);
+      over = plus-low (p .over) over n few (r .over);
     }
 
-room-picked : (bytes : List ℕ) (s : State) (i : ℕ) (t : Thread) (n : ℕ) (p : Progress) → Room (suc n) p → Room n (pickedBy bytes (s .registers) i t p .picked .progress)
+room-picked : (bytes : List ℕ) (s : State) (i : ℕ) (t : Thread) (n : ℕ) (p : Progress) → stepped wrapping bytes (s .registers) t .acted .over < 6000 → Room (suc n) p → Room n (pickedBy bytes (s .registers) i t p .picked .progress)
 unfolding pickedBy
-room-picked bytes s i t n p r = go (ltb i 16)
+room-picked bytes s i t n p few r = go (ltb i 16)
   where
     go : (b : Bool) → Room n (cond b (pickedOf (stepped wrapping bytes (s .registers) t) p) (pickedOf (handed (unacted t) (s .registers)) p) .picked .progress)
-    go true = room-after _ _ _ n p r
-    go false = room-after _ _ _ n p r
+    go true = room-after _ _ _ _ n p few r
+    go false = room-after _ _ _ _ n p (omega arith) r
 
 room-low : (n : ℕ) (p : Progress) → Room n p → Low p
 room-low n p r =
@@ -63,16 +69,17 @@ room-low n p r =
     let c = r .idle in
     let d = r .commits in
     let e = r .back in
-    record { threads = omega arith; steps = omega arith; idle = omega arith; commits = omega arith; back = omega arith }
+    let f = r .over in
+    record { threads = omega arith; steps = omega arith; idle = omega arith; commits = omega arith; back = omega arith; over = omega arith }
 
 -- what is carried, as the run told forward has it
 abbrev told : Driven → tally.Tallied
 told d = record { state = d .state; progress = shown (d .progress) }
 
 -- the number of threads that is carried is the state's
-turned-pick : (bytes : List ℕ) (s : State) (i : ℕ) (p : Progress) → p .threads ≡ numberOf (s .threads) → tally.turned wrapping bytes s (shown p) i ≡ record { state = pick wrapping bytes s i .state; progress = tally.advanced (pick wrapping bytes s i .event) (shown p) }
+turned-pick : (bytes : List ℕ) (s : State) (i : ℕ) (p : Progress) → p .threads ≡ numberOf (s .threads) → tally.turned wrapping bytes s (shown p) i ≡ record { state = pick wrapping bytes s i .state; progress = tally.advanced (pick wrapping bytes s i .event) (pick wrapping bytes s i .over) (shown p) }
 unfolding tally.turned
-turned-pick bytes s i p n = ap (λ (m : ℕ). record { state = pickAmong wrapping bytes m s i .state; progress = tally.advanced (pickAmong wrapping bytes m s i .event) (shown p) }) n
+turned-pick bytes s i p n = ap (λ (m : ℕ). record { state = pickAmong wrapping bytes m s i .state; progress = tally.advanced (pickAmong wrapping bytes m s i .event) (pickAmong wrapping bytes m s i .over) (shown p) }) n
 
 module _ {bytes : List ℕ} {j : Job} (c : IsCode bytes j) where
   -- the picks of a list, all of them, the number of threads being carried
@@ -80,7 +87,7 @@ module _ {bytes : List ℕ} {j : Job} (c : IsCode bytes j) where
   unfolding driven tally.tallied
   drive-tallies [] s f y p n r = refl
   drive-tallies (i ∷ is) s f y p n r =
-      drive-tallies is (settledBy s (whichOf i) g .state) (fit .0) (fit .1) (g .picked .progress) number (room-picked bytes s i (threadAt s (whichOf i)) (length is) p r)
+      drive-tallies is (settledBy s (whichOf i) g .state) (fit .0) (fit .1) (g .picked .progress) number (room-picked bytes s i (threadAt s (whichOf i)) (length is) p (few-told c s f y (whichOf i)) r)
       ∙ ap (λ (x : tally.Tallied). tally.tallied wrapping bytes (x .state) (x .progress) is) t
     where
       g : Given
@@ -89,7 +96,7 @@ module _ {bytes : List ℕ} {j : Job} (c : IsCode bytes j) where
       t : settledBy s (whichOf i) g ≡ tally.turned wrapping bytes s (shown p) i
       t = perform-turns c s f y i p (room-low (suc (length is)) p r)
 
-      same : tally.turned wrapping bytes s (shown p) i ≡ record { state = pick wrapping bytes s i .state; progress = tally.advanced (pick wrapping bytes s i .event) (shown p) }
+      same : tally.turned wrapping bytes s (shown p) i ≡ record { state = pick wrapping bytes s i .state; progress = tally.advanced (pick wrapping bytes s i .event) (pick wrapping bytes s i .over) (shown p) }
       same = turned-pick bytes s i p n
 
       fit : Fits bytes (settledBy s (whichOf i) g .state) × Typed (settledBy s (whichOf i) g .state)

@@ -55,7 +55,7 @@ reached bytes table pick reach t p e = go (ltb pick 16) e
     go true e = ap (λ (l : List ℕ). pickedOf (stepped wrapping l table t) p) (ap (λ (k : ℕ). take k bytes) e ∙ take-length bytes)
     go false e = ap (λ (l : List ℕ). pickedOf (stepped wrapping l table t) p) (ap (λ (k : ℕ). take k bytes) e) ∙ ap (λ (h : Handed). pickedOf h p) (no-code table t)
 
-pub a-pick : (bytes : List ℕ) (table : List ℤ) (pick reach : ℕ) (t : Thread) (p : Progress) → reach ≡ reachOf pick (length bytes) → (a : Action) (after : List ℤ) → handed a after ≡ stepped wrapping (take reach bytes) table t → (seat : ℕ) → seat ≡ seatOf (a .event) (p .threads) → (q : Progress) → q ≡ advancedTo (a .event) (a .register) (a .turn) p → given (record { thread = a .thread; seat = seat; start = a .start; end = a .end; progress = q }) after ≡ pickedBy bytes table pick t p
+pub a-pick : (bytes : List ℕ) (table : List ℤ) (pick reach : ℕ) (t : Thread) (p : Progress) → reach ≡ reachOf pick (length bytes) → (a : Action) (after : List ℤ) → handed a after ≡ stepped wrapping (take reach bytes) table t → (seat : ℕ) → seat ≡ seatOf (a .event) (p .threads) → (q : Progress) → q ≡ advancedTo (a .event) (a .register) (a .turn) (a .over) p → given (record { thread = a .thread; seat = seat; start = a .start; end = a .end; progress = q }) after ≡ pickedBy bytes table pick t p
 a-pick bytes table pick reach t p k a after h seat s q e =
     let x : given (record { thread = a .thread; seat = seat; start = a .start; end = a .end; progress = q }) after ≡ pickedOf (handed a after) p = rw (s, e) in
     x ∙ (ap (λ (i : Handed). pickedOf i p) h ∙ reached bytes table pick reach t p k)
@@ -65,8 +65,8 @@ pub plain-reach : (bytes : List ℕ) (pick reach : ℕ) (t : Thread) → reach �
 unfolding plainPick
 plain-reach bytes pick reach t e = ap (λ (k : ℕ). plainIn (take k bytes) t) e
 
--- a pick by what changes the stack alone
-pub a-plain : (bytes : List ℕ) (table : List ℤ) (pick reach : ℕ) (t : Thread) (p : Progress) → reach ≡ reachOf pick (length bytes) → (a : Action) → handed a table ≡ performed wrapping table t (plainOp (take reach bytes) t) → (seat : ℕ) → seat ≡ seatOf (a .event) (p .threads) → (q : Progress) → q ≡ advancedTo (a .event) (a .register) (a .turn) p → given (record { thread = a .thread; seat = seat; start = a .start; end = a .end; progress = q }) table ≡ plainedBy bytes table pick t p
+-- a pick by what does not change the logs
+pub a-plain : (bytes : List ℕ) (table : List ℤ) (pick reach : ℕ) (t : Thread) (p : Progress) → reach ≡ reachOf pick (length bytes) → (a : Action) → handed a table ≡ performed wrapping table t (plainOp (take reach bytes) t) → (seat : ℕ) → seat ≡ seatOf (a .event) (p .threads) → (q : Progress) → q ≡ advancedTo (a .event) (a .register) (a .turn) (a .over) p → given (record { thread = a .thread; seat = seat; start = a .start; end = a .end; progress = q }) table ≡ plainedBy bytes table pick t p
 unfolding plainedBy
 a-plain bytes table pick reach t p k a h seat s q e =
     let x : given (record { thread = a .thread; seat = seat; start = a .start; end = a .end; progress = q }) table ≡ pickedOf (handed a table) p = rw (s, e) in

@@ -56,6 +56,6 @@ module _ (o : Outcome Job) (v n l : ℕ) (s : Scanned) (a : s ≡ told o) (b : s
   fresh-job registers records k e = job-fresh o a registers records k e
 
 -- the progress with which a call begins
-pub begins : (refusal threads picks x limit : ℕ) → refusal ≡ x → limit ≡ unlessOf refusal picks → _≡_ {A = Progress} (record { threads = threads; limit = limit; refusal = refusal; steps = 0; idle = 0; commits = 0; back = 0; event = 0; register = 0; turn = 0 }) (beginning x threads picks)
+pub begins : (refusal threads picks x limit : ℕ) → refusal ≡ x → limit ≡ unlessOf refusal picks → _≡_ {A = Progress} (record { threads = threads; limit = limit; refusal = refusal; steps = 0; idle = 0; commits = 0; back = 0; over = 0; event = 0; register = 0; turn = 0 }) (beginning x threads picks)
 unfolding beginning unlessOf
 begins refusal threads picks x limit e f = rw (f, e)

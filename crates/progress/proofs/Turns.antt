@@ -18,7 +18,8 @@ use Rattle.machine.specs.Steps.{State, Stepped, Acted, Child, alters, seated, s
 use Rattle.machine.specs.Fits.{Exists, Fits, Typed}
 use Rattle.machine.specs.InnerTally as tally
 use Rattle.machine.specs.InnerTurn.{childrenAs, actedAs, handedAs}
-use Rattle.machine.proofs.Actings.{step-acts, idle-step, step-picks}
+use Rattle.machine.proofs.Actings.{step-acts, idle-step, step-picks, act-low}
+use Rattle.machine.proofs.Ranges.{low-fits}
 use Rattle.machine.proofs.Agrees.{does-one}
 use Rattle.script.specs.Jobs.{Job}
 use Rattle.stm.specs.Events.{Source, fromWrites, fromReads, fromTable, Event, idle, pushed, summed, forked, begun, looked, wrote, committed, sentBack, isIdle, isFork, isCommit, isBack, more, Counts, eventNumber, eventRegister, turnNumber, eventOf}
@@ -28,6 +29,7 @@ use Rattle.thread.specs.declared.Thread.{Thread}
 use Rattle.thread.specs.InnerStep.{Handed, handed, unacted, stepped}
 use Rattle.thread.specs.Threads.{exists, blank, spawned}
 use Rattle.word.specs.Sum.{wrapping}
+use Rattle.word.proofs.Counting.{saturated-exact}
 
 -- what an event's number says of it
 fork-number : (e : Event) → eqb (eventNumber e) 3 ≡ isFork e
@@ -92,12 +94,13 @@ unfolding moreTo
 low-more false n l = refl
 low-more true n l = rw (ne-eqb n 18446744073709551615 (λ e. absurd (omega arith))) (omega arith)
 
--- the progress after an event
-advances : (e : Event) (p : Progress) → Low p → shown (advancedTo (eventNumber e) (eventRegister e) (turnNumber e) p) ≡ tally.advanced e (shown p)
+-- the progress after an event that tells of so many sums
+advances : (e : Event) (over : ℕ) (p : Progress) → Low p → over < 6000 → shown (advancedTo (eventNumber e) (eventRegister e) (turnNumber e) over p) ≡ tally.advanced e over (shown p)
 unfolding advancedTo events.tally
-advances e p l =
+advances e over p l few =
+    let most = l .over in
     rw
-    (fork-number e, idle-number e, commit-number e, back-number e, low-more (isFork e) (p .threads) (l .threads), low-more (not (isIdle e)) (p .steps) (l .steps), low-more (isIdle e) (p .idle) (l .idle), low-more (isCommit e) (p .commits) (l .commits), low-more (isBack e) (p .back) (l .back))
+    (saturated-exact (p .over) over (omega arith), fork-number e, idle-number e, commit-number e, back-number e, low-more (isFork e) (p .threads) (l .threads), low-more (not (isIdle e)) (p .steps) (l .steps), low-more (isIdle e) (p .idle) (l .idle), low-more (isCommit e) (p .commits) (l .commits), low-more (isBack e) (p .back) (l .back))
 
 -- numbers that are an event's
 record Numbered (h : Handed) : Type 0 where
@@ -105,25 +108,27 @@ record Numbered (h : Handed) : Type 0 where
   event : h .acted .event ≡ eventNumber what
   register : h .acted .register ≡ eventRegister what
   turn : h .acted .turn ≡ turnNumber what
+  few : h .acted .over < 6000
 
-by-handed : (h : Handed) (a : Acted) → h ≡ handedAs a → Numbered h
+by-handed : (h : Handed) (a : Acted) → h ≡ handedAs a → a .over < 6000 → Numbered h
 unfolding handedAs
-by-handed h a e =
+by-handed h a e few =
     record {
       what = a .event;
       event = ap (λ (x : Handed). x .acted .event) e;
       register = ap (λ (x : Handed). x .acted .register) e;
       turn = ap (λ (x : Handed). x .acted .turn) e;
+      few = subst (λ (n : ℕ). n < 6000) (sym (ap (λ (x : Handed). x .acted .over) e)) few;
     }
 
 -- the progress by the numbers of an event
-tells : (event register turn : ℕ) (e : Event) → event ≡ eventNumber e → register ≡ eventRegister e → turn ≡ turnNumber e → (p : Progress) → Low p → shown (advancedTo event register turn p) ≡ tally.advanced (eventOf event register turn) (shown p)
-tells event register turn e a b c p l =
-    rw (a, b, c) (advances e p l ∙ ap (λ (x : Event). tally.advanced x (shown p)) (sym (event-of e)))
+tells : (event register turn over : ℕ) (e : Event) → event ≡ eventNumber e → register ≡ eventRegister e → turn ≡ turnNumber e → over < 6000 → (p : Progress) → Low p → shown (advancedTo event register turn over p) ≡ tally.advanced (eventOf event register turn) over (shown p)
+tells event register turn over e a b c few p l =
+    rw (a, b, c) (advances e over p l few ∙ ap (λ (x : Event). tally.advanced x over (shown p)) (sym (event-of e)))
 
-nothing : (p : Progress) → Low p → shown (advancedTo 0 0 0 p) ≡ tally.advanced idle (shown p)
+nothing : (p : Progress) → Low p → shown (advancedTo 0 0 0 0 p) ≡ tally.advanced idle 0 (shown p)
 unfolding eventNumber eventRegister turnNumber
-nothing p l = advances idle p l
+nothing p l = advances idle 0 p l (omega arith)
 
 -- the child at its seat
 seats : (ts : List Thread) (count event start end : ℕ) → length ts ≡ 16 → set ts (seatOf event count) (spawned start end) ≡ seated count (childrenAs event start end) ts
@@ -148,7 +153,7 @@ module _ {bytes : List ℕ} {j : Job} (c : IsCode bytes j) where
   numbered s f y i = go (eqb (threadAt s i .start) 0) refl (eqb (threadAt s i .place) (threadAt s i .end)) refl
     where
       idly : ((threadAt s i .start ≡ 0) ⊎ (threadAt s i .place ≡ threadAt s i .end)) → Numbered (stepped wrapping bytes (s .registers) (threadAt s i))
-      idly w = by-handed _ _ (idle-step c wrapping (s .registers) (threadAt s i) w)
+      idly w = by-handed _ _ (idle-step c wrapping (s .registers) (threadAt s i) w) (omega arith)
 
       go : (b : Bool) → eqb (threadAt s i .start) 0 ≡ b → (d : Bool) → eqb (threadAt s i .place) (threadAt s i .end) ≡ d → Numbered (stepped wrapping bytes (s .registers) (threadAt s i))
       go true e d z = idly (inl (eqb-true (threadAt s i .start) 0 e))
@@ -157,7 +162,11 @@ module _ {bytes : List ℕ} {j : Job} (c : IsCode bytes j) where
           let ne = eqb-false (threadAt s i .place) (threadAt s i .end) z in
           let there : exists (threadAt s i) ≡ true = ap not e in
           let d = does-one c wrapping s f y i there ne in
-          by-handed _ _ (step-acts c wrapping s f y i there ne (d .op) (d .at-place))
+          by-handed _ _ (step-acts c wrapping s f y i there ne (d .op) (d .at-place)) (act-low wrapping (s .registers) (threadAt s i) (low-fits c s f y i .over) (d .op))
+
+  -- a step tells of few sums
+  pub few-told : (s : State) → Fits bytes s → Typed s → (i : ℕ) → stepped wrapping bytes (s .registers) (threadAt s i) .acted .over < 6000
+  few-told s f y i = numbered s f y i .few
 
   -- a record that is there
   settles : (s : State) → Fits bytes s → Typed s → (i : ℕ) (p : Progress) → Low p → i < 16 → settledBy s i (pickedOf (stepped wrapping bytes (s .registers) (threadAt s i)) p) ≡ tally.turned wrapping bytes s (shown p) i
@@ -168,19 +177,19 @@ module _ {bytes : List ℕ} {j : Job} (c : IsCode bytes j) where
       let k = step-picks c wrapping s f y (p .threads) i (subst (λ (m : ℕ). i < m) (sym (f .records)) q) in
       let long : length (set (s .threads) i (h .acted .thread)) ≡ 16 = length-set (s .threads) i (h .acted .thread) ∙ f .records in
       let a = seats (set (s .threads) i (h .acted .thread)) (p .threads) (h .acted .event) (h .acted .start) (h .acted .end) long in
-      let b = tells (h .acted .event) (h .acted .register) (h .acted .turn) (n .what) (n .event) (n .register) (n .turn) p l in
+      let b = tells (h .acted .event) (h .acted .register) (h .acted .turn) (h .acted .over) (n .what) (n .event) (n .register) (n .turn) (n .few) p l in
       ap₂ (λ (ts : List Thread) (r : tally.Progress). record { state = record { registers = h .table; threads = ts }; progress = r }) a b
-      ∙ ap (λ (x : Stepped). record { state = x .state; progress = tally.advanced (x .event) (shown p) }) (sym k)
+      ∙ ap (λ (x : Stepped). record { state = x .state; progress = tally.advanced (x .event) (x .over) (shown p) }) (sym k)
 
   -- none
   stays : (s : State) → Fits bytes s → (i : ℕ) (p : Progress) → Low p → 16 ≤ i → settledBy s 0 (pickedOf (handed (unacted (threadAt s 0)) (s .registers)) p) ≡ tally.turned wrapping bytes s (shown p) i
   unfolding tally.turned pickAmong seatOf
   stays s f i p l q =
-      let k : pickAmong wrapping bytes (p .threads) s i ≡ record { state = s; event = idle } = rw (pickAmong, le-ltb i (length (s .threads)) (subst (λ (m : ℕ). m ≤ i) (sym (f .records)) q)) in
+      let k : pickAmong wrapping bytes (p .threads) s i ≡ record { state = s; event = idle; over = 0 } = rw (pickAmong, le-ltb i (length (s .threads)) (subst (λ (m : ℕ). m ≤ i) (sym (f .records)) q)) in
       let long : length (set (s .threads) 0 (threadAt s 0)) ≤ 16 = let z = length-set (s .threads) 0 (threadAt s 0) in let r = f .records in omega arith in
       let a : set (set (s .threads) 0 (threadAt s 0)) 16 (spawned 0 0) ≡ s .threads = set-out (set (s .threads) 0 (threadAt s 0)) 16 (spawned 0 0) long ∙ set-getD (s .threads) 0 blank in
       ap₂ (λ (ts : List Thread) (r : tally.Progress). record { state = record { registers = s .registers; threads = ts }; progress = r }) a (nothing p l)
-      ∙ ap (λ (x : Stepped). record { state = x .state; progress = tally.advanced (x .event) (shown p) }) (sym k)
+      ∙ ap (λ (x : Stepped). record { state = x .state; progress = tally.advanced (x .event) (x .over) (shown p) }) (sym k)
 
   -- a pick by value, the record put back and a child at its seat, is a turn
   pub perform-turns : (s : State) → Fits bytes s → Typed s → (i : ℕ) (p : Progress) → Low p → settledBy s (whichOf i) (pickedBy bytes (s .registers) i (threadAt s (whichOf i)) p) ≡ tally.turned wrapping bytes s (shown p) i
@@ -210,7 +219,7 @@ module _ {bytes : List ℕ} {j : Job} (c : IsCode bytes j) where
   tells-none : (s : State) → Fits bytes s → (i : ℕ) (p : Progress) → 16 ≤ i → Tells (pickAmong wrapping bytes (p .threads) s i .event) (pickedOf (handed (unacted (threadAt s 0)) (s .registers)) p .picked .progress)
   unfolding pickAmong advancedTo eventNumber eventRegister turnNumber
   tells-none s f i p q =
-      let e : pickAmong wrapping bytes (p .threads) s i .event ≡ idle = ap (λ (x : Stepped). x .event) (let k : pickAmong wrapping bytes (p .threads) s i ≡ record { state = s; event = idle } = rw (pickAmong, le-ltb i (length (s .threads)) (subst (λ (m : ℕ). m ≤ i) (sym (f .records)) q)) in k) in
+      let e : pickAmong wrapping bytes (p .threads) s i .event ≡ idle = ap (λ (x : Stepped). x .event) (let k : pickAmong wrapping bytes (p .threads) s i ≡ record { state = s; event = idle; over = 0 } = rw (pickAmong, le-ltb i (length (s .threads)) (subst (λ (m : ℕ). m ≤ i) (sym (f .records)) q)) in k) in
       record { event = ap eventNumber (sym e); register = ap eventRegister (sym e); turn = ap turnNumber (sym e) }
 
   pub perform-tells : (s : State) → Fits bytes s → Typed s → (i : ℕ) (p : Progress) → Tells (pickAmong wrapping bytes (p .threads) s i .event) (pickedBy bytes (s .registers) i (threadAt s (whichOf i)) p .picked .progress)

@@ -1,7 +1,7 @@
 -- For the proofs of functions over records only: one pick by value, and with what a call begins and ends. Nobody has to believe it:
 -- `run-by-value` and `step-by-value` (proofs/Calls) say that `ranBy` and `steppedBy` are `runCall` and `stepCall`, `plained` (proofs/Performs)
 -- that a plain pick is a pick.
-use Prim.Native.Nat.{ℕ, zero, suc, _+_, _<_}
+use Prim.Native.Nat.{ℕ, zero, suc, _+_, _*_, _<_}
 use mathlib.Core.Bool.{Bool, cond, not}
 use mathlib.Core.List.{List, [], _∷_}
 use lib.Dec.{eqb, ltb}
@@ -23,6 +23,7 @@ use Rattle.survey.specs.InnerWalk.{surveyFits}
 use Rattle.thread.specs.declared.Thread.{Thread}
 use Rattle.thread.specs.InnerStep.{Handed, handed, unacted, performed, stepped, plainIn, plainOp}
 use Rattle.thread.specs.Threads.{spawned}
+use Rattle.word.specs.InnerCount.{saturated}
 use Rattle.word.specs.Sum.{wrapping}
 
 -- one more if so; the greatest number stays
@@ -34,8 +35,8 @@ unfoldable pub seatOf : (event threads : ℕ) → ℕ
 seatOf event threads = cond (eqb event 3) threads 16
 
 -- after a pick that did this
-unfoldable pub advancedTo : (event register turn : ℕ) → Progress → Progress
-advancedTo event register turn p =
+unfoldable pub advancedTo : (event register turn over : ℕ) → Progress → Progress
+advancedTo event register turn over p =
     record {
       threads = moreTo (eqb event 3) (p .threads);
       limit = p .limit;
@@ -44,6 +45,7 @@ advancedTo event register turn p =
       idle = moreTo (eqb event 0) (p .idle);
       commits = moreTo (eqb event 9) (p .commits);
       back = moreTo (eqb event 10) (p .back);
+      over = saturated (p .over) over;
       event = event;
       register = register;
       turn = turn;
@@ -57,7 +59,7 @@ whichOf pick = cond (ltb pick 16) pick 0
 unfoldable pub reachOf : (pick length : ℕ) → ℕ
 reachOf pick length = cond (ltb pick 16) length 0
 
--- whether it changes the stack of its record alone
+-- whether it changes the stack and the note of its record and not its logs
 unfoldable pub plainPick : (code : List ℕ) (pick : ℕ) → Thread → Bool
 plainPick bytes pick t = plainIn (take (reachOf pick (length bytes)) bytes) t
 
@@ -78,7 +80,7 @@ pickedOf h p =
       seat = seatOf (h .acted .event) (p .threads);
       start = h .acted .start;
       end = h .acted .end;
-      progress = advancedTo (h .acted .event) (h .acted .register) (h .acted .turn) p;
+      progress = advancedTo (h .acted .event) (h .acted .register) (h .acted .turn) (h .acted .over) p;
     })
     (h .table)
 
@@ -86,7 +88,7 @@ unfoldable pub pickedBy : (code : List ℕ) (table : List ℤ) (pick : ℕ) → 
 pickedBy bytes table pick t p =
     cond (ltb pick 16) (pickedOf (stepped wrapping bytes table t) p) (pickedOf (handed (unacted t) table) p)
 
--- the same by what changes the stack alone; any other pick is idle
+-- the same by what does not change the logs; any other pick is idle
 unfoldable pub plainedBy : (code : List ℕ) (table : List ℤ) (pick : ℕ) → Thread → Progress → Given
 plainedBy bytes table pick t p =
     pickedOf (performed wrapping table t (plainOp (take (reachOf pick (length bytes)) bytes) t)) p
@@ -116,6 +118,7 @@ beginning refusal threads picks =
       idle = 0;
       commits = 0;
       back = 0;
+      over = 0;
       event = 0;
       register = 0;
       turn = 0;
@@ -129,27 +132,28 @@ abbrev pub freshReplyOf : (refusal : ℕ) → FreshReply
 freshReplyOf refusal = record { refusal = refusal; place = 0 }
 
 abbrev pub stepReplyOf : Progress → StepReply
-stepReplyOf p = record { refusal = p .refusal; place = 0; event = p .event; register = p .register; turn = p .turn }
+stepReplyOf p = record { refusal = p .refusal; place = 0; event = p .event; register = p .register; turn = p .turn; over = p .over }
 
 abbrev pub runReplyOf : Progress → RunReply
 runReplyOf p =
-    record { refusal = p .refusal; place = 0; steps = p .steps; idle = p .idle; commits = p .commits; back = p .back }
+    record { refusal = p .refusal; place = 0; steps = p .steps; idle = p .idle; commits = p .commits; back = p .back; over = p .over }
 
 -- what a run that is told forward carries of it
 abbrev pub shown : Progress → tally.Progress
 shown p =
     record {
       threads = p .threads;
-      counts = record { steps = p .steps; idle = p .idle; commits = p .commits; back = p .back };
+      counts = record { steps = p .steps; idle = p .idle; commits = p .commits; back = p .back; over = p .over };
     }
 
--- no number is the greatest
+-- no number is the greatest, nor will `over` be after one more pick, which tells of fewer than 6,000 sums
 pub record Low (p : Progress) : Type 0 where
   pub threads : p .threads < 18446744073709551615
   pub steps : p .steps < 18446744073709551615
   pub idle : p .idle < 18446744073709551615
   pub commits : p .commits < 18446744073709551615
   pub back : p .back < 18446744073709551615
+  pub over : p .over + 6000 < 18446744073709551615
 
 -- a pick's record put back, and a forked child at its seat
 abbrev pub settledBy : State → (who : ℕ) → Given → tally.Tallied
@@ -185,6 +189,7 @@ pub record Room (n : ℕ) (p : Progress) : Type 0 where
   pub idle : p .idle + n < 18446744073709551615
   pub commits : p .commits + n < 18446744073709551615
   pub back : p .back + n < 18446744073709551615
+  pub over : p .over + 6000 * suc n < 18446744073709551615
 
 -- a run by value: what it leaves, and its answer
 abbrev pub answering : Driven → Returned RunReply

@@ -7,7 +7,7 @@ ghost use Rattle.progress.specs.InnerProgress.{admittedTo, advancedTo, f
 ghost use Rattle.survey.specs.InnerWalk.{surveyFits};
 
 // The number of threads, how many picks are to be done, document 01's number of the refusal, 0 if there is none, the counts so far, and what
-// the last pick did, in the numbers of a step's answer.
+// the last pick did, in the numbers of a step's answer. (A step's `over` is that of its one pick, so far.)
 pub struct Progress {
     pub threads: usize,
     pub limit: usize,
@@ -16,6 +16,7 @@ pub struct Progress {
     pub idle: usize,
     pub commits: usize,
     pub back: usize,
+    pub over: usize,
     pub event: usize,
     pub register: usize,
     pub turn: usize,
@@ -55,8 +56,8 @@ fn seat(event: usize, threads: usize) -> usize
 
 impl Progress {
     // After a pick that did this.
-    fn after(self, event: usize, register: usize, turn: usize) -> Progress
-        ensures { λ r. ⌜ r ≡ advancedTo event register turn self ⌝ }
+    fn after(self, event: usize, register: usize, turn: usize, over: usize) -> Progress
+        ensures { λ r. ⌜ r ≡ advancedTo event register turn over self ⌝ }
     {
         Progress {
             threads: more(event == 3, self.threads),
@@ -66,6 +67,7 @@ impl Progress {
             idle: more(event == 0, self.idle),
             commits: more(event == 9, self.commits),
             back: more(event == 10, self.back),
+            over: word::saturating_add(self.over, over),
             event,
             register,
             turn,
@@ -82,6 +84,7 @@ impl Progress {
             event: self.event,
             register: self.register,
             turn: self.turn,
+            over: self.over,
         }
     }
 
@@ -96,6 +99,7 @@ impl Progress {
             idle: self.idle,
             commits: self.commits,
             back: self.back,
+            over: self.over,
         }
     }
 }
@@ -140,11 +144,11 @@ pub fn perform(
         seat: seat(event, threads),
         start: a.start,
         end: a.end,
-        progress: p.after(event, a.register, a.turn),
+        progress: p.after(event, a.register, a.turn, a.over),
     }
 }
 
-// Whether a pick changes the stack of its record alone.
+// Whether a pick changes the stack and the note of its record and not its logs.
 pub fn is_plain(t: thread::Thread, code: &[u8], pick: u8) -> bool
     ensures { λ r. ⌜ r ≡ plainPick (now (code .entry)) pick t ⌝ }
 {
@@ -152,7 +156,7 @@ pub fn is_plain(t: thread::Thread, code: &[u8], pick: u8) -> bool
     t.is_plain(&code[..reach])
 }
 
-// A pick that changes the stack of its record alone, without the copies of the logs that `perform` makes; any other pick is idle. The table
+// A pick that changes the stack and the note of its record, without the copies of the logs that `perform` makes; any other pick is idle. The table
 // stays.
 pub fn plain(t: thread::Thread, code: &[u8], registers: &mut [i32], pick: u8, p: Progress) -> Picked
     ensures { λ r. ⌜ given r (now (registers .exit)) ≡ plainedBy (now (code .entry)) (now (registers .entry)) pick t p ⌝ }
@@ -167,7 +171,7 @@ pub fn plain(t: thread::Thread, code: &[u8], registers: &mut [i32], pick: u8, p:
         seat: seat(event, threads),
         start: a.start,
         end: a.end,
-        progress: p.after(event, a.register, a.turn),
+        progress: p.after(event, a.register, a.turn, a.over),
     }
 }
 
@@ -238,6 +242,7 @@ pub fn admitted(code: &[u8], survey: survey::Survey, registers: usize, picks: us
         idle: 0,
         commits: 0,
         back: 0,
+        over: 0,
         event: 0,
         register: 0,
         turn: 0,

@@ -8,3 +8,4 @@ pub mod Transactions
 pub mod Same
 pub mod Soups
 pub mod Turns
+pub mod Overflows

@@ -11,3 +11,4 @@ pub mod Turns
 pub mod Kept
 pub mod Source
 pub mod Soup
+pub mod Overflows

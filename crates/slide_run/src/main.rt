@@ -3,10 +3,10 @@ use delivery::Answer;
 
 // Writes what an input prints.
 fn show(input: &[u8]) {
-    let mut out = [0u8; 4423];
+    let mut out = [0u8; 4449];
     match listing::report(input, &mut out) {
         Answer::Done(length) => {
-            if length <= 4423 {
+            if length <= 4449 {
                 io::write_all(1, &out[..length]);
             }
         }

@@ -11,7 +11,7 @@ use lib.IntN.{ℤ}
 use lib.ListN.{length, getD, set, length-set, length-append}
 use lib.Seq.{getD-set-same}
 use Rattle.stm.specs.InnerCells.{Cells}
-use Rattle.stm.specs.InnerTasks.{Log, Task, outside, inside, over, Did, firstStale, overwritten, commits, stays, goes, stepOutside, stepInside, stepTask, System, taskAt, started, did, next, endOf, eventsOf, start}
+use Rattle.stm.specs.InnerTasks.{Log, Task, outside, inside, ended, Did, firstStale, overwritten, commits, stays, goes, stepOutside, stepInside, stepTask, System, taskAt, started, did, next, endOf, eventsOf, start}
 use Rattle.stm.specs.InnerMeaning.{TakesOutside, TakesInside, Outside, Inside, behind, beginsIn, begins, forksIn, forksOf, toCome, commitsToCome, forksToCome, dirty, total}
 use Rattle.stm.proofs.Codes.{proc-runs}
 use Rattle.stm.proofs.SentBack.{Staleness, staleness, at-next, never, no}
@@ -25,7 +25,7 @@ use Rattle.script.specs.Limits.{ValuedP}
 use Rattle.word.specs.Sum.{Rule}
 
 -- ---- code
--- code inside a transaction has no BEGIN and no FORK up to its COMMIT
+-- code inside a transaction has no BEGIN and over no FORK up to its COMMIT
 record Closed (c : Code) : Type 0 where
   count-behind : codeCount c ≡ untilCommit c + codeCount (behind c)
   begins-behind : begins c ≡ begins (behind c)
@@ -113,14 +113,14 @@ module _ {K : Cells} where
   total-append f [] ys = omega arith
   total-append f (x ∷ xs) ys = omega (arith, total-append f xs ys)
 
-  total-set : (f : Task K → ℕ) (ts : List (Task K)) (i : ℕ) (t : Task K) → i < length ts → total f (set ts i t) + f (getD ts i (over K)) ≡ total f ts + f t
+  total-set : (f : Task K → ℕ) (ts : List (Task K)) (i : ℕ) (t : Task K) → i < length ts → total f (set ts i t) + f (getD ts i (ended K)) ≡ total f ts + f t
   unfolding total
   total-set f [] i t l = absurd (omega arith)
   total-set f (x ∷ xs) zero t l = omega arith
   total-set f (x ∷ xs) (suc i) t l = omega (arith, total-set f xs i t (omega arith))
 
   -- one task set, and more behind
-  total-next : (f : Task K → ℕ) (ts : List (Task K)) (i : ℕ) (t : Task K) (ys : List (Task K)) → i < length ts → total f (set ts i t ++ ys) + f (getD ts i (over K)) ≡ total f ts + (f t + total f ys)
+  total-next : (f : Task K → ℕ) (ts : List (Task K)) (i : ℕ) (t : Task K) (ys : List (Task K)) → i < length ts → total f (set ts i t ++ ys) + f (getD ts i (ended K)) ≡ total f ts + (f t + total f ys)
   total-next f ts i t ys l = omega (arith, total-set f ts i t l, total-append f (set ts i t) ys)
 
   total-below : (f g : Task K → ℕ) → ((t : Task K) → f t ≤ g t) → (ts : List (Task K)) → total f ts ≤ total g ts
@@ -134,7 +134,7 @@ module _ {K : Cells} where
   total-length f h (t ∷ ts) = omega (arith, h t, total-length f h ts)
 
   -- one of them counts nothing
-  total-but : (f : Task K → ℕ) → ((t : Task K) → f t ≤ 1) → (ts : List (Task K)) (i : ℕ) → i < length ts → f (getD ts i (over K)) ≡ 0 → total f ts + 1 ≤ length ts
+  total-but : (f : Task K → ℕ) → ((t : Task K) → f t ≤ 1) → (ts : List (Task K)) (i : ℕ) → i < length ts → f (getD ts i (ended K)) ≡ 0 → total f ts + 1 ≤ length ts
   unfolding total
   total-but f h [] i l z = absurd (omega arith)
   total-but f h (t ∷ ts) zero l z = omega (arith, total-length f h ts)
@@ -150,7 +150,7 @@ one-most false = omega arith
 
 dirty-open : (K : Cells) (h : List (K .Cell)) (t : Task K) → dirtyCount K h t ≤ commitsToCome K t
 dirty-open K h (outside c σ) = omega arith
-dirty-open K h (inside body base c σ r w) = omega (arith, one-most (ltb (firstStale K 64 0 r h) 64))
+dirty-open K h (inside body base c σ r w over) = omega (arith, one-most (ltb (firstStale K 64 0 r h) 64))
 
 children-clean : (K : Cells) (h : List (K .Cell)) (ks : List Code) → total (dirtyCount K h) (started K ks) ≡ 0
 unfolding total
@@ -168,7 +168,7 @@ pub record Begun (M : ℕ) (body : Code) (base : List ℤ) (code : Code) (stack 
 
 abbrev pub Formed : (K : Cells) (M : ℕ) → Task K → Type 0
 Formed K M (outside c σ) = Outside c (length σ) × (longestIn c ≤ M)
-Formed K M (inside body base c σ r w) = Begun M body base c σ
+Formed K M (inside body base c σ r w over) = Begun M body base c σ
 
 module _ (K : Cells) (M : ℕ) where
   -- what a step does to what is to come
@@ -178,20 +178,20 @@ module _ (K : Cells) (M : ℕ) where
     pub commit : one (isCommit (d .event)) + (commitsToCome K (d .task) + total (commitsToCome K) (started K (d .children))) ≡ commitsToCome K t
     pub fork : length (started K (d .children)) + (forksToCome K (d .task) + total (forksToCome K) (started K (d .children))) ≡ forksToCome K t
     pub formed : Formed K M (d .task)
-    pub children-formed : (k : ℕ) → Formed K M (getD (started K (d .children)) k (over K))
+    pub children-formed : (k : ℕ) → Formed K M (getD (started K (d .children)) k (ended K))
 
-  over-formed : Formed K M (over K)
+  ended-formed : Formed K M (ended K)
   unfolding Outside longestIn
-  over-formed = (refl, omega arith)
+  ended-formed = (refl, omega arith)
 
   idles : (h : List (K .Cell)) (t : Task K) → Formed K M t → Moves t (stays K t h)
   unfolding total
-  idles h t f = record { work = omega arith; least = omega arith; commit = omega arith; fork = omega arith; formed = f; children-formed = λ k. over-formed }
+  idles h t f = record { work = omega arith; least = omega arith; commit = omega arith; fork = omega arith; formed = f; children-formed = λ k. ended-formed }
 
   -- a step of an instruction other than FORK and COMMIT
-  passes : (h : List (K .Cell)) (t u : Task K) (e : Event) → isIdle e ≡ false → isCommit e ≡ false → isBack e ≡ false → toCome K t ≡ suc (toCome K u) → commitsToCome K u ≡ commitsToCome K t → forksToCome K u ≡ forksToCome K t → Formed K M u → Moves t (goes K u h e)
+  passes : (h : List (K .Cell)) (t u : Task K) (e : Event) {over : ℕ} → isIdle e ≡ false → isCommit e ≡ false → isBack e ≡ false → toCome K t ≡ suc (toCome K u) → commitsToCome K u ≡ commitsToCome K t → forksToCome K u ≡ forksToCome K t → Formed K M u → Moves t (record { task = u; table = h; children = []; event = e; over = over })
   unfolding total
-  passes h t u e i c b x y z f = record { work = rw (i, x) (omega arith); least = rw (i, x, b) (omega arith); commit = rw (c, y) (omega arith); fork = rw z (omega arith); formed = f; children-formed = λ k. over-formed }
+  passes h t u e i c b x y z f = record { work = rw (i, x) (omega arith); least = rw (i, x, b) (omega arith); commit = rw (c, y) (omega arith); fork = rw z (omega arith); formed = f; children-formed = λ k. ended-formed }
 
   module _ (sum : Rule) where
     outside-moves : (h : List (K .Cell)) (c : Code) (σ : List ℤ) → Formed K M (outside c σ) → Moves (outside c σ) (stepOutside K sum h c σ)
@@ -214,18 +214,18 @@ module _ (K : Cells) (M : ℕ) where
       children-formed = child;
     }
       where
-        child : (j : ℕ) → Formed K M (getD (started K (k ∷ [])) j (over K))
+        child : (j : ℕ) → Formed K M (getD (started K (k ∷ [])) j (ended K))
         child zero = (f .0 .0, omega (arith, f .1))
-        child (suc j) = over-formed
+        child (suc j) = ended-formed
 
-    commit-moves : (h : List (K .Cell)) (body : Code) (base : List ℤ) (c : Code) (n : ℤ) (σ : List ℤ) (r : Log (K .Cell)) (w : Log ℤ) → Begun M body base (COMMIT ⨾ c) (n ∷ σ) → Moves (inside body base (COMMIT ⨾ c) (n ∷ σ) r w) (commits K h body base c n w (firstStale K 64 0 r h))
+    commit-moves : (h : List (K .Cell)) (body : Code) (base : List ℤ) (c : Code) (n : ℤ) (σ : List ℤ) (r : Log (K .Cell)) (w : Log ℤ) (over : ℕ) → Begun M body base (COMMIT ⨾ c) (n ∷ σ) → Moves (inside body base (COMMIT ⨾ c) (n ∷ σ) r w over) (commits K h body base c n w over (firstStale K 64 0 r h))
     unfolding Outside TakesOutside Inside TakesInside codeCount instructionCount begins beginsIn forksOf forksIn longestIn longestAt behind total
-    commit-moves h body base c n σ r w f = go (ltb (firstStale K 64 0 r h) 64)
+    commit-moves h body base c n σ r w over f = go (ltb (firstStale K 64 0 r h) 64)
       where
         result : Bool → Did K
         result b = elim b [
-          | true ↦ record { task = outside (BEGIN ⨾ body) base; table = h; children = []; event = sentBack (firstStale K 64 0 r h) }
-          | false ↦ record { task = outside c (n ∷ base); table = overwritten K 64 0 w h; children = []; event = committed }
+          | true ↦ record { task = outside (BEGIN ⨾ body) base; table = h; children = []; event = sentBack (firstStale K 64 0 r h); over = 0 }
+          | false ↦ record { task = outside c (n ∷ base); table = overwritten K 64 0 w h; children = []; event = committed; over = over }
         ]
 
         whole : Closed body
@@ -243,14 +243,14 @@ module _ (K : Cells) (M : ℕ) where
         l : longestIn body ≡ longestIn c
         l = whole .longest-behind ∙ ap longestIn (sym (f .same-behind))
 
-        go : (b : Bool) → Moves (inside body base (COMMIT ⨾ c) (n ∷ σ) r w) (result b)
+        go : (b : Bool) → Moves (inside body base (COMMIT ⨾ c) (n ∷ σ) r w over) (result b)
         go true = record {
           work = omega (arith, x, f .body-longest);
           least = omega (arith, x);
           commit = omega (arith, y);
           fork = omega (arith, z);
           formed = (f .ready, omega (arith, l, f .body-longest, f .code-longest));
-          children-formed = λ k. over-formed;
+          children-formed = λ k. ended-formed;
         }
         go false = record {
           work = omega arith;
@@ -258,29 +258,29 @@ module _ (K : Cells) (M : ℕ) where
           commit = omega arith;
           fork = omega arith;
           formed = (f .goes-on .1, omega (arith, f .code-longest));
-          children-formed = λ k. over-formed;
+          children-formed = λ k. ended-formed;
         }
 
-    inside-moves : (h : List (K .Cell)) (body : Code) (base : List ℤ) (c : Code) (σ : List ℤ) (r : Log (K .Cell)) (w : Log ℤ) → Begun M body base c σ → Moves (inside body base c σ r w) (stepInside K sum h body base c σ r w)
+    inside-moves : (h : List (K .Cell)) (body : Code) (base : List ℤ) (c : Code) (σ : List ℤ) (r : Log (K .Cell)) (w : Log ℤ) (over : ℕ) → Begun M body base c σ → Moves (inside body base c σ r w over) (stepInside K sum h body base c σ r w over)
     unfolding stepInside Inside TakesInside codeCount instructionCount begins beginsIn forksOf forksIn longestIn longestAt behind total
-    inside-moves h body base ε σ r w f = idles h _ f
-    inside-moves h body base (PUSH n ⨾ c) σ r w f = passes h _ _ _ refl refl refl (omega arith) (omega arith) (omega arith) (record { goes-on = f .goes-on; ready = f .ready; same-behind = f .same-behind; body-longest = f .body-longest; code-longest = omega (arith, f .code-longest) })
-    inside-moves h body base (ADD ⨾ c) [] r w f = idles h _ f
-    inside-moves h body base (ADD ⨾ c) (n ∷ []) r w f = idles h _ f
-    inside-moves h body base (ADD ⨾ c) (n ∷ m ∷ σ) r w f = passes h _ _ _ refl refl refl (omega arith) (omega arith) (omega arith) (record { goes-on = f .goes-on; ready = f .ready; same-behind = f .same-behind; body-longest = f .body-longest; code-longest = omega (arith, f .code-longest) })
-    inside-moves h body base (READ v ⨾ c) σ r w f = passes h _ _ _ refl refl refl (omega arith) (omega arith) (omega arith) (record { goes-on = f .goes-on .1; ready = f .ready; same-behind = f .same-behind; body-longest = f .body-longest; code-longest = omega (arith, f .code-longest) })
-    inside-moves h body base (WRITE v ⨾ c) [] r w f = idles h _ f
-    inside-moves h body base (WRITE v ⨾ c) (n ∷ σ) r w f = passes h _ _ _ refl refl refl (omega arith) (omega arith) (omega arith) (record { goes-on = f .goes-on .1; ready = f .ready; same-behind = f .same-behind; body-longest = f .body-longest; code-longest = omega (arith, f .code-longest) })
-    inside-moves h body base (BEGIN ⨾ c) σ r w f = idles h _ f
-    inside-moves h body base (COMMIT ⨾ c) [] r w f = idles h _ f
-    inside-moves h body base (COMMIT ⨾ c) (n ∷ σ) r w f = commit-moves h body base c n σ r w f
-    inside-moves h body base (FORK k ⨾ c) σ r w f = idles h _ f
+    inside-moves h body base ε σ r w over f = idles h _ f
+    inside-moves h body base (PUSH n ⨾ c) σ r w over f = passes h _ _ _ refl refl refl (omega arith) (omega arith) (omega arith) (record { goes-on = f .goes-on; ready = f .ready; same-behind = f .same-behind; body-longest = f .body-longest; code-longest = omega (arith, f .code-longest) })
+    inside-moves h body base (ADD ⨾ c) [] r w over f = idles h _ f
+    inside-moves h body base (ADD ⨾ c) (n ∷ []) r w over f = idles h _ f
+    inside-moves h body base (ADD ⨾ c) (n ∷ m ∷ σ) r w over f = passes h _ _ _ refl refl refl (omega arith) (omega arith) (omega arith) (record { goes-on = f .goes-on; ready = f .ready; same-behind = f .same-behind; body-longest = f .body-longest; code-longest = omega (arith, f .code-longest) })
+    inside-moves h body base (READ v ⨾ c) σ r w over f = passes h _ _ _ refl refl refl (omega arith) (omega arith) (omega arith) (record { goes-on = f .goes-on .1; ready = f .ready; same-behind = f .same-behind; body-longest = f .body-longest; code-longest = omega (arith, f .code-longest) })
+    inside-moves h body base (WRITE v ⨾ c) [] r w over f = idles h _ f
+    inside-moves h body base (WRITE v ⨾ c) (n ∷ σ) r w over f = passes h _ _ _ refl refl refl (omega arith) (omega arith) (omega arith) (record { goes-on = f .goes-on .1; ready = f .ready; same-behind = f .same-behind; body-longest = f .body-longest; code-longest = omega (arith, f .code-longest) })
+    inside-moves h body base (BEGIN ⨾ c) σ r w over f = idles h _ f
+    inside-moves h body base (COMMIT ⨾ c) [] r w over f = idles h _ f
+    inside-moves h body base (COMMIT ⨾ c) (n ∷ σ) r w over f = commit-moves h body base c n σ r w over f
+    inside-moves h body base (FORK k ⨾ c) σ r w over f = idles h _ f
 
     -- every step of every well-formed task
     pub moves : (h : List (K .Cell)) (t : Task K) → Formed K M t → Moves t (stepTask K sum h t)
     unfolding stepTask
     moves h (outside c σ) f = outside-moves h c σ f
-    moves h (inside body base c σ r w) f = inside-moves h body base c σ r w f
+    moves h (inside body base c σ r w over) f = inside-moves h body base c σ r w over f
 
 commit-no-back : (e : Event) → isCommit e ≡ true → isBack e ≡ false
 commit-no-back idle c = no c
@@ -310,7 +310,7 @@ module _ (K : Cells) where
   start-formed : (c : Code) (M : ℕ) → Outside c 0 → longestIn c ≤ M → (i : ℕ) → Formed K M (taskAt K (start K c) i)
   unfolding start
   start-formed c M o l zero = (o, l)
-  start-formed c M o l (suc i) = over-formed K M
+  start-formed c M o l (suc i) = ended-formed K M
 
   -- code alone
   pub start-bounded : (c : Code) → Outside c 0 → Bounded (codeCount c) (longestIn c) (begins c) (suc (forksOf c)) 0 0 0 (start K c)
@@ -338,7 +338,7 @@ module _ (K : Cells) where
 
   module _ (sum : Rule) where
     -- ---- a pick of a number that no task has
-    nobody : (ts : List (Task K)) (i : ℕ) → length ts ≤ i → getD ts i (over K) ≡ over K
+    nobody : (ts : List (Task K)) (i : ℕ) → length ts ≤ i → getD ts i (ended K) ≡ ended K
     nobody [] i l = refl
     nobody (t ∷ ts) zero l = absurd (omega arith)
     nobody (t ∷ ts) (suc i) l = nobody ts i (omega arith)
@@ -348,7 +348,7 @@ module _ (K : Cells) where
     set-nobody (x ∷ ts) zero t l = absurd (omega arith)
     set-nobody (x ∷ ts) (suc i) t l = ap {B = List (Task K)} (λ (r : List (Task K)). x ∷ r) (set-nobody ts i t (omega arith))
 
-    over-idle : (h : List (K .Cell)) → stepTask K sum h (over K) ≡ stays K (over K) h
+    over-idle : (h : List (K .Cell)) → stepTask K sum h (ended K) ≡ stays K (ended K) h
     unfolding stepTask stepOutside
     over-idle h = refl
 
@@ -357,9 +357,9 @@ module _ (K : Cells) where
       abbrev After : Did K → Type 0
       After d = Bounded L M A T (steps + one (not (isIdle (d .event)))) (commits + one (isCommit (d .event))) (backs + one (isBack (d .event))) (record { table = d .table; tasks = set (s .tasks) i (d .task) ++ started K (d .children) })
 
-      nobody-keeps : length (s .tasks) ≤ i → After (stays K (over K) (s .table))
+      nobody-keeps : length (s .tasks) ≤ i → After (stays K (ended K) (s .table))
       nobody-keeps l =
-          let e : set (s .tasks) i (over K) ++ [] ≡ s .tasks = set-nobody (s .tasks) i (over K) l in
+          let e : set (s .tasks) i (ended K) ++ [] ≡ s .tasks = set-nobody (s .tasks) i (ended K) l in
           subst (λ (ts : List (Task K)). Bounded L M A T (steps + 0) (commits + 0) (backs + 0) (record { table = s .table; tasks = ts })) (sym e)
           (subst (λ (n : ℕ). Bounded L M A T n (commits + 0) (backs + 0) s) (let z : steps ≡ steps + 0 = omega arith in z)
           (subst (λ (n : ℕ). Bounded L M A T steps n (backs + 0) s) (let z : commits ≡ commits + 0 = omega arith in z)
@@ -404,8 +404,8 @@ module _ (K : Cells) where
         -- a commit makes at most the other tasks dirty
         others : isCommit (d .event) ≡ true → now + 1 ≤ length (s .tasks)
         others c =
-            let n : getD (set (s .tasks) i (d .task)) i (over K) ≡ d .task = getD-set-same (s .tasks) i (d .task) (over K) l in
-            let z : dirtyCount K (d .table) (getD (set (s .tasks) i (d .task)) i (over K)) ≡ 0 = rw (n, f .committed-clean c (d .table)) in
+            let n : getD (set (s .tasks) i (d .task)) i (ended K) ≡ d .task = getD-set-same (s .tasks) i (d .task) (ended K) l in
+            let z : dirtyCount K (d .table) (getD (set (s .tasks) i (d .task)) i (ended K)) ≡ 0 = rw (n, f .committed-clean c (d .table)) in
             let e : length (set (s .tasks) i (d .task)) ≡ length (s .tasks) = length-set (s .tasks) i (d .task) in
             let t = total-but (dirtyCount K (d .table)) (λ x. one-most (dirty K (d .table) x)) (set (s .tasks) i (d .task)) i (omega arith) z in
             let u = children-clean K (d .table) (d .children) in
@@ -506,8 +506,8 @@ module _ (K : Cells) where
         go true e = somebody-keeps L M A T steps commits backs s b i (ltb-true i (length (s .tasks)) e) (did K sum s i) (moves K M sum (s .table) (taskAt K s i) (b .formed i)) (staleness K sum (s .table) (taskAt K s i))
         go false e =
             let l = ltb-false i (length (s .tasks)) e in
-            let t : taskAt K s i ≡ over K = nobody (s .tasks) i l in
-            let d : did K sum s i ≡ stays K (over K) (s .table) = ap (stepTask K sum (s .table)) t ∙ over-idle (s .table) in
+            let t : taskAt K s i ≡ ended K = nobody (s .tasks) i l in
+            let d : did K sum s i ≡ stays K (ended K) (s .table) = ap (stepTask K sum (s .table)) t ∙ over-idle (s .table) in
             subst (After L M A T steps commits backs s b i) (sym d) (nobody-keeps L M A T steps commits backs s b i l)
 
     one-more : (b : Bool) (n k : ℕ) → n + one b + k ≡ n + cond b (suc k) k
@@ -544,7 +544,7 @@ module _ (K : Cells) where
       abbrev AllOver : System K → Type 0
       AllOver s = (i : ℕ) → i < length (s .tasks) → (σ : List ℤ) × (taskAt K s i ≡ outside ε σ)
 
-      over-none : (f : Task K → ℕ) → ((σ : List ℤ) → f (outside ε σ) ≡ 0) → (ts : List (Task K)) → ((i : ℕ) → i < length ts → (σ : List ℤ) × (getD ts i (over K) ≡ outside ε σ)) → total f ts ≡ 0
+      over-none : (f : Task K → ℕ) → ((σ : List ℤ) → f (outside ε σ) ≡ 0) → (ts : List (Task K)) → ((i : ℕ) → i < length ts → (σ : List ℤ) × (getD ts i (ended K) ≡ outside ε σ)) → total f ts ≡ 0
       unfolding total
       over-none f z [] a = refl
       over-none f z (t ∷ ts) a =

@@ -1,15 +1,16 @@
 -- What a job's code stands for, and what a transaction's code does directly on a table. Assumes nothing.
-use Prim.Native.Nat.{ℕ, suc}
+use Prim.Native.Nat.{ℕ, suc, _+_}
 use mathlib.Core.Path.{_≡_, refl, ap, _∙_}
 use mathlib.Core.List.{List, [], _∷_}
 use native.Mathlib.Omega.{arith}
 use lib.IntN.{ℤ, pos}
 use lib.ListN.{length}
-use Rattle.stm.specs.InnerMeaning.{summedP, summedT, writtenT, topmost, processOf, atomicOf, values, taking2, Outside, Inside, finish, behind}
+use Rattle.stm.specs.InnerMeaning.{summedP, summedT, writtenT, topmost, processOf, atomicOf, values, taking2, Outside, Inside, Finished, wholly, finish, behind}
 use Rattle.code.specs.Compile.{Code, PUSH, ADD, READ, WRITE, BEGIN, COMMIT, FORK, ε, _⨾_, compileT, compileP}
 use Rattle.script.specs.Tree.{Tran, ValT, AddT, Read, Write, Proc, ValP, AddP, Atomic, Fork}
 use Rattle.script.specs.Limits.{ValuedT, ValuedP}
-use Rattle.script.specs.Turns.{Registers, Worked, work, value, moved, reduce}
+use Rattle.script.specs.Overflows.{overflowsT, overflowsP}
+use Rattle.script.specs.Turns.{Registers, work, value, moved, reduce}
 use Rattle.word.specs.Sum.{Rule}
 
 -- ---- compiled code stands for its tree
@@ -80,45 +81,60 @@ tran-whole (FORK x ⨾ c) ts b k ps = absurd k
 pub record Numbers : Type 0 where
   pub stack : List ℤ
   pub registers : Registers
+  pub over : ℕ
 
 module _ (sum : Rule) where
-  abbrev pub onto : List ℤ → Worked → Numbers
-  onto σ w = record { stack = w .value ∷ σ; registers = w .registers }
+  abbrev pub onto : Tran → Numbers → Numbers
+  onto t ns =
+      let w = work sum t (ns .registers) in
+      record { stack = w .value ∷ ns .stack; registers = w .registers; over = ns .over + overflowsT sum t (ns .registers) }
 
   unfoldable pub workAll : List Tran → Registers → Numbers
-  workAll [] rs = record { stack = []; registers = rs }
-  workAll (t ∷ ts) rs = onto (workAll ts rs .stack) (work sum t (workAll ts rs .registers))
+  workAll [] rs = record { stack = []; registers = rs; over = 0 }
+  workAll (t ∷ ts) rs = onto t (workAll ts rs)
+
+  -- other sums noted
+  noting : (c : Code) (σ : List ℤ) (rs : Registers) (n m : ℕ) → n ≡ m → finish sum c σ n rs ≡ finish sum c σ m rs
+  noting c σ rs n m e = ap {B = Finished} (λ (k : ℕ). finish sum c σ k rs) e
 
   -- a transaction's code does directly on a table what its transaction does
-  pub tran-finish : (c : Code) (ts : List Tran) (b : ℕ) → Inside c (length ts) b → (rs : Registers) → finish sum c (workAll ts rs .stack) (workAll ts rs .registers) ≡ work sum (tranOf c ts) rs
-  unfolding Inside finish tranOf workAll work
+  pub tran-finish : (c : Code) (ts : List Tran) (b : ℕ) → Inside c (length ts) b → (rs : Registers) → finish sum c (workAll ts rs .stack) (workAll ts rs .over) (workAll ts rs .registers) ≡ wholly sum (tranOf c ts) rs
+  unfolding Inside finish tranOf workAll work overflowsT
   tran-finish ε ts b k rs = absurd k
-  tran-finish (PUSH n ⨾ c) ts b k rs = tran-finish c (ValT n ∷ ts) b k rs
+  tran-finish (PUSH n ⨾ c) ts b k rs = noting c (n ∷ workAll ts rs .stack) (workAll ts rs .registers) _ _ (let e : workAll ts rs .over ≡ workAll ts rs .over + 0 = omega arith in e) ∙ tran-finish c (ValT n ∷ ts) b k rs
   tran-finish (ADD ⨾ c) [] b k rs = absurd k
   tran-finish (ADD ⨾ c) (t ∷ []) b k rs = absurd k
-  tran-finish (ADD ⨾ c) (t ∷ u ∷ ts) b k rs = tran-finish c (AddT u t ∷ ts) b k rs
-  tran-finish (READ v ⨾ c) ts b k rs = tran-finish c (Read v ∷ ts) b (k .1) rs
+  tran-finish (ADD ⨾ c) (t ∷ u ∷ ts) b k rs = noting c _ _ _ _ (grouped (workAll ts rs .over) _ _ _) ∙ tran-finish c (AddT u t ∷ ts) b k rs
+    where
+      grouped : (n x y z : ℕ) → n + x + y + z ≡ n + (x + y + z)
+      grouped n x y z = omega arith
+  tran-finish (READ v ⨾ c) ts b k rs = noting c _ _ _ _ (let e : workAll ts rs .over ≡ workAll ts rs .over + 0 = omega arith in e) ∙ tran-finish c (Read v ∷ ts) b (k .1) rs
   tran-finish (WRITE v ⨾ c) [] b k rs = absurd (k .1)
   tran-finish (WRITE v ⨾ c) (t ∷ ts) b k rs = tran-finish c (Write v t ∷ ts) b (k .1) rs
   tran-finish (BEGIN ⨾ c) ts b k rs = absurd k
   tran-finish (COMMIT ⨾ c) [] b k rs = never-one (k .0)
-  tran-finish (COMMIT ⨾ c) (t ∷ []) b k rs = refl
+  tran-finish (COMMIT ⨾ c) (t ∷ []) b k rs = ap {B = Finished} (λ (n : ℕ). record { value = work sum t rs .value; registers = work sum t rs .registers; over = n }) (let e : 0 + overflowsT sum t rs ≡ overflowsT sum t rs = omega arith in e)
   tran-finish (COMMIT ⨾ c) (t ∷ u ∷ ts) b k rs = more-than-one (k .0)
   tran-finish (FORK x ⨾ c) ts b k rs = absurd k
 
 -- ---- a due part of a stack of processes: those above it stay, those below it are numbers
-module _ (sum : Rule) (rs rs′ : Registers) (new : List Proc) where
+-- and `over` of its sums fall outside the range
+module _ (sum : Rule) (rs rs′ : Registers) (new : List Proc) (over : ℕ) where
+  pub record Becomes (x x′ : Proc) : Type 0 where
+    pub reduces : reduce sum rs x ≡ moved x′ rs′ new
+    pub overs : overflowsP sum rs x ≡ over
+
   pub data Moves : List Proc → List Proc → Type 0 where
-    due : (x x′ : Proc) (σ : List ℤ) → reduce sum rs x ≡ moved x′ rs′ new → Moves (x ∷ values σ) (x′ ∷ values σ)
+    due : (x x′ : Proc) (σ : List ℤ) → Becomes x x′ → Moves (x ∷ values σ) (x′ ∷ values σ)
     above : (p : Proc) (ps qs : List Proc) → Moves ps qs → Moves (p ∷ ps) (p ∷ qs)
 
-  left-due : (x x′ y : Proc) → reduce sum rs x ≡ moved x′ rs′ new → reduce sum rs (AddP x y) ≡ moved (AddP x′ y) rs′ new
-  unfolding reduce
-  left-due x x′ y e = rw e
+  left-due : (x x′ y : Proc) → Becomes x x′ → Becomes (AddP x y) (AddP x′ y)
+  unfolding reduce overflowsP
+  left-due x x′ y e = record { reduces = rw (e .reduces); overs = rw (e .reduces) (e .overs) }
 
-  right-due : (n : ℤ) (x x′ : Proc) → reduce sum rs x ≡ moved x′ rs′ new → reduce sum rs (AddP (ValP n) x) ≡ moved (AddP (ValP n) x′) rs′ new
-  unfolding reduce
-  right-due n x x′ e = rw e
+  right-due : (n : ℤ) (x x′ : Proc) → Becomes x x′ → Becomes (AddP (ValP n) x) (AddP (ValP n) x′)
+  unfolding reduce overflowsP
+  right-due n x x′ e = record { reduces = rw (e .reduces); overs = rw (e .reduces) (e .overs) }
 
   -- a sum of the two topmost parts keeps the due part due
   record Summed (P : ℕ → Type 0) (ps qs : List Proc) : Type 0 where
@@ -131,7 +147,7 @@ module _ (sum : Rule) (rs rs′ : Registers) (new : List Proc) where
   summed-moves P ps qs k (above p ps′ qs′ (due x x′ σ e)) = record { fits = k; moves = due (AddP x p) (AddP x′ p) σ (left-due x x′ p e) }
   summed-moves P ps qs k (above p ps′ qs′ (above u ps″ qs″ m)) = record { fits = k; moves = above (AddP u p) ps″ qs″ m }
 
-  last-moves : (ps qs : List Proc) → length ps ≡ 1 → Moves ps qs → reduce sum rs (topmost ps) ≡ moved (topmost qs) rs′ new
+  last-moves : (ps qs : List Proc) → length ps ≡ 1 → Moves ps qs → Becomes (topmost ps) (topmost qs)
   last-moves ps qs k (due x x′ σ e) = e
   last-moves ps qs k (above p ps′ qs′ (due x x′ σ e)) = more-than-one k
   last-moves ps qs k (above p ps′ qs′ (above u ps″ qs″ m)) = more-than-one k
@@ -140,7 +156,7 @@ module _ (sum : Rule) (rs rs′ : Registers) (new : List Proc) where
     unfolding Outside processOf
 
     -- what is due on the stack is due in what the code stands for
-    pub outside-moves : (c : Code) (ps qs : List Proc) → Outside c (length ps) → Moves ps qs → reduce sum rs (processOf c ps) ≡ moved (processOf c qs) rs′ new
+    pub outside-moves : (c : Code) (ps qs : List Proc) → Outside c (length ps) → Moves ps qs → Becomes (processOf c ps) (processOf c qs)
     outside-moves ε ps qs k m = last-moves ps qs k m
     outside-moves (PUSH n ⨾ c) ps qs k m = outside-moves c (ValP n ∷ ps) (ValP n ∷ qs) k (above (ValP n) ps qs m)
     outside-moves (ADD ⨾ c) ps qs k m = let s = summed-moves (λ x. Outside c x) ps qs k m in outside-moves c (summedP ps) (summedP qs) (s .fits) (s .moves)
@@ -150,7 +166,7 @@ module _ (sum : Rule) (rs rs′ : Registers) (new : List Proc) where
     outside-moves (COMMIT ⨾ c) ps qs k m = absurd k
     outside-moves (FORK x ⨾ c) ps qs k m = outside-moves c (Fork (processOf x []) ∷ ps) (Fork (processOf x []) ∷ qs) (k .1) (above (Fork (processOf x [])) ps qs m)
 
-    pub inside-moves : (c : Code) (ts : List Tran) (ps qs : List Proc) → Inside c (length ts) (length ps) → Moves ps qs → reduce sum rs (atomicOf c ts ps) ≡ moved (atomicOf c ts qs) rs′ new
+    pub inside-moves : (c : Code) (ts : List Tran) (ps qs : List Proc) → Inside c (length ts) (length ps) → Moves ps qs → Becomes (atomicOf c ts ps) (atomicOf c ts qs)
     inside-moves ε ts ps qs k m = absurd k
     inside-moves (PUSH n ⨾ c) ts ps qs k m = inside-moves c (ValT n ∷ ts) ps qs k m
     inside-moves (ADD ⨾ c) [] ps qs k m = absurd k

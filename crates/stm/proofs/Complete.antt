@@ -1,5 +1,5 @@
 -- Every list of turns that the script can take is the order of a run of the tasks, at whose end each result of the script is a task's, and in which nothing is sent back. Assumes nothing.
-use Prim.Native.Nat.{ℕ, zero, suc, _<_, _≤_}
+use Prim.Native.Nat.{ℕ, zero, suc, _+_, _<_, _≤_}
 use mathlib.Core.Bool.{Bool, true, false}
 use mathlib.Core.Path.{_≡_, refl, sym, ap, subst, _∙_}
 use mathlib.Core.List.{List, [], _∷_, _++_, append-nil}
@@ -11,7 +11,7 @@ use lib.IntN.{ℤ, pos}
 use lib.ListN.{length, getD, set, length-set, length-append, List·getD-append, List·getD-eq-default}
 use lib.Seq.{getD-set-same, getD-set-other}
 use Rattle.stm.specs.InnerCells.{Cells}
-use Rattle.stm.specs.InnerTasks.{Log, nothing, logged, Task, outside, inside, over, Did, cellAt, foundIn, found, staleIn, firstStale, overwritten, goes, stepOutside, stepInside, stepTask, System, taskAt, started, did, next, endOf, eventsOf, start}
+use Rattle.stm.specs.InnerTasks.{Log, nothing, logged, Task, outside, inside, ended, Did, cellAt, foundIn, found, staleIn, firstStale, overwritten, goes, stepOutside, stepInside, stepTask, System, taskAt, started, did, next, endOf, eventsOf, start}
 use Rattle.stm.specs.InnerMeaning.{processOf, Outside, Inside, Good, Linked}
 use Rattle.stm.proofs.Logs.{logged-same, logged-other, none-found}
 use Rattle.stm.proofs.Sound.{meant-length, meant-at, turns-one, run-linked}
@@ -21,7 +21,7 @@ use Rattle.stm.proofs.Counts.{order-append, counted-append}
 use Rattle.script.specs.Tree.{Proc, ValP, AddP, Atomic, Fork}
 use Rattle.script.specs.Turns.{reduce, Script, turned, turn, turns, CanTake}
 use Rattle.script.specs.Turns as script
-use Rattle.word.specs.Sum.{Rule}
+use Rattle.word.specs.Sum.{Rule, overOf}
 
 -- every number of the list is below n
 abbrev pub Below : ℕ → List ℕ → Type 0
@@ -91,9 +91,9 @@ module _ (K : Cells) (sum : Rule) where
     self : (s : System K) → i < length (s .tasks) → taskAt K (next K sum s i) i ≡ did K sum s i .task
     unfolding next
     self s l =
-        List·getD-append (set (s .tasks) i (did K sum s i .task)) (started K (did K sum s i .children)) (over K) i (let b = length-set (s .tasks) i (did K sum s i .task) in omega arith) ∙ getD-set-same (s .tasks) i (did K sum s i .task) (over K) l
+        List·getD-append (set (s .tasks) i (did K sum s i .task)) (started K (did K sum s i .children)) (ended K) i (let b = length-set (s .tasks) i (did K sum s i .task) in omega arith) ∙ getD-set-same (s .tasks) i (did K sum s i .task) (ended K) l
 
-    children-outside : (ks : List Code) (j : ℕ) → IsOutside K (getD (started K ks) j (over K))
+    children-outside : (ks : List Code) (j : ℕ) → IsOutside K (getD (started K ks) j (ended K))
     children-outside [] j = (ε, pos 0 ∷ [], refl)
     children-outside (k ∷ ks) zero = (k, [], refl)
     children-outside (k ∷ ks) (suc j) = children-outside ks j
@@ -101,8 +101,8 @@ module _ (K : Cells) (sum : Rule) where
     others-outside : (s : System K) → AllBut s → AllBut (next K sum s i)
     unfolding next
     others-outside s o j n =
-        append-at (IsOutside K) (over K) (set (s .tasks) i (did K sum s i .task)) (started K (did K sum s i .children)) j
-        (subst (IsOutside K) (sym (getD-set-other (s .tasks) i j (did K sum s i .task) (over K) n)) (o j n))
+        append-at (IsOutside K) (ended K) (set (s .tasks) i (did K sum s i .task)) (started K (did K sum s i .children)) j
+        (subst (IsOutside K) (sym (getD-set-other (s .tasks) i j (did K sum s i .task) (ended K) n)) (o j n))
         (children-outside (did K sum s i .children))
 
     all-outside : (s : System K) → AllBut s → IsOutside K (taskAt K s i) → AllOutside K s
@@ -126,7 +126,7 @@ module _ (K : Cells) (sum : Rule) where
           now = self s l ∙ ap {B = Task K} (λ (d : Did K). d .task) f;
           table-kept = ap {B = List (K .Cell)} (λ (d : Did K). d .table) f;
           exists = let a = next-length s i in omega arith;
-          others = λ j n. rw (f, append-nil (set (s .tasks) i t)) (getD-set-other (s .tasks) i j t (over K) n);
+          others = λ j n. rw (f, append-nil (set (s .tasks) i t)) (getD-set-other (s .tasks) i j t (ended K) n);
         }
 
     order-on : (s : System K) (e : Event) (is : List ℕ) → did K sum s i .event ≡ e → isTurn e ≡ false → order (eventsOf K sum s (i ∷ is)) ≡ order (eventsOf K sum (next K sum s i) is)
@@ -230,48 +230,48 @@ module _ (K : Cells) (sum : Rule) where
     event-is : (s : System K) (d : Did K) → did K sum s i ≡ d → did K sum s i .event ≡ d .event
     event-is s d e = ap {B = Event} (λ (x : Did K). x .event) e
 
-    commit-is : (body : Code) (base : List ℤ) (c : Code) (n : ℤ) (σ : List ℤ) (r : Log (K .Cell)) (w : Log ℤ) (h : List (K .Cell)) → Fresh r h → stepInside K sum h body base (COMMIT ⨾ c) (n ∷ σ) r w ≡ record { task = outside c (n ∷ base); table = overwritten K 64 0 w h; children = []; event = committed }
+    commit-is : (body : Code) (base : List ℤ) (c : Code) (n : ℤ) (σ : List ℤ) (r : Log (K .Cell)) (w : Log ℤ) (over : ℕ) (h : List (K .Cell)) → Fresh r h → stepInside K sum h body base (COMMIT ⨾ c) (n ∷ σ) r w over ≡ record { task = outside c (n ∷ base); table = overwritten K 64 0 w h; children = []; event = committed; over = over }
     unfolding stepInside
-    commit-is body base c n σ r w h k = rw (fresh-clean h r k)
+    commit-is body base c n σ r w over h k = rw (fresh-clean h r k)
 
-    inner : (body : Code) (base : List ℤ) (c : Code) (σ : List ℤ) (r : Log (K .Cell)) (w : Log ℤ) (s : System K) → taskAt K s i ≡ inside body base c σ r w → i < length (s .tasks) → Inside c (length σ) (length base) → Fresh r (s .table) → AllBut s → Turned s
+    inner : (body : Code) (base : List ℤ) (c : Code) (σ : List ℤ) (r : Log (K .Cell)) (w : Log ℤ) (over : ℕ) (s : System K) → taskAt K s i ≡ inside body base c σ r w over → i < length (s .tasks) → Inside c (length σ) (length base) → Fresh r (s .table) → AllBut s → Turned s
     unfolding stepTask stepInside Inside
-    inner body base ε σ r w s e l k f o = absurd k
-    inner body base (PUSH n ⨾ c) σ r w s e l k f o =
-        let t : Task K = inside body base c (n ∷ σ) r w in
-        let d : did K sum s i ≡ goes K t (s .table) pushed = did-is s (inside body base (PUSH n ⨾ c) σ r w) e in
+    inner body base ε σ r w over s e l k f o = absurd k
+    inner body base (PUSH n ⨾ c) σ r w over s e l k f o =
+        let t : Task K = inside body base c (n ∷ σ) r w over in
+        let d : did K sum s i ≡ goes K t (s .table) pushed = did-is s (inside body base (PUSH n ⨾ c) σ r w over) e in
         let x = changed s t pushed l d in
         turned-later s pushed (event-is s (goes K t (s .table) pushed) d) refl refl
-        (inner body base c (n ∷ σ) r w (next K sum s i) (x .now) (x .exists) k (subst (Fresh r) (sym (x .table-kept)) f) (others-outside s o))
-    inner body base (ADD ⨾ c) [] r w s e l k f o = absurd k
-    inner body base (ADD ⨾ c) (n ∷ []) r w s e l k f o = absurd k
-    inner body base (ADD ⨾ c) (n ∷ m ∷ σ) r w s e l k f o =
-        let t : Task K = inside body base c (sum m n ∷ σ) r w in
-        let d : did K sum s i ≡ goes K t (s .table) (summed true) = did-is s (inside body base (ADD ⨾ c) (n ∷ m ∷ σ) r w) e in
+        (inner body base c (n ∷ σ) r w over (next K sum s i) (x .now) (x .exists) k (subst (Fresh r) (sym (x .table-kept)) f) (others-outside s o))
+    inner body base (ADD ⨾ c) [] r w over s e l k f o = absurd k
+    inner body base (ADD ⨾ c) (n ∷ []) r w over s e l k f o = absurd k
+    inner body base (ADD ⨾ c) (n ∷ m ∷ σ) r w over s e l k f o =
+        let t : Task K = inside body base c (sum m n ∷ σ) r w (over + overOf m n) in
+        let d : did K sum s i ≡ goes K t (s .table) (summed true) = did-is s (inside body base (ADD ⨾ c) (n ∷ m ∷ σ) r w over) e in
         let x = changed s t (summed true) l d in
         turned-later s (summed true) (event-is s (goes K t (s .table) (summed true)) d) refl refl
-        (inner body base c (sum m n ∷ σ) r w (next K sum s i) (x .now) (x .exists) k (subst (Fresh r) (sym (x .table-kept)) f) (others-outside s o))
-    inner body base (READ v ⨾ c) σ r w s e l k f o =
+        (inner body base c (sum m n ∷ σ) r w (over + overOf m n) (next K sum s i) (x .now) (x .exists) k (subst (Fresh r) (sym (x .table-kept)) f) (others-outside s o))
+    inner body base (READ v ⨾ c) σ r w over s e l k f o =
         let y = found K (s .table) r w v in
-        let t : Task K = inside body base c (y .value ∷ σ) (y .reads) w in
-        let d : did K sum s i ≡ goes K t (s .table) (looked (y .source)) = did-is s (inside body base (READ v ⨾ c) σ r w) e in
+        let t : Task K = inside body base c (y .value ∷ σ) (y .reads) w over in
+        let d : did K sum s i ≡ goes K t (s .table) (looked (y .source)) = did-is s (inside body base (READ v ⨾ c) σ r w over) e in
         let x = changed s t (looked (y .source)) l d in
         turned-later s (looked (y .source)) (event-is s (goes K t (s .table) (looked (y .source))) d) refl refl
-        (inner body base c (y .value ∷ σ) (y .reads) w (next K sum s i) (x .now) (x .exists) (k .1) (subst (Fresh (y .reads)) (sym (x .table-kept)) (fresh-found (s .table) r w v f)) (others-outside s o))
-    inner body base (WRITE v ⨾ c) [] r w s e l k f o = absurd (k .1)
-    inner body base (WRITE v ⨾ c) (n ∷ σ) r w s e l k f o =
-        let t : Task K = inside body base c (n ∷ σ) r (logged w v n) in
-        let d : did K sum s i ≡ goes K t (s .table) wrote = did-is s (inside body base (WRITE v ⨾ c) (n ∷ σ) r w) e in
+        (inner body base c (y .value ∷ σ) (y .reads) w over (next K sum s i) (x .now) (x .exists) (k .1) (subst (Fresh (y .reads)) (sym (x .table-kept)) (fresh-found (s .table) r w v f)) (others-outside s o))
+    inner body base (WRITE v ⨾ c) [] r w over s e l k f o = absurd (k .1)
+    inner body base (WRITE v ⨾ c) (n ∷ σ) r w over s e l k f o =
+        let t : Task K = inside body base c (n ∷ σ) r (logged w v n) over in
+        let d : did K sum s i ≡ goes K t (s .table) wrote = did-is s (inside body base (WRITE v ⨾ c) (n ∷ σ) r w over) e in
         let x = changed s t wrote l d in
         turned-later s wrote (event-is s (goes K t (s .table) wrote) d) refl refl
-        (inner body base c (n ∷ σ) r (logged w v n) (next K sum s i) (x .now) (x .exists) (k .1) (subst (Fresh r) (sym (x .table-kept)) f) (others-outside s o))
-    inner body base (BEGIN ⨾ c) σ r w s e l k f o = absurd k
-    inner body base (COMMIT ⨾ c) [] r w s e l k f o = absurd (let z : _≡_ {A = ℕ} 0 1 = k .0 in omega arith)
-    inner body base (COMMIT ⨾ c) (n ∷ σ) r w s e l k f o =
-        let y : Did K = record { task = outside c (n ∷ base); table = overwritten K 64 0 w (s .table); children = []; event = committed } in
-        let d : did K sum s i ≡ y = did-is s (inside body base (COMMIT ⨾ c) (n ∷ σ) r w) e ∙ commit-is body base c n σ r w (s .table) f in
+        (inner body base c (n ∷ σ) r (logged w v n) over (next K sum s i) (x .now) (x .exists) (k .1) (subst (Fresh r) (sym (x .table-kept)) f) (others-outside s o))
+    inner body base (BEGIN ⨾ c) σ r w over s e l k f o = absurd k
+    inner body base (COMMIT ⨾ c) [] r w over s e l k f o = absurd (let z : _≡_ {A = ℕ} 0 1 = k .0 in omega arith)
+    inner body base (COMMIT ⨾ c) (n ∷ σ) r w over s e l k f o =
+        let y : Did K = record { task = outside c (n ∷ base); table = overwritten K 64 0 w (s .table); children = []; event = committed; over = over } in
+        let d : did K sum s i ≡ y = did-is s (inside body base (COMMIT ⨾ c) (n ∷ σ) r w over) e ∙ commit-is body base c n σ r w over (s .table) f in
         turned-now s committed c (n ∷ base) l o (event-is s y d) refl refl (ap {B = Task K} (λ (z : Did K). z .task) d)
-    inner body base (FORK x ⨾ c) σ r w s e l k f o = absurd k
+    inner body base (FORK x ⨾ c) σ r w over s e l k f o = absurd k
 
     one-number : {A : Type 0} (P : List ℤ → Type 0) (σ : List ℤ) → length σ ≡ 1 → ((n : ℤ) → P (n ∷ []) → A) → P σ → A
     one-number P [] e f p = absurd (let z : _≡_ {A = ℕ} 0 1 = e in omega arith)
@@ -294,20 +294,20 @@ module _ (K : Cells) (sum : Rule) where
     goes-alone (ADD ⨾ c) [] s e l k o = absurd k
     goes-alone (ADD ⨾ c) (n ∷ []) s e l k o = absurd k
     goes-alone (ADD ⨾ c) (n ∷ m ∷ σ) s e l k o =
-        let y : Did K = goes K (outside c (sum m n ∷ σ)) (s .table) (summed false) in
+        let y : Did K = record { task = outside c (sum m n ∷ σ); table = s .table; children = []; event = summed false; over = overOf m n } in
         let d : did K sum s i ≡ y = did-is s (outside (ADD ⨾ c) (n ∷ m ∷ σ)) e in
         took (turned-now s (summed false) c (sum m n ∷ σ) l (λ j z. o j) (event-is s y d) refl refl (ap {B = Task K} (λ (z : Did K). z .task) d))
     goes-alone (READ v ⨾ c) σ s e l k o = absurd k
     goes-alone (WRITE v ⨾ c) σ s e l k o = absurd k
     goes-alone (BEGIN ⨾ c) σ s e l k o =
-        let t : Task K = inside c σ c [] nothing nothing in
+        let t : Task K = inside c σ c [] nothing nothing 0 in
         let d : did K sum s i ≡ goes K t (s .table) begun = did-is s (outside (BEGIN ⨾ c) σ) e in
         let x = changed s t begun l d in
         took (turned-later s begun (event-is s (goes K t (s .table) begun) d) refl refl
-        (inner c σ c [] nothing nothing (next K sum s i) (x .now) (x .exists) k (λ v y q. absurd (let z : _≡_ {A = ℕ} 0 1 = cc in omega arith)) (others-outside s (λ j z. o j))))
+        (inner c σ c [] nothing nothing 0 (next K sum s i) (x .now) (x .exists) k (λ v y q. absurd (let z : _≡_ {A = ℕ} 0 1 = cc in omega arith)) (others-outside s (λ j z. o j))))
     goes-alone (COMMIT ⨾ c) σ s e l k o = absurd k
     goes-alone (FORK x ⨾ c) σ s e l k o =
-        let y : Did K = record { task = outside c (pos 0 ∷ σ); table = s .table; children = x ∷ []; event = forked } in
+        let y : Did K = record { task = outside c (pos 0 ∷ σ); table = s .table; children = x ∷ []; event = forked; over = 0 } in
         let d : did K sum s i ≡ y = did-is s (outside (FORK x ⨾ c) σ) e in
         took (turned-now s forked c (pos 0 ∷ σ) l (λ j z. o j) (event-is s y d) refl refl (ap {B = Task K} (λ (z : Did K). z .task) d))
 
@@ -341,13 +341,13 @@ module _ (K : Cells) (sum : Rule) where
   -- what a run without a turn, and one with one turn, leave
   still-linked : (s : System K) (q : Script) (is : List ℕ) → Linked K sum s q → order (eventsOf K sum s is) ≡ [] → Linked K sum (endOf K sum s is) q
   unfolding turns
-  still-linked s q is k e = subst (λ (l : List ℕ). Linked K sum (endOf K sum s is) (turns sum q l)) e (run-linked K sum is s q k .1)
+  still-linked s q is k e = subst (λ (l : List ℕ). Linked K sum (endOf K sum s is) (turns sum q l)) e (run-linked K sum is s q k .linked)
 
   turned-linked : (s : System K) (q q′ : Script) (i : ℕ) (is : List ℕ) → Linked K sum s q → turn sum q i ≡ turned q′ → order (eventsOf K sum s is) ≡ i ∷ [] → Linked K sum (endOf K sum s is) q′
   unfolding turns
   turned-linked s q q′ i is k t e =
       subst (λ (x : Script). Linked K sum (endOf K sum s is) x) (turns-one K sum q q′ i [] t)
-      (subst (λ (l : List ℕ). Linked K sum (endOf K sum s is) (turns sum q l)) e (run-linked K sum is s q k .1))
+      (subst (λ (l : List ℕ). Linked K sum (endOf K sum s is) (turns sum q l)) e (run-linked K sum is s q k .linked))
 
   can-turn : (q : Script) (i : ℕ) → CanTake sum q (i ∷ []) → (q′ : Script) × (turn sum q i ≡ turned q′)
   can-turn q i (script.one {s′ = q′} t c) = (q′, t)
@@ -394,7 +394,7 @@ module _ (K : Cells) (sum : Rule) where
       which : Went k s1 → Ended k s1
       which (stopped w) = w
       which (took w) =
-          let t = can-turn q k (subst (λ (js : List ℕ). CanTake sum q js) (w .once) (run-linked K sum (w .picks) s1 q linked .0)) in
+          let t = can-turn q k (subst (λ (js : List ℕ). CanTake sum q js) (w .once) (run-linked K sum (w .picks) s1 q linked .can)) in
           value-idle q (t .0) k n e (t .1)
 
   finish-one : (k : ℕ) (s : System K) (q : Script) → Linked K sum s q → k < length (s .tasks) → (b : Settled s q k) → Ended k (endOf K sum s (b .picks)) → Settled s q (suc k)
@@ -475,7 +475,7 @@ module _ (K : Cells) (sum : Rule) where
           let none-there : getD (q .threads) i (ValP (pos 0)) ≡ ValP (pos 0) = List·getD-eq-default (q .threads) (ValP (pos 0)) (let y = tasks-length s q x in omega arith) in
           let both : ValP (pos 0) ≡ ValP n = sym none-there ∙ e in
           let number : pos 0 ≡ n = cc in
-          List·getD-eq-default (end .tasks) (over K) (let y = long in omega arith) ∙ ap {B = Task K} (λ (y : ℤ). outside ε (y ∷ [])) number
+          List·getD-eq-default (end .tasks) (ended K) (let y = long in omega arith) ∙ ap {B = Task K} (λ (y : ℤ). outside ε (y ∷ [])) number
 
   -- a task whose turn is due takes it alone
   takes : (s : System K) (q q′ : Script) (i : ℕ) → Linked K sum s q → AllOutside K s → turn sum q i ≡ turned q′ → Turned i s

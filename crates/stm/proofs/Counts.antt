@@ -5,7 +5,7 @@ use mathlib.Core.Path.{_≡_, refl, sym, ap}
 use mathlib.Core.List.{List, [], _∷_, _++_}
 use native.Mathlib.Omega.{arith}
 use lib.Dec.{eqb}
-use Rattle.stm.specs.Events.{Source, fromWrites, fromReads, fromTable, Event, idle, pushed, summed, forked, begun, looked, wrote, committed, sentBack, Happened, counted, isIdle, isCommit, isBack, isTurn, order, backs, Counts, uncounted, more, tally, countsOf, together, eventNumber, eventRegister, turnNumber, eventOf}
+use Rattle.stm.specs.Events.{Source, fromWrites, fromReads, fromTable, Event, idle, pushed, summed, forked, begun, looked, wrote, committed, sentBack, Happened, counted, isIdle, isCommit, isBack, isTurn, order, backs, overs, Counts, uncounted, more, tally, countsOf, together, eventNumber, eventRegister, turnNumber, eventOf}
 
 pub counted-append : (f : Event → Bool) (hs ks : List Happened) → counted f (hs ++ ks) ≡ counted f hs + counted f ks
 unfolding counted
@@ -60,9 +60,15 @@ unfolding countsOf counted tally
 back-counted [] = refl
 back-counted (h ∷ hs) = ap (more (isBack (h .event))) (back-counted hs)
 
+-- and the sums are those that the events tell of
+pub over-counted : (hs : List Happened) → countsOf hs .over ≡ overs hs
+unfolding countsOf overs tally
+over-counted [] = refl
+over-counted (h ∷ hs) = let e = over-counted hs in omega arith
+
 -- counts are equal if each is
-pub same-counts : {a b : Counts} → a .steps ≡ b .steps → a .idle ≡ b .idle → a .commits ≡ b .commits → a .back ≡ b .back → a ≡ b
-same-counts p q r s = λ i. record { steps = p i; idle = q i; commits = r i; back = s i }
+pub same-counts : {a b : Counts} → a .steps ≡ b .steps → a .idle ≡ b .idle → a .commits ≡ b .commits → a .back ≡ b .back → a .over ≡ b .over → a ≡ b
+same-counts p q r s u = λ i. record { steps = p i; idle = q i; commits = r i; back = s i; over = u i }
 
 -- one pick's counts go in front or behind
 more-front : (b : Bool) (n m : ℕ) → more b n + m ≡ more b (n + m)
@@ -73,29 +79,29 @@ more-behind : (b : Bool) (n m : ℕ) → more b n + m ≡ n + more b m
 more-behind true n m = omega arith
 more-behind false n m = refl
 
-pub tally-together : (e : Event) (a b : Counts) → together (tally e a) b ≡ tally e (together a b)
+pub tally-together : (e : Event) (over : ℕ) (a b : Counts) → together (tally e over a) b ≡ tally e over (together a b)
 unfolding tally
-tally-together e a b = same-counts (more-front (not (isIdle e)) _ _) (more-front (isIdle e) _ _) (more-front (isCommit e) _ _) (more-front (isBack e) _ _)
+tally-together e over a b = same-counts (more-front (not (isIdle e)) _ _) (more-front (isIdle e) _ _) (more-front (isCommit e) _ _) (more-front (isBack e) _ _) (omega arith)
 
-pub tally-behind : (e : Event) (a b : Counts) → together (tally e a) b ≡ together a (tally e b)
+pub tally-behind : (e : Event) (over : ℕ) (a b : Counts) → together (tally e over a) b ≡ together a (tally e over b)
 unfolding tally
-tally-behind e a b = same-counts (more-behind (not (isIdle e)) _ _) (more-behind (isIdle e) _ _) (more-behind (isCommit e) _ _) (more-behind (isBack e) _ _)
+tally-behind e over a b = same-counts (more-behind (not (isIdle e)) _ _) (more-behind (isIdle e) _ _) (more-behind (isCommit e) _ _) (more-behind (isBack e) _ _) (omega arith)
 
 -- nothing counted before or behind
 pub together-none : (a : Counts) → together uncounted a ≡ a
-together-none a = same-counts (omega arith) (omega arith) (omega arith) (omega arith)
+together-none a = same-counts (omega arith) (omega arith) (omega arith) (omega arith) (omega arith)
 
 pub none-together : (a : Counts) → together a uncounted ≡ a
-none-together a = same-counts (omega arith) (omega arith) (omega arith) (omega arith)
+none-together a = same-counts (omega arith) (omega arith) (omega arith) (omega arith) (omega arith)
 
 pub together-assoc : (a b c : Counts) → together (together a b) c ≡ together a (together b c)
-together-assoc a b c = same-counts (omega arith) (omega arith) (omega arith) (omega arith)
+together-assoc a b c = same-counts (omega arith) (omega arith) (omega arith) (omega arith) (omega arith)
 
 -- the counts of a whole list are those of its parts together
 pub counts-append : (hs ks : List Happened) → countsOf (hs ++ ks) ≡ together (countsOf hs) (countsOf ks)
 unfolding countsOf
 counts-append [] ks = sym (together-none (countsOf ks))
-counts-append (h ∷ hs) ks = rw (counts-append hs ks, tally-together (h .event) (countsOf hs) (countsOf ks))
+counts-append (h ∷ hs) ks = rw (counts-append hs ks, tally-together (h .event) (h .over) (countsOf hs) (countsOf ks))
 
 -- the numbers of an event tell the event
 pub event-of : (e : Event) → eventOf (eventNumber e) (eventRegister e) (turnNumber e) ≡ e

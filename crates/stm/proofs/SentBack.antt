@@ -10,7 +10,7 @@ use lib.Dec.{eqb, ltb}
 use lib.IntN.{ℤ}
 use lib.ListN.{getD, set}
 use Rattle.stm.specs.InnerCells.{Cells}
-use Rattle.stm.specs.InnerTasks.{Log, nothing, logged, Task, outside, inside, over, Did, cellAt, foundIn, found, staleIn, firstStale, overwritten, commits, stepOutside, stepInside, stepTask, System, taskAt, started, did, next, eventsOf, start}
+use Rattle.stm.specs.InnerTasks.{Log, nothing, logged, Task, outside, inside, ended, Did, cellAt, foundIn, found, staleIn, firstStale, overwritten, commits, stepOutside, stepInside, stepTask, System, taskAt, started, did, next, eventsOf, start}
 use Rattle.stm.specs.InnerMeaning.{dirty}
 use Rattle.code.specs.Compile.{Code, PUSH, ADD, READ, WRITE, BEGIN, COMMIT, FORK, ε, _⨾_}
 use Rattle.stm.specs.Events.{Event, committed, sentBack, counted, isCommit, isBack, backs}
@@ -81,7 +81,7 @@ module _ (K : Cells) where
       pub commit-clean : isCommit (d .event) ≡ true → dirty K h t ≡ false
       pub committed-clean : isCommit (d .event) ≡ true → (g : List (K .Cell)) → dirty K g (d .task) ≡ false
 
-    same-task : (h : List (K .Cell)) (t u : Task K) (e : Event) → isCommit e ≡ false → isBack e ≡ false → dirty K h u ≡ dirty K h t → Staleness h t (record { task = u; table = h; children = []; event = e })
+    same-task : (h : List (K .Cell)) (t u : Task K) (e : Event) {over : ℕ} → isCommit e ≡ false → isBack e ≡ false → dirty K h u ≡ dirty K h t → Staleness h t (record { task = u; table = h; children = []; event = e; over = over })
     same-task h t u e c b d = record {
       table-kept = λ x. refl;
       stays-clean = λ x. d ∙ x;
@@ -111,16 +111,16 @@ module _ (K : Cells) where
       committed-clean = λ x g. refl;
     }
 
-    commit-staleness : (h : List (K .Cell)) (body : Code) (base : List ℤ) (c : Code) (n : ℤ) (σ : List ℤ) (r : Log (K .Cell)) (w : Log ℤ) → Staleness h (inside body base (COMMIT ⨾ c) (n ∷ σ) r w) (commits K h body base c n w (firstStale K 64 0 r h))
-    commit-staleness h body base c n σ r w = go (ltb (firstStale K 64 0 r h) 64) refl
+    commit-staleness : (h : List (K .Cell)) (body : Code) (base : List ℤ) (c : Code) (n : ℤ) (σ : List ℤ) (r : Log (K .Cell)) (w : Log ℤ) (over : ℕ) → Staleness h (inside body base (COMMIT ⨾ c) (n ∷ σ) r w over) (commits K h body base c n w over (firstStale K 64 0 r h))
+    commit-staleness h body base c n σ r w over = go (ltb (firstStale K 64 0 r h) 64) refl
       where
         result : Bool → Did K
         result b = elim b [
-          | true ↦ record { task = outside (BEGIN ⨾ body) base; table = h; children = []; event = sentBack (firstStale K 64 0 r h) }
-          | false ↦ record { task = outside c (n ∷ base); table = overwritten K 64 0 w h; children = []; event = committed }
+          | true ↦ record { task = outside (BEGIN ⨾ body) base; table = h; children = []; event = sentBack (firstStale K 64 0 r h); over = 0 }
+          | false ↦ record { task = outside c (n ∷ base); table = overwritten K 64 0 w h; children = []; event = committed; over = over }
         ]
 
-        go : (b : Bool) → ltb (firstStale K 64 0 r h) 64 ≡ b → Staleness h (inside body base (COMMIT ⨾ c) (n ∷ σ) r w) (result b)
+        go : (b : Bool) → ltb (firstStale K 64 0 r h) 64 ≡ b → Staleness h (inside body base (COMMIT ⨾ c) (n ∷ σ) r w over) (result b)
         go true e = record {
           table-kept = λ x. refl;
           stays-clean = λ x. refl;
@@ -138,50 +138,50 @@ module _ (K : Cells) where
           committed-clean = λ x g. refl;
         }
 
-    inside-staleness : (h : List (K .Cell)) (body : Code) (base : List ℤ) (c : Code) (σ : List ℤ) (r : Log (K .Cell)) (w : Log ℤ) → Staleness h (inside body base c σ r w) (stepInside K sum h body base c σ r w)
+    inside-staleness : (h : List (K .Cell)) (body : Code) (base : List ℤ) (c : Code) (σ : List ℤ) (r : Log (K .Cell)) (w : Log ℤ) (over : ℕ) → Staleness h (inside body base c σ r w over) (stepInside K sum h body base c σ r w over)
     unfolding stepInside
-    inside-staleness h body base ε σ r w = same-task h _ _ _ refl refl refl
-    inside-staleness h body base (PUSH n ⨾ c) σ r w = same-task h _ _ _ refl refl refl
-    inside-staleness h body base (ADD ⨾ c) [] r w = same-task h _ _ _ refl refl refl
-    inside-staleness h body base (ADD ⨾ c) (n ∷ []) r w = same-task h _ _ _ refl refl refl
-    inside-staleness h body base (ADD ⨾ c) (n ∷ m ∷ σ) r w = same-task h _ _ _ refl refl refl
-    inside-staleness h body base (READ v ⨾ c) σ r w = same-task h _ _ _ refl refl (found-dirty r w h v)
-    inside-staleness h body base (WRITE v ⨾ c) [] r w = same-task h _ _ _ refl refl refl
-    inside-staleness h body base (WRITE v ⨾ c) (n ∷ σ) r w = same-task h _ _ _ refl refl refl
-    inside-staleness h body base (BEGIN ⨾ c) σ r w = same-task h _ _ _ refl refl refl
-    inside-staleness h body base (COMMIT ⨾ c) [] r w = same-task h _ _ _ refl refl refl
-    inside-staleness h body base (COMMIT ⨾ c) (n ∷ σ) r w = commit-staleness h body base c n σ r w
-    inside-staleness h body base (FORK k ⨾ c) σ r w = same-task h _ _ _ refl refl refl
+    inside-staleness h body base ε σ r w over = same-task h _ _ _ refl refl refl
+    inside-staleness h body base (PUSH n ⨾ c) σ r w over = same-task h _ _ _ refl refl refl
+    inside-staleness h body base (ADD ⨾ c) [] r w over = same-task h _ _ _ refl refl refl
+    inside-staleness h body base (ADD ⨾ c) (n ∷ []) r w over = same-task h _ _ _ refl refl refl
+    inside-staleness h body base (ADD ⨾ c) (n ∷ m ∷ σ) r w over = same-task h _ _ _ refl refl refl
+    inside-staleness h body base (READ v ⨾ c) σ r w over = same-task h _ _ _ refl refl (found-dirty r w h v)
+    inside-staleness h body base (WRITE v ⨾ c) [] r w over = same-task h _ _ _ refl refl refl
+    inside-staleness h body base (WRITE v ⨾ c) (n ∷ σ) r w over = same-task h _ _ _ refl refl refl
+    inside-staleness h body base (BEGIN ⨾ c) σ r w over = same-task h _ _ _ refl refl refl
+    inside-staleness h body base (COMMIT ⨾ c) [] r w over = same-task h _ _ _ refl refl refl
+    inside-staleness h body base (COMMIT ⨾ c) (n ∷ σ) r w over = commit-staleness h body base c n σ r w over
+    inside-staleness h body base (FORK k ⨾ c) σ r w over = same-task h _ _ _ refl refl refl
 
     -- every step of every task
     pub staleness : (h : List (K .Cell)) (t : Task K) → Staleness h t (stepTask K sum h t)
     unfolding stepTask
     staleness h (outside c σ) = outside-staleness h c σ
-    staleness h (inside body base c σ r w) = inside-staleness h body base c σ r w
+    staleness h (inside body base c σ r w over) = inside-staleness h body base c σ r w over
 
   -- ---- one task among the others
-  at-set : (P : Task K → Type 0) (ts : List (Task K)) (j : ℕ) (t : Task K) (i : ℕ) → P (getD ts i (over K)) → (i ≡ j → P t) → P (getD (set ts j t) i (over K))
+  at-set : (P : Task K → Type 0) (ts : List (Task K)) (j : ℕ) (t : Task K) (i : ℕ) → P (getD ts i (ended K)) → (i ≡ j → P t) → P (getD (set ts j t) i (ended K))
   at-set P [] j t i h k = h
   at-set P (y ∷ ys) zero t zero h k = k refl
   at-set P (y ∷ ys) zero t (suc i) h k = h
   at-set P (y ∷ ys) (suc j) t zero h k = h
   at-set P (y ∷ ys) (suc j) t (suc i) h k = at-set P ys j t i h (λ e. k (ap suc e))
 
-  at-append : (P : Task K → Type 0) (xs ys : List (Task K)) (i : ℕ) → P (getD xs i (over K)) → ((k : ℕ) → P (getD ys k (over K))) → P (getD (xs ++ ys) i (over K))
+  at-append : (P : Task K → Type 0) (xs ys : List (Task K)) (i : ℕ) → P (getD xs i (ended K)) → ((k : ℕ) → P (getD ys k (ended K))) → P (getD (xs ++ ys) i (ended K))
   at-append P [] ys i h k = k i
   at-append P (x ∷ xs) ys zero h k = h
   at-append P (x ∷ xs) ys (suc i) h k = at-append P xs ys i h k
 
   -- what holds of task i behind a step of task j
-  pub at-next : (P : Task K → Type 0) (ts : List (Task K)) (j : ℕ) (t : Task K) (ks : List Code) (i : ℕ) → P (getD ts i (over K)) → (i ≡ j → P t) → ((k : ℕ) → P (getD (started K ks) k (over K))) → P (getD (set ts j t ++ started K ks) i (over K))
+  pub at-next : (P : Task K → Type 0) (ts : List (Task K)) (j : ℕ) (t : Task K) (ks : List Code) (i : ℕ) → P (getD ts i (ended K)) → (i ≡ j → P t) → ((k : ℕ) → P (getD (started K ks) k (ended K))) → P (getD (set ts j t ++ started K ks) i (ended K))
   at-next P ts j t ks i h k c = at-append P (set ts j t) (started K ks) i (at-set P ts j t i h k) c
 
-  at-itself : (P : Task K → Type 0) (ts : List (Task K)) (j : ℕ) (t : Task K) → P t → P (over K) → P (getD (set ts j t) j (over K))
+  at-itself : (P : Task K → Type 0) (ts : List (Task K)) (j : ℕ) (t : Task K) → P t → P (ended K) → P (getD (set ts j t) j (ended K))
   at-itself P [] j t h k = k
   at-itself P (y ∷ ys) zero t h k = h
   at-itself P (y ∷ ys) (suc j) t h k = at-itself P ys j t h k
 
-  started-clean : (h : List (K .Cell)) (ks : List Code) (i : ℕ) → dirty K h (getD (started K ks) i (over K)) ≡ false
+  started-clean : (h : List (K .Cell)) (ks : List Code) (i : ℕ) → dirty K h (getD (started K ks) i (ended K)) ≡ false
   started-clean h [] i = refl
   started-clean h (k ∷ ks) zero = refl
   started-clean h (k ∷ ks) (suc i) = started-clean h ks i

@@ -20,7 +20,7 @@ module _ (K : Cells) (sum : Rule) (h : List (K .Cell)) where
     table : length (d .table) ≡ length h
     children : length (d .children) ≡ more (isFork (d .event)) 0
 
-  plain : {t : Task K} {e : Event} → isFork e ≡ false → Sized (record { task = t; table = h; children = []; event = e })
+  plain : {t : Task K} {e : Event} {over : ℕ} → isFork e ≡ false → Sized (record { task = t; table = h; children = []; event = e; over = over })
   plain {t} {e} f = record { table = refl; children = rw f }
 
   outside-sized : (c : Code) (σ : List ℤ) → Sized (stepOutside K sum h c σ)
@@ -36,35 +36,35 @@ module _ (K : Cells) (sum : Rule) (h : List (K .Cell)) where
   outside-sized (COMMIT ⨾ c) σ = plain refl
   outside-sized (FORK k ⨾ c) σ = record { table = refl; children = refl }
 
-  commits-sized : (body : Code) (base : List ℤ) (c : Code) (n : ℤ) (w : Log ℤ) (v : ℕ) → Sized (commits K h body base c n w v)
-  commits-sized body base c n w v = go (ltb v 64)
+  commits-sized : (body : Code) (base : List ℤ) (c : Code) (n : ℤ) (w : Log ℤ) (over v : ℕ) → Sized (commits K h body base c n w over v)
+  commits-sized body base c n w over v = go (ltb v 64)
     where
       go : (b : Bool) → Sized (elim b [
-        | true ↦ record { task = outside (BEGIN ⨾ body) base; table = h; children = []; event = sentBack v }
-        | false ↦ record { task = outside c (n ∷ base); table = overwritten K 64 0 w h; children = []; event = committed }
+        | true ↦ record { task = outside (BEGIN ⨾ body) base; table = h; children = []; event = sentBack v; over = 0 }
+        | false ↦ record { task = outside c (n ∷ base); table = overwritten K 64 0 w h; children = []; event = committed; over = over }
       ])
       go true = plain refl
       go false = record { table = overwritten-length K 64 0 w h; children = refl }
 
-  inside-sized : (body : Code) (base : List ℤ) (c : Code) (σ : List ℤ) (r : Log (K .Cell)) (w : Log ℤ) → Sized (stepInside K sum h body base c σ r w)
+  inside-sized : (body : Code) (base : List ℤ) (c : Code) (σ : List ℤ) (r : Log (K .Cell)) (w : Log ℤ) (over : ℕ) → Sized (stepInside K sum h body base c σ r w over)
   unfolding stepInside
-  inside-sized body base ε σ r w = plain refl
-  inside-sized body base (PUSH n ⨾ c) σ r w = plain refl
-  inside-sized body base (ADD ⨾ c) [] r w = plain refl
-  inside-sized body base (ADD ⨾ c) (n ∷ []) r w = plain refl
-  inside-sized body base (ADD ⨾ c) (n ∷ m ∷ σ) r w = plain refl
-  inside-sized body base (READ v ⨾ c) σ r w = plain refl
-  inside-sized body base (WRITE v ⨾ c) [] r w = plain refl
-  inside-sized body base (WRITE v ⨾ c) (n ∷ σ) r w = plain refl
-  inside-sized body base (BEGIN ⨾ c) σ r w = plain refl
-  inside-sized body base (COMMIT ⨾ c) [] r w = plain refl
-  inside-sized body base (COMMIT ⨾ c) (n ∷ σ) r w = commits-sized body base c n w (firstStale K 64 0 r h)
-  inside-sized body base (FORK k ⨾ c) σ r w = plain refl
+  inside-sized body base ε σ r w over = plain refl
+  inside-sized body base (PUSH n ⨾ c) σ r w over = plain refl
+  inside-sized body base (ADD ⨾ c) [] r w over = plain refl
+  inside-sized body base (ADD ⨾ c) (n ∷ []) r w over = plain refl
+  inside-sized body base (ADD ⨾ c) (n ∷ m ∷ σ) r w over = plain refl
+  inside-sized body base (READ v ⨾ c) σ r w over = plain refl
+  inside-sized body base (WRITE v ⨾ c) [] r w over = plain refl
+  inside-sized body base (WRITE v ⨾ c) (n ∷ σ) r w over = plain refl
+  inside-sized body base (BEGIN ⨾ c) σ r w over = plain refl
+  inside-sized body base (COMMIT ⨾ c) [] r w over = plain refl
+  inside-sized body base (COMMIT ⨾ c) (n ∷ σ) r w over = commits-sized body base c n w over (firstStale K 64 0 r h)
+  inside-sized body base (FORK k ⨾ c) σ r w over = plain refl
 
   step-sized : (t : Task K) → Sized (stepTask K sum h t)
   unfolding stepTask
   step-sized (outside c σ) = outside-sized c σ
-  step-sized (inside body base c σ r w) = inside-sized body base c σ r w
+  step-sized (inside body base c σ r w over) = inside-sized body base c σ r w over
 
   pub step-length : (t : Task K) → length (stepTask K sum h t .table) ≡ length h
   step-length t = step-sized t .table

@@ -1,7 +1,7 @@
 -- Every run of the tasks is a run of the script: its order is a list that the script can take, and the two stay linked. Assumes nothing.
-use Prim.Native.Nat.{ℕ, zero, suc}
+use Prim.Native.Nat.{ℕ, zero, suc, _+_}
 use mathlib.Core.Bool.{Bool, true, false, cond}
-use mathlib.Core.Path.{_≡_, refl, sym, ap, subst, _∙_}
+use mathlib.Core.Path.{_≡_, refl, sym, ap, ap₂, subst, _∙_}
 use mathlib.Core.List.{List, [], _∷_, _++_, append-nil}
 use native.Mathlib.Omega.{arith}
 use lib.Dec.{ltb}
@@ -10,15 +10,16 @@ use lib.ListN.{length, getD, set, replicate, List·getD-eq-default}
 use borrow.Author.Tests.{ltb-false}
 use lib.Seq.{set-getD}
 use Rattle.stm.specs.InnerCells.{Cells}
-use Rattle.stm.specs.InnerTasks.{Log, Task, outside, inside, over, Did, System, taskAt, started, did, next, endOf, eventsOf, start}
+use Rattle.stm.specs.InnerTasks.{Log, Task, outside, inside, ended, Did, System, taskAt, started, did, next, endOf, eventsOf, start}
 use Rattle.stm.specs.InnerMeaning.{processOf, meant, meantAll, valuesOf, Outside, Known, Good, Linked}
 use Rattle.stm.proofs.Codes.{proc-means, proc-runs}
 use Rattle.stm.proofs.Logs.{values-blank}
 use Rattle.stm.proofs.Opens.{Scripted, quiet, taken, Fine, task-fine}
 use Rattle.code.specs.Compile.{ε, compileP}
-use Rattle.stm.specs.Events.{isTurn, order}
+use Rattle.stm.specs.Events.{isTurn, order, overs}
 use Rattle.script.specs.Tree.{Proc, ValP}
 use Rattle.script.specs.Limits.{ValuedP}
+use Rattle.script.specs.Overflows.{overflowsP, overflowsTurns}
 use Rattle.script.specs.Turns.{Registers, moved, reduce, Script, initial, turned, turn, turns, CanTake}
 use Rattle.script.specs.Turns as script
 use Rattle.word.specs.Sum.{Rule}
@@ -42,7 +43,7 @@ module _ (K : Cells) where
   meant-length [] = refl
   meant-length (t ∷ ts) = ap suc (meant-length ts)
 
-  pub meant-at : (ts : List (Task K)) (i : ℕ) → getD (meantAll K ts) i (ValP (pos 0)) ≡ meant K (getD ts i (over K))
+  pub meant-at : (ts : List (Task K)) (i : ℕ) → getD (meantAll K ts) i (ValP (pos 0)) ≡ meant K (getD ts i (ended K))
   unfolding processOf
   meant-at [] i = refl
   meant-at (t ∷ ts) zero = refl
@@ -69,18 +70,22 @@ module _ (K : Cells) (sum : Rule) where
         good = root;
       }
     where
-      root : (i : ℕ) → Good K sum (replicate 64 (K .blank)) (getD (outside (compileP p ε) [] ∷ []) i (over K))
+      root : (i : ℕ) → Good K sum (replicate 64 (K .blank)) (getD (outside (compileP p ε) [] ∷ []) i (ended K))
       root zero = proc-runs p ε 0 v refl
       root (suc i) = refl
 
   keeps-good : (h h′ : List (K .Cell)) → ((r : Log (K .Cell)) → Known K sum r h → Known K sum r h′) → (t : Task K) → Good K sum h t → Good K sum h′ t
   keeps-good h h′ k (outside c σ) g = g
-  keeps-good h h′ k (inside body base c σ r w) g = (g .0, k r (g .1))
+  keeps-good h h′ k (inside body base c σ r w over) g = (g .0, k r (g .1))
 
-  -- a pick: it is no turn and the script stays, or it is the script's turn of the same number
+  -- the sums of thread i's due node that fall outside the range
+  abbrev due-overs : Script → ℕ → ℕ
+  due-overs q i = overflowsP sum (q .registers) (getD (q .threads) i (ValP (pos 0)))
+
+  -- a pick: it is no turn, tells of no sum and the script stays, or it is the script's turn of the same number and tells of its sums
   pub data Stepped (s : System K) (q : Script) (i : ℕ) : Type 0 where
-    stayed : isTurn (did K sum s i .event) ≡ false → Linked K sum (next K sum s i) q → Stepped s q i
-    turned-to : isTurn (did K sum s i .event) ≡ true → (q′ : Script) → turn sum q i ≡ turned q′ → Linked K sum (next K sum s i) q′ → Stepped s q i
+    stayed : isTurn (did K sum s i .event) ≡ false → did K sum s i .over ≡ 0 → Linked K sum (next K sum s i) q → Stepped s q i
+    turned-to : isTurn (did K sum s i .event) ≡ true → did K sum s i .over ≡ due-overs q i → (q′ : Script) → turn sum q i ≡ turned q′ → Linked K sum (next K sum s i) q′ → Stepped s q i
 
   value-stays : {A : Type 0} (rs : Registers) (n : ℤ) (p : Proc) (rs′ : Registers) (new : List Proc) → reduce sum rs (ValP n) ≡ moved p rs′ new → A
   unfolding reduce
@@ -105,18 +110,18 @@ module _ (K : Cells) (sum : Rule) where
       fine : Fine K sum (s .table) (taskAt K s i) d
       fine = task-fine K sum (s .table) (taskAt K s i) (k .sized) (k .good i)
 
-      all-good : (j : ℕ) → Good K sum (d .table) (getD (set (s .tasks) i (d .task) ++ started K (d .children)) j (over K))
+      all-good : (j : ℕ) → Good K sum (d .table) (getD (set (s .tasks) i (d .task) ++ started K (d .children)) j (ended K))
       all-good =
-          each-append (Good K sum (d .table)) (over K) (set (s .tasks) i (d .task)) (started K (d .children))
-          (each-set (Good K sum (d .table)) (over K) (s .tasks) i (d .task) (λ j. keeps-good (s .table) (d .table) (fine .known) (taskAt K s j) (k .good j)) (fine .good))
+          each-append (Good K sum (d .table)) (ended K) (set (s .tasks) i (d .task)) (started K (d .children))
+          (each-set (Good K sum (d .table)) (ended K) (s .tasks) i (d .task) (λ j. keeps-good (s .table) (d .table) (fine .known) (taskAt K s j) (k .good j)) (fine .good))
           (fine .born)
 
       all-meant : meantAll K (set (s .tasks) i (d .task) ++ started K (d .children)) ≡ set (meantAll K (s .tasks)) i (meant K (d .task)) ++ meantAll K (started K (d .children))
       all-meant = meant-append K (set (s .tasks) i (d .task)) (started K (d .children)) ∙ ap {B = List Proc} (λ (l : List Proc). l ++ meantAll K (started K (d .children))) (meant-set K (s .tasks) i (d .task))
 
       go : Scripted K sum (s .table) (taskAt K s i) d → Stepped s q i
-      go (quiet e table none same) =
-          stayed e (record {
+      go (quiet e o table none same) =
+          stayed e o (record {
             sized = fine .sized ∙ k .sized;
             registers = k .registers ∙ ap {B = Registers} (valuesOf K) (sym table);
             threads = k .threads ∙ sym (all-meant ∙ unmoved);
@@ -126,8 +131,8 @@ module _ (K : Cells) (sum : Rule) where
           unmoved : set (meantAll K (s .tasks)) i (meant K (d .task)) ++ meantAll K (started K (d .children)) ≡ meantAll K (s .tasks)
           unmoved = rw (none, same, ← meant-at K (s .tasks) i, set-getD (meantAll K (s .tasks)) i (ValP (pos 0)), append-nil)
       go (taken e moves) =
-          turned-to e (record { registers = valuesOf K (d .table); threads = set (q .threads) i (meant K (d .task)) ++ meantAll K (started K (d .children)) })
-          (moves-turn q i (meant K (d .task)) (valuesOf K (d .table)) (meantAll K (started K (d .children))) (rw (k .registers, k .threads, meant-at K (s .tasks) i) moves))
+          turned-to e (sym (rw (k .registers, k .threads, meant-at K (s .tasks) i) (moves .overs))) (record { registers = valuesOf K (d .table); threads = set (q .threads) i (meant K (d .task)) ++ meantAll K (started K (d .children)) })
+          (moves-turn q i (meant K (d .task)) (valuesOf K (d .table)) (meantAll K (started K (d .children))) (rw (k .registers, k .threads, meant-at K (s .tasks) i) (moves .reduces)))
           (record {
             sized = fine .sized ∙ k .sized;
             registers = refl;
@@ -139,20 +144,40 @@ module _ (K : Cells) (sum : Rule) where
   unfolding turns
   turns-one q q′ i js e = rw e
 
-  -- the order of a run is a list that the script can take, and what the run leaves is linked to what the script then is
-  pub run-linked : (is : List ℕ) (s : System K) (q : Script) → Linked K sum s q → CanTake sum q (order (eventsOf K sum s is)) × Linked K sum (endOf K sum s is) (turns sum q (order (eventsOf K sum s is)))
-  unfolding endOf eventsOf order turns
-  run-linked [] s q k = (script.none, k)
+  pub over-one : (q q′ : Script) (i : ℕ) (js : List ℕ) → turn sum q i ≡ turned q′ → overflowsTurns sum q (i ∷ js) ≡ due-overs q i + overflowsTurns sum q′ js
+  unfolding overflowsTurns
+  over-one q q′ i js e = rw e
+
+  -- the order of a run is a list that the script can take, what the run leaves is linked to what the script then is, and the sums that the run
+  -- tells of are those of the script's turns
+  pub record Followed (q : Script) (js : List ℕ) (told : ℕ) (end : System K) : Type 0 where
+    pub can : CanTake sum q js
+    pub linked : Linked K sum end (turns sum q js)
+    pub over : told ≡ overflowsTurns sum q js
+
+  pub run-linked : (is : List ℕ) (s : System K) (q : Script) → Linked K sum s q → Followed q (order (eventsOf K sum s is)) (overs (eventsOf K sum s is)) (endOf K sum s is)
+  unfolding endOf eventsOf order overs turns overflowsTurns
+  run-linked [] s q k = record { can = script.none; linked = k; over = refl }
   run-linked (i ∷ is) s q k = go (step-linked s q i k) (λ q′ x. run-linked is (next K sum s i) q′ x)
     where
       rest : List ℕ
       rest = order (eventsOf K sum (next K sum s i) is)
 
-      Both : Script → List ℕ → Type 0
-      Both q js = CanTake sum q js × Linked K sum (endOf K sum (next K sum s i) is) (turns sum q js)
+      behind : ℕ
+      behind = overs (eventsOf K sum (next K sum s i) is)
 
-      go : Stepped s q i → ((q′ : Script) → Linked K sum (next K sum s i) q′ → Both q′ rest) → Both q (cond (isTurn (did K sum s i .event)) (i ∷ rest) rest)
-      go (stayed e x) f = rw e (f q x)
-      go (turned-to e q′ t x) f =
+      end : System K
+      end = endOf K sum (next K sum s i) is
+
+      go : Stepped s q i → ((q′ : Script) → Linked K sum (next K sum s i) q′ → Followed q′ rest behind end) → Followed q (cond (isTurn (did K sum s i .event)) (i ∷ rest) rest) (did K sum s i .over + behind) end
+      go (stayed e o x) f =
+          let r = f q x in
+          let a = r .over in
+          rw e (record { can = r .can; linked = r .linked; over = omega arith })
+      go (turned-to e o q′ t x) f =
           let r = f q′ x in
-          rw e (script.one t (r .0), rw (turns-one q q′ i rest t) (r .1))
+          rw e (record {
+            can = script.one t (r .can);
+            linked = rw (turns-one q q′ i rest t) (r .linked);
+            over = ap₂ (λ (n m : ℕ). n + m) o (r .over) ∙ sym (over-one q q′ i rest t);
+          })

@@ -20,10 +20,12 @@ pub data Event : Type 0 where
   committed : Event
   sentBack : (register : ℕ) → Event
 
--- an event and its thread
+-- an event, its thread, and how many sums it tells of that fell outside the range: document 02 No. 2, "such sums outside transactions and, as
+-- noted, in attempts that took effect"
 pub record Happened : Type 0 where
   pub thread : ℕ
   pub event : Event
+  pub over : ℕ
 
 -- every count is a count over the events
 unfoldable pub counted : (Event → Bool) → List Happened → ℕ
@@ -96,32 +98,39 @@ unfoldable pub backs : ℕ → List Happened → ℕ
 backs i [] = 0
 backs i (h ∷ hs) = cond (eqb (h .thread) i && isBack (h .event)) (suc (backs i hs)) (backs i hs)
 
--- ---- "`steps` are picks not idle, `commits` those that took effect, `back` those sent back"
+-- the sums that the events tell of
+unfoldable pub overs : List Happened → ℕ
+overs [] = 0
+overs (h ∷ hs) = h .over + overs hs
+
+-- ---- "`steps` are picks not idle, `commits` those that took effect, `back` those sent back"; "The run reports `over`"
 pub record Counts : Type 0 where
   pub steps : ℕ
   pub idle : ℕ
   pub commits : ℕ
   pub back : ℕ
+  pub over : ℕ
 
 abbrev pub uncounted : Counts
-uncounted = record { steps = 0; idle = 0; commits = 0; back = 0 }
+uncounted = record { steps = 0; idle = 0; commits = 0; back = 0; over = 0 }
 
 -- what one pick adds to the counts
 abbrev pub more : Bool → ℕ → ℕ
 more b n = cond b (suc n) n
 
-unfoldable pub tally : Event → Counts → Counts
-tally e c =
+unfoldable pub tally : Event → (over : ℕ) → Counts → Counts
+tally e over c =
     record {
       steps = more (not (isIdle e)) (c .steps);
       idle = more (isIdle e) (c .idle);
       commits = more (isCommit e) (c .commits);
       back = more (isBack e) (c .back);
+      over = c .over + over;
     }
 
 unfoldable pub countsOf : List Happened → Counts
 countsOf [] = uncounted
-countsOf (h ∷ hs) = tally (h .event) (countsOf hs)
+countsOf (h ∷ hs) = tally (h .event) (h .over) (countsOf hs)
 
 -- the counts of two lists of picks together
 abbrev pub together : Counts → Counts → Counts
@@ -131,6 +140,7 @@ together a b =
       idle = a .idle + b .idle;
       commits = a .commits + b .commits;
       back = a .back + b .back;
+      over = a .over + b .over;
     }
 
 -- ---- events as numbers, in the order of document 02, No. 4: 0 idle, 1 to 9 from push to commit, 10 sent back

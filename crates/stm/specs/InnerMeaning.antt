@@ -12,8 +12,9 @@ use Rattle.stm.specs.InnerTasks.{Log, Task, outside, inside, System, tas
 use Rattle.code.specs.Compile.{Instruction, Code, PUSH, ADD, READ, WRITE, BEGIN, COMMIT, FORK, ε, _⨾_}
 use Rattle.code.specs.Counts.{codeCount}
 use Rattle.script.specs.Tree.{Tran, ValT, AddT, Read, Write, Proc, ValP, AddP, Atomic, Fork}
-use Rattle.script.specs.Turns.{Registers, Worked, work, Script}
-use Rattle.word.specs.Sum.{Rule}
+use Rattle.script.specs.Turns.{Registers, work, Script}
+use Rattle.script.specs.Overflows.{overflowsT}
+use Rattle.word.specs.Sum.{Rule, overOf}
 
 -- a sum of the two topmost parts
 abbrev pub summedP : List Proc → List Proc
@@ -74,7 +75,7 @@ values (n ∷ σ) = ValP n ∷ values σ
 -- an open transaction is, until its COMMIT takes effect, still the whole ATOMIC
 abbrev pub meant : (K : Cells) → Task K → Proc
 meant K (outside c σ) = processOf c (values σ)
-meant K (inside body base c σ r w) = processOf (BEGIN ⨾ body) (values base)
+meant K (inside body base c σ r w over) = processOf (BEGIN ⨾ body) (values base)
 
 abbrev pub meantAll : (K : Cells) → List (Task K) → List Proc
 meantAll K [] = []
@@ -123,20 +124,29 @@ unfoldable mutual
   Inside ε h b = ⊥
   Inside (i ⨾ c) h b = TakesInside i (λ x. Outside c x) (λ x y. Inside c x y) h b
 
--- a transaction's code, finished directly on a table: its value, and the registers that it leaves
-unfoldable pub finish : Rule → Code → List ℤ → Registers → Worked
-finish sum ε σ rs = record { value = pos 0; registers = rs }
-finish sum (PUSH n ⨾ c) σ rs = finish sum c (n ∷ σ) rs
-finish sum (ADD ⨾ c) [] rs = record { value = pos 0; registers = rs }
-finish sum (ADD ⨾ c) (n ∷ []) rs = record { value = pos 0; registers = rs }
-finish sum (ADD ⨾ c) (n ∷ m ∷ σ) rs = finish sum c (sum m n ∷ σ) rs
-finish sum (READ v ⨾ c) σ rs = finish sum c (getD rs v (pos 0) ∷ σ) rs
-finish sum (WRITE v ⨾ c) [] rs = record { value = pos 0; registers = rs }
-finish sum (WRITE v ⨾ c) (n ∷ σ) rs = finish sum c (n ∷ σ) (set rs v n)
-finish sum (BEGIN ⨾ c) σ rs = record { value = pos 0; registers = rs }
-finish sum (COMMIT ⨾ c) [] rs = record { value = pos 0; registers = rs }
-finish sum (COMMIT ⨾ c) (n ∷ σ) rs = record { value = n; registers = rs }
-finish sum (FORK k ⨾ c) σ rs = record { value = pos 0; registers = rs }
+-- what a transaction gives: its value, the registers that it leaves, and how many of its sums fell outside the range
+pub record Finished : Type 0 where
+  pub value : ℤ
+  pub registers : Registers
+  pub over : ℕ
+
+abbrev pub wholly : Rule → Tran → Registers → Finished
+wholly sum t rs = record { value = work sum t rs .value; registers = work sum t rs .registers; over = overflowsT sum t rs }
+
+-- a transaction's code, finished directly on a table, so many of its sums having fallen outside the range so far
+unfoldable pub finish : Rule → Code → List ℤ → (over : ℕ) → Registers → Finished
+finish sum ε σ over rs = record { value = pos 0; registers = rs; over = over }
+finish sum (PUSH n ⨾ c) σ over rs = finish sum c (n ∷ σ) over rs
+finish sum (ADD ⨾ c) [] over rs = record { value = pos 0; registers = rs; over = over }
+finish sum (ADD ⨾ c) (n ∷ []) over rs = record { value = pos 0; registers = rs; over = over }
+finish sum (ADD ⨾ c) (n ∷ m ∷ σ) over rs = finish sum c (sum m n ∷ σ) (over + overOf m n) rs
+finish sum (READ v ⨾ c) σ over rs = finish sum c (getD rs v (pos 0) ∷ σ) over rs
+finish sum (WRITE v ⨾ c) [] over rs = record { value = pos 0; registers = rs; over = over }
+finish sum (WRITE v ⨾ c) (n ∷ σ) over rs = finish sum c (n ∷ σ) over (set rs v n)
+finish sum (BEGIN ⨾ c) σ over rs = record { value = pos 0; registers = rs; over = over }
+finish sum (COMMIT ⨾ c) [] over rs = record { value = pos 0; registers = rs; over = over }
+finish sum (COMMIT ⨾ c) (n ∷ σ) over rs = record { value = n; registers = rs; over = over }
+finish sum (FORK k ⨾ c) σ over rs = record { value = pos 0; registers = rs; over = over }
 
 -- registers with a write log over them
 abbrev pub enter : Option ℤ → ℕ → Registers → Registers
@@ -164,13 +174,14 @@ module _ (K : Cells) (sum : Rule) where
   Agrees r rs = (v : ℕ) (c : K .Cell) → v < 64 → r v ≡ some c → getD rs v (pos 0) ≡ K .value c
 
   -- An open transaction, whatever the table is now: it is the one of its BEGIN, and on every table that agrees with the read log,
-  -- finishing its code directly on that table overlaid with the write log gives what the whole transaction gives on that table.
-  pub record Open (body : Code) (base : List ℤ) (code : Code) (stack : List ℤ) (r : Log (K .Cell)) (w : Log ℤ) : Type 0 where
+  -- finishing its code directly on that table overlaid with the write log gives what the whole transaction gives on that table, `over`
+  -- sums being noted so far.
+  pub record Open (body : Code) (base : List ℤ) (code : Code) (stack : List ℤ) (r : Log (K .Cell)) (w : Log ℤ) (over : ℕ) : Type 0 where
     pub tran : Tran
     pub whole : (ps : List Proc) → processOf (BEGIN ⨾ body) ps ≡ processOf (behind code) (Atomic tran ∷ ps)
     pub ready : Outside (BEGIN ⨾ body) (length base)
     pub goes-on : Inside code (length stack) (length base)
-    pub same : (rs : Registers) → length rs ≡ 64 → Agrees r rs → finish sum code stack (overlay 64 0 w rs) ≡ work sum tran rs
+    pub same : (rs : Registers) → length rs ≡ 64 → Agrees r rs → finish sum code stack over (overlay 64 0 w rs) ≡ wholly sum tran rs
 
   -- each cell of a read log is one that the table has or had
   abbrev pub Known : Log (K .Cell) → List (K .Cell) → Type 0
@@ -178,7 +189,7 @@ module _ (K : Cells) (sum : Rule) where
 
   abbrev pub Good : List (K .Cell) → Task K → Type 0
   Good h (outside c σ) = Outside c (length σ)
-  Good h (inside body base c σ r w) = Open body base c σ r w × Known r h
+  Good h (inside body base c σ r w over) = Open body base c σ r w over × Known r h
 
   -- a system and a script: the same registers, the same threads
   pub record Linked (s : System K) (q : Script) : Type 0 where
@@ -220,20 +231,20 @@ unfoldable mutual
 -- of a task: instructions to come, transactions whose commit is to come, FORKs to come, and the longest transaction to come
 abbrev pub toCome : (K : Cells) → Task K → ℕ
 toCome K (outside c σ) = codeCount c
-toCome K (inside body base c σ r w) = codeCount c
+toCome K (inside body base c σ r w over) = codeCount c
 
 abbrev pub commitsToCome : (K : Cells) → Task K → ℕ
 commitsToCome K (outside c σ) = begins c
-commitsToCome K (inside body base c σ r w) = suc (begins c)
+commitsToCome K (inside body base c σ r w over) = suc (begins c)
 
 abbrev pub forksToCome : (K : Cells) → Task K → ℕ
 forksToCome K (outside c σ) = forksOf c
-forksToCome K (inside body base c σ r w) = forksOf c
+forksToCome K (inside body base c σ r w over) = forksOf c
 
 -- whether a register of the read log is stale
 abbrev pub dirty : (K : Cells) → List (K .Cell) → Task K → Bool
 dirty K h (outside c σ) = false
-dirty K h (inside body base c σ r w) = ltb (firstStale K 64 0 r h) 64
+dirty K h (inside body base c σ r w over) = ltb (firstStale K 64 0 r h) 64
 
 -- a sum over all tasks
 unfoldable pub total : {K : Cells} → (Task K → ℕ) → List (Task K) → ℕ

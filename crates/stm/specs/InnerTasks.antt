@@ -1,6 +1,6 @@
 -- For the proofs, nobody has to believe it: threads that carry their code, and one step of such a task. The stack inside a transaction is
 -- kept apart from the one below it.
-use Prim.Native.Nat.{ℕ, zero, suc}
+use Prim.Native.Nat.{ℕ, zero, suc, _+_}
 use mathlib.Core.Bool.{Bool, true, false, cond}
 use mathlib.Core.List.{List, [], _∷_, _++_}
 use mathlib.Core.Option.{Option, none, some}
@@ -10,7 +10,7 @@ use lib.ListN.{getD, set, replicate}
 use Rattle.stm.specs.InnerCells.{Cells}
 use Rattle.code.specs.Compile.{Code, PUSH, ADD, READ, WRITE, BEGIN, COMMIT, FORK, ε, _⨾_}
 use Rattle.stm.specs.Events.{Source, fromWrites, fromReads, fromTable, Event, idle, pushed, summed, forked, begun, looked, wrote, committed, sentBack, Happened}
-use Rattle.word.specs.Sum.{Rule}
+use Rattle.word.specs.Sum.{Rule, overOf}
 
 -- a log: what it holds of each register
 abbrev pub Log : Type 0 → Type 0
@@ -22,22 +22,24 @@ nothing v = none
 abbrev pub logged : {A : Type 0} → Log A → ℕ → A → Log A
 logged log v a u = cond (eqb u v) (some a) (log u)
 
--- `outside code stack`; inside a transaction: the code behind its BEGIN, the stack at its BEGIN, the code to come, the stack above, the logs
+-- `outside code stack`; inside a transaction: the code behind its BEGIN, the stack at its BEGIN, the code to come, the stack above, the logs,
+-- and how many of its sums so far fell outside the range
 pub data Task (K : Cells) : Type 0 where
   outside : Code → List ℤ → Task K
-  inside : (body : Code) (base : List ℤ) (code : Code) (stack : List ℤ) (reads : Log (K .Cell)) (writes : Log ℤ) → Task K
+  inside : (body : Code) (base : List ℤ) (code : Code) (stack : List ℤ) (reads : Log (K .Cell)) (writes : Log ℤ) (over : ℕ) → Task K
 
 module _ (K : Cells) where
   -- a task that has ended
-  abbrev pub over : Task K
-  over = outside ε (pos 0 ∷ [])
+  abbrev pub ended : Task K
+  ended = outside ε (pos 0 ∷ [])
 
-  -- what a step leaves: the task, the table, the code of a child if one was forked, and the event
+  -- what a step leaves: the task, the table, the code of a child if one was forked, the event, and the sums that it tells of
   pub record Did : Type 0 where
     pub task : Task K
     pub table : List (K .Cell)
     pub children : List Code
     pub event : Event
+    pub over : ℕ
 
   abbrev pub cellAt : List (K .Cell) → ℕ → K .Cell
   cellAt h v = getD h v (K .blank)
@@ -75,18 +77,18 @@ module _ (K : Cells) where
   overwritten (suc left) v w h = overwritten left (suc v) w (entered (w v) v h)
 
   -- COMMIT
-  abbrev pub commits : List (K .Cell) → (body : Code) (base : List ℤ) (code : Code) (n : ℤ) → Log ℤ → (stale : ℕ) → Did
-  commits h body base c n w v =
+  abbrev pub commits : List (K .Cell) → (body : Code) (base : List ℤ) (code : Code) (n : ℤ) → Log ℤ → (over : ℕ) → (stale : ℕ) → Did
+  commits h body base c n w over v =
       elim (ltb v 64) [
-        | true ↦ record { task = outside (BEGIN ⨾ body) base; table = h; children = []; event = sentBack v }
-        | false ↦ record { task = outside c (n ∷ base); table = overwritten 64 0 w h; children = []; event = committed }
+        | true ↦ record { task = outside (BEGIN ⨾ body) base; table = h; children = []; event = sentBack v; over = 0 }
+        | false ↦ record { task = outside c (n ∷ base); table = overwritten 64 0 w h; children = []; event = committed; over = over }
       ]
 
   abbrev pub stays : Task K → List (K .Cell) → Did
-  stays t h = record { task = t; table = h; children = []; event = idle }
+  stays t h = record { task = t; table = h; children = []; event = idle; over = 0 }
 
   abbrev pub goes : Task K → List (K .Cell) → Event → Did
-  goes t h e = record { task = t; table = h; children = []; event = e }
+  goes t h e = record { task = t; table = h; children = []; event = e; over = 0 }
 
   -- one instruction outside a transaction
   unfoldable pub stepOutside : Rule → List (K .Cell) → Code → List ℤ → Did
@@ -94,31 +96,31 @@ module _ (K : Cells) where
   stepOutside sum h (PUSH n ⨾ c) σ = goes (outside c (n ∷ σ)) h pushed
   stepOutside sum h (ADD ⨾ c) [] = stays (outside (ADD ⨾ c) []) h
   stepOutside sum h (ADD ⨾ c) (n ∷ []) = stays (outside (ADD ⨾ c) (n ∷ [])) h
-  stepOutside sum h (ADD ⨾ c) (n ∷ m ∷ σ) = goes (outside c (sum m n ∷ σ)) h (summed false)
+  stepOutside sum h (ADD ⨾ c) (n ∷ m ∷ σ) = record { task = outside c (sum m n ∷ σ); table = h; children = []; event = summed false; over = overOf m n }
   stepOutside sum h (READ v ⨾ c) σ = stays (outside (READ v ⨾ c) σ) h
   stepOutside sum h (WRITE v ⨾ c) σ = stays (outside (WRITE v ⨾ c) σ) h
-  stepOutside sum h (BEGIN ⨾ c) σ = goes (inside c σ c [] nothing nothing) h begun
+  stepOutside sum h (BEGIN ⨾ c) σ = goes (inside c σ c [] nothing nothing 0) h begun
   stepOutside sum h (COMMIT ⨾ c) σ = stays (outside (COMMIT ⨾ c) σ) h
-  stepOutside sum h (FORK k ⨾ c) σ = record { task = outside c (pos 0 ∷ σ); table = h; children = k ∷ []; event = forked }
+  stepOutside sum h (FORK k ⨾ c) σ = record { task = outside c (pos 0 ∷ σ); table = h; children = k ∷ []; event = forked; over = 0 }
 
   -- one instruction inside a transaction
-  unfoldable pub stepInside : Rule → List (K .Cell) → (body : Code) (base : List ℤ) (code : Code) (stack : List ℤ) → Log (K .Cell) → Log ℤ → Did
-  stepInside sum h body base ε σ r w = stays (inside body base ε σ r w) h
-  stepInside sum h body base (PUSH n ⨾ c) σ r w = goes (inside body base c (n ∷ σ) r w) h pushed
-  stepInside sum h body base (ADD ⨾ c) [] r w = stays (inside body base (ADD ⨾ c) [] r w) h
-  stepInside sum h body base (ADD ⨾ c) (n ∷ []) r w = stays (inside body base (ADD ⨾ c) (n ∷ []) r w) h
-  stepInside sum h body base (ADD ⨾ c) (n ∷ m ∷ σ) r w = goes (inside body base c (sum m n ∷ σ) r w) h (summed true)
-  stepInside sum h body base (READ v ⨾ c) σ r w = goes (inside body base c (found h r w v .value ∷ σ) (found h r w v .reads) w) h (looked (found h r w v .source))
-  stepInside sum h body base (WRITE v ⨾ c) [] r w = stays (inside body base (WRITE v ⨾ c) [] r w) h
-  stepInside sum h body base (WRITE v ⨾ c) (n ∷ σ) r w = goes (inside body base c (n ∷ σ) r (logged w v n)) h wrote
-  stepInside sum h body base (BEGIN ⨾ c) σ r w = stays (inside body base (BEGIN ⨾ c) σ r w) h
-  stepInside sum h body base (COMMIT ⨾ c) [] r w = stays (inside body base (COMMIT ⨾ c) [] r w) h
-  stepInside sum h body base (COMMIT ⨾ c) (n ∷ σ) r w = commits h body base c n w (firstStale 64 0 r h)
-  stepInside sum h body base (FORK k ⨾ c) σ r w = stays (inside body base (FORK k ⨾ c) σ r w) h
+  unfoldable pub stepInside : Rule → List (K .Cell) → (body : Code) (base : List ℤ) (code : Code) (stack : List ℤ) → Log (K .Cell) → Log ℤ → (over : ℕ) → Did
+  stepInside sum h body base ε σ r w over = stays (inside body base ε σ r w over) h
+  stepInside sum h body base (PUSH n ⨾ c) σ r w over = goes (inside body base c (n ∷ σ) r w over) h pushed
+  stepInside sum h body base (ADD ⨾ c) [] r w over = stays (inside body base (ADD ⨾ c) [] r w over) h
+  stepInside sum h body base (ADD ⨾ c) (n ∷ []) r w over = stays (inside body base (ADD ⨾ c) (n ∷ []) r w over) h
+  stepInside sum h body base (ADD ⨾ c) (n ∷ m ∷ σ) r w over = goes (inside body base c (sum m n ∷ σ) r w (over + overOf m n)) h (summed true)
+  stepInside sum h body base (READ v ⨾ c) σ r w over = goes (inside body base c (found h r w v .value ∷ σ) (found h r w v .reads) w over) h (looked (found h r w v .source))
+  stepInside sum h body base (WRITE v ⨾ c) [] r w over = stays (inside body base (WRITE v ⨾ c) [] r w over) h
+  stepInside sum h body base (WRITE v ⨾ c) (n ∷ σ) r w over = goes (inside body base c (n ∷ σ) r (logged w v n) over) h wrote
+  stepInside sum h body base (BEGIN ⨾ c) σ r w over = stays (inside body base (BEGIN ⨾ c) σ r w over) h
+  stepInside sum h body base (COMMIT ⨾ c) [] r w over = stays (inside body base (COMMIT ⨾ c) [] r w over) h
+  stepInside sum h body base (COMMIT ⨾ c) (n ∷ σ) r w over = commits h body base c n w over (firstStale 64 0 r h)
+  stepInside sum h body base (FORK k ⨾ c) σ r w over = stays (inside body base (FORK k ⨾ c) σ r w over) h
 
   unfoldable pub stepTask : Rule → List (K .Cell) → Task K → Did
   stepTask sum h (outside c σ) = stepOutside sum h c σ
-  stepTask sum h (inside body base c σ r w) = stepInside sum h body base c σ r w
+  stepTask sum h (inside body base c σ r w over) = stepInside sum h body base c σ r w over
 
   -- the table, and the tasks by their numbers
   pub record System : Type 0 where
@@ -126,7 +128,7 @@ module _ (K : Cells) where
     pub tasks : List (Task K)
 
   abbrev pub taskAt : System → ℕ → Task K
-  taskAt s i = getD (s .tasks) i over
+  taskAt s i = getD (s .tasks) i ended
 
   -- children become the next tasks
   abbrev pub started : List Code → List (Task K)
@@ -150,7 +152,7 @@ module _ (K : Cells) where
 
   unfoldable pub eventsOf : Rule → System → List ℕ → List Happened
   eventsOf sum s [] = []
-  eventsOf sum s (i ∷ is) = record { thread = i; event = did sum s i .event } ∷ eventsOf sum (next sum s i) is
+  eventsOf sum s (i ∷ is) = record { thread = i; event = did sum s i .event; over = did sum s i .over } ∷ eventsOf sum (next sum s i) is
 
   -- a job's code alone, every cell blank
   unfoldable pub start : Code → System

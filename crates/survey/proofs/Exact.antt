@@ -6,7 +6,7 @@ use mathlib.Core.List.{List, [], _∷_, _++_}
 use mathlib.Core.Option.{Option, none, some}
 use native.Mathlib.Omega.{arith}
 use borrow.Author.Tests.{eqb-true, eq-eqb}
-use lib.Dec.{eqb}
+use lib.Dec.{eqb, leb}
 use lib.IntN.{ℤ}
 use lib.ListN.{length, drop, take}
 use lib.Seq.{take-suc}
@@ -40,11 +40,12 @@ module _ (bytes : List ℕ) (t : Thread) where
   agreed (some w) e =
       let e1 = second (eqb (t .height) (w .height)) _ e in
       let e2 = second (eqb (t .begin) (w .begin)) _ e1 in
+      let e3 = second (eqb (t .base) (w .base)) _ e2 in
       let h : t .height ≡ w .height = eqb-true (t .height) (w .height) (first _ _ e) in
       let b : t .begin ≡ w .begin = eqb-true (t .begin) (w .begin) (first _ _ e1) in
       let c : t .base ≡ w .base = eqb-true (t .base) (w .base) (first _ _ e2) in (
-        both (eq-eqb (w .height) (t .height) (sym h)) (both (eq-eqb (w .begin) (t .begin) (sym b)) (eq-eqb (w .base) (t .base) (sym c))),
-        sym (shut-by t (w .begin) b) ∙ second (eqb (t .base) (w .base)) _ e2,
+        both (eq-eqb (w .height) (t .height) (sym h)) (both (eq-eqb (w .begin) (t .begin) (sym b)) (both (eq-eqb (w .base) (t .base) (sym c)) (first _ _ e3))),
+        sym (shut-by t (w .begin) b) ∙ second (leb (t .over) (w .adds)) _ e3,
       )
 
   agreeing-back : (o : Option Walked) → agrees t o ≡ true → shut t ≡ true → agreesWith t o ≡ true
@@ -52,10 +53,11 @@ module _ (bytes : List ℕ) (t : Thread) where
   agreeing-back none e s = never (sym e)
   agreeing-back (some w) e s =
       let e1 = second (eqb (w .height) (t .height)) _ e in
+      let e2 = second (eqb (w .begin) (t .begin)) _ e1 in
       let h : t .height ≡ w .height = sym (eqb-true (w .height) (t .height) (first _ _ e)) in
       let b : t .begin ≡ w .begin = sym (eqb-true (w .begin) (t .begin) (first _ _ e1)) in
-      let c : t .base ≡ w .base = sym (eqb-true (w .base) (t .base) (second (eqb (w .begin) (t .begin)) _ e1)) in
-      both (eq-eqb (t .height) (w .height) h) (both (eq-eqb (t .begin) (w .begin) b) (both (eq-eqb (t .base) (w .base) c) (shut-by t (w .begin) b ∙ s)))
+      let c : t .base ≡ w .base = sym (eqb-true (w .base) (t .base) (first _ _ e2)) in
+      both (eq-eqb (t .height) (w .height) h) (both (eq-eqb (t .begin) (w .begin) b) (both (eq-eqb (t .base) (w .base) c) (both (second (eqb (w .base) (t .base)) _ e2) (shut-by t (w .begin) b ∙ s))))
 
   placed-parts : placed bytes t ≡ true → (tidy t ≡ true) × (agrees t (walkTo bytes t) ≡ true)
   unfolding placed zeroFrom

@@ -6,7 +6,7 @@ use mathlib.Core.Path.{_≡_, refl, sym, ap, subst, _∙_}
 use mathlib.Core.List.{List, [], _∷_, _++_}
 use mathlib.Core.Option.{Option, none, some}
 use native.Mathlib.Omega.{arith}
-use lib.Dec.{eqb, ltb}
+use lib.Dec.{eqb, ltb, leb}
 use lib.ListN.{length, drop, drop-of-length-le}
 use lib.Seq.{drop-cons}
 use Rattle.code.specs.Ops.{opAt}
@@ -73,7 +73,7 @@ thread-behind bytes t = walk-behind bytes (t .end) (t .place) (suc (t .place)) (
 -- ---- one thread
 abbrev pub agrees : Thread → Option Walked → Bool
 agrees t none = false
-agrees t (some w) = eqb (w .height) (t .height) && (eqb (w .begin) (t .begin) && eqb (w .base) (t .base))
+agrees t (some w) = eqb (w .height) (t .height) && (eqb (w .begin) (t .begin) && (eqb (w .base) (t .base) && leb (t .over) (w .adds)))
 
 -- the child codes that a record's thread has passed
 abbrev passedOf : List ℕ → Thread → List Child

@@ -22,6 +22,7 @@ pub record Zeros (t : Thread) : Type 0 where
   pub height : t .height ≡ 0
   pub begin : t .begin ≡ 0
   pub base : t .base ≡ 0
+  pub over : t .over ≡ 0
   pub reads : t .reads ≡ 0
   pub writes : t .writes ≡ 0
   pub cells : zeroFrom 0 (t .cells) ≡ true
@@ -41,7 +42,8 @@ zeros-of t e =
     let e3 = second (eqb (t .place) 0) _ e2 in
     let e4 = second (eqb (t .height) 0) _ e3 in
     let e5 = second (eqb (t .begin) 0) _ e4 in
-    let e6 = second (eqb (t .base) 0) _ e5 in
+    let e0 = second (eqb (t .base) 0) _ e5 in
+    let e6 = second (eqb (t .over) 0) _ e0 in
     let e7 = second (eqb (t .reads) 0) _ e6 in
     let e8 = second (eqb (t .writes) 0) _ e7 in
     let e9 = second (free (λ n. false) (t .cells)) _ e8 in
@@ -52,6 +54,7 @@ zeros-of t e =
       height = eqb-true (t .height) 0 (first _ _ e3);
       begin = eqb-true (t .begin) 0 (first _ _ e4);
       base = eqb-true (t .base) 0 (first _ _ e5);
+      over = eqb-true (t .over) 0 (first _ _ e0);
       reads = eqb-true (t .reads) 0 (first _ _ e6);
       writes = eqb-true (t .writes) 0 (first _ _ e7);
       cells = none-below (t .cells) ∙ first _ _ e8;
@@ -68,9 +71,10 @@ all-zero t z =
     (both (eq-eqb (t .height) 0 (z .height))
     (both (eq-eqb (t .begin) 0 (z .begin))
     (both (eq-eqb (t .base) 0 (z .base))
+    (both (eq-eqb (t .over) 0 (z .over))
     (both (eq-eqb (t .reads) 0 (z .reads))
     (both (eq-eqb (t .writes) 0 (z .writes))
-    (both (sym (none-below (t .cells)) ∙ z .cells) (both (sym (none-below (t .readlog)) ∙ z .readlog) (sym (none-below (t .writelog)) ∙ z .writelog))))))))))
+    (both (sym (none-below (t .cells)) ∙ z .cells) (both (sym (none-below (t .readlog)) ∙ z .readlog) (sym (none-below (t .writelog)) ∙ z .writelog)))))))))))
 
 -- ---- a thread's record
 abbrev pub shut : Thread → Bool

@@ -30,7 +30,7 @@ abbrev pub at : List Thread → ℕ → Thread
 at ts i = getD ts i blank
 
 abbrev pub rowOf : Thread → Row
-rowOf t = record { start = t .start; end = t .end; place = t .place; height = t .height; begin = t .begin; base = t .base }
+rowOf t = record { start = t .start; end = t .end; place = t .place; height = t .height; begin = t .begin; base = t .base; over = t .over }
 
 abbrev last : Thread → List Thread
 last t = t ∷ []
@@ -94,6 +94,7 @@ pub record Long (s : Survey) : Type 0 where
   heights : length (s .heights) ≡ 16
   begins : length (s .begins) ≡ 16
   bases : length (s .bases) ≡ 16
+  overs : length (s .overs) ≡ 16
 
 pub record Shows (ts : List Thread) (s : Survey) : Type 0 where
   pub good : s .good ≡ true
@@ -137,6 +138,7 @@ module _ (ts : List Thread) (s : Survey) (sh : Shows ts s) (t : Thread) where
               height = stored (s .heights) (s .seen) (t .height) i (l .heights) h e j;
               begin = stored (s .begins) (s .seen) (t .begin) i (l .begins) h e j;
               base = stored (s .bases) (s .seen) (t .base) i (l .bases) h e j;
+              over = stored (s .overs) (s .seen) (t .over) i (l .overs) h e j;
             })
             ∙ ap rowOf f
         go (no n) =
@@ -148,6 +150,7 @@ module _ (ts : List Thread) (s : Survey) (sh : Shows ts s) (t : Thread) where
               height = getD-set-other (s .heights) (s .seen) i (t .height) 0 n j;
               begin = getD-set-other (s .begins) (s .seen) i (t .begin) 0 n j;
               base = getD-set-other (s .bases) (s .seen) i (t .base) 0 n j;
+              over = getD-set-other (s .overs) (s .seen) i (t .over) 0 n j;
             })
             ∙ (sh .rows i ∙ ap rowOf f)
 
@@ -170,6 +173,7 @@ module _ (ts : List Thread) (s : Survey) (sh : Shows ts s) (t : Thread) where
             heights = set-long (s .heights) (s .seen) (t .height) (l .heights);
             begins = set-long (s .begins) (s .seen) (t .begin) (l .begins);
             bases = set-long (s .bases) (s .seen) (t .base) (l .bases);
+            overs = set-long (s .overs) (s .seen) (t .over) (l .overs);
           };
         }
 
@@ -181,7 +185,7 @@ module _ (ts : List Thread) (s : Survey) (sh : Shows ts s) (t : Thread) where
         go (yes e) =
             let f : at ts i ≡ blank = List·getD-eq-default ts blank {n = i} (omega arith) in
             let g : t ≡ at (ts ++ last t) i = sym (ap (at (ts ++ last t)) e ∙ at-last ts t) in
-            let k : rowOf blank ≡ rowOf t = λ j. record { start = sym (z .start) j; end = sym (z .end) j; place = sym (z .place) j; height = sym (z .height) j; begin = sym (z .begin) j; base = sym (z .base) j } in
+            let k : rowOf blank ≡ rowOf t = λ j. record { start = sym (z .start) j; end = sym (z .end) j; place = sym (z .place) j; height = sym (z .height) j; begin = sym (z .begin) j; base = sym (z .base) j; over = sym (z .over) j } in
             sh .rows i ∙ (ap rowOf f ∙ (k ∙ ap rowOf g))
         go (no n) = sh .rows i ∙ ap rowOf (sym (at-other ts t i n))
 
@@ -196,7 +200,7 @@ module _ (ts : List Thread) (s : Survey) (sh : Shows ts s) (t : Thread) where
           count = sh .count ∙ sym (number-none ts t x);
           front = tidy-none ts t (sh .front) x z;
           rows = pass-rows (zeros-of t z);
-          long = record { starts = l .starts; ends = l .ends; places = l .places; heights = l .heights; begins = l .begins; bases = l .bases };
+          long = record { starts = l .starts; ends = l .ends; places = l .places; heights = l .heights; begins = l .begins; bases = l .bases; overs = l .overs };
         }
 
   unfit-bad : {A : Type 0} → unfitTo s ≡ withTo s t → withTo s t .good ≡ true → A
@@ -254,7 +258,7 @@ empty-shows =
       count = refl;
       front = refl;
       rows = rows;
-      long = record { starts = refl; ends = refl; places = refl; heights = refl; begins = refl; bases = refl };
+      long = record { starts = refl; ends = refl; places = refl; heights = refl; begins = refl; bases = refl; overs = refl };
     }
   where
     none : (i : ℕ) → _≡_ {A = ℕ} (getD (replicate 16 0) i 0) 0
@@ -265,7 +269,7 @@ empty-shows =
         go (no l) = List·getD-eq-default (replicate 16 0) 0 {n = i} (let n : length {A = ℕ} (replicate 16 0) ≡ 16 = refl in omega arith)
 
     rows : (i : ℕ) → rowAt emptySurvey i ≡ rowOf (at [] i)
-    rows i j = record { start = none i j; end = none i j; place = none i j; height = none i j; begin = none i j; base = none i j }
+    rows i j = record { start = none i j; end = none i j; place = none i j; height = none i j; begin = none i j; base = none i j; over = none i j }
 
 pub survey-shows : (ts : List Thread) → surveyOf ts .good ≡ true → Shows ts (surveyOf ts)
 unfolding surveyOf

@@ -3,7 +3,7 @@ use Prim.Native.Nat.{ℕ, zero, suc, _+_, _-_}
 use mathlib.Core.Bool.{Bool, true, false, cond, _&&_, _||_}
 use mathlib.Core.List.{List, [], _∷_}
 use mathlib.Core.Option.{Option, none, some}
-use lib.Dec.{eqb, ltb}
+use lib.Dec.{eqb, leb, ltb}
 use lib.ListN.{length, getD}
 use Rattle.survey.specs.declared.Survey.{Survey}
 use Rattle.survey.specs.declared.Row.{Row}
@@ -40,7 +40,7 @@ askedFor starts ends c asked = asks 16 0 starts ends c (record { number = 0; ask
 
 -- the thread's place is not reached
 unfoldable pub lostWalk : Walk
-lostWalk = record { place = 0; height = 0; begin = 0; base = 0; asked = 0; good = false }
+lostWalk = record { place = 0; height = 0; begin = 0; base = 0; adds = 0; asked = 0; good = false }
 
 -- what goes on at a place, unless that is behind the target
 abbrev pub upTo : (target place : ℕ) → Walk → Walk
@@ -49,34 +49,46 @@ upTo target place w = cond (ltb target place) lostWalk w
 -- PUSH and READ: so many bytes further, and one number more on the stack
 unfoldable pub rose : Walk → (size : ℕ) → Walk
 rose w size =
-    record { place = w .place + size; height = w .height + 1; begin = w .begin; base = w .base; asked = w .asked; good = true }
+    record { place = w .place + size; height = w .height + 1; begin = w .begin; base = w .base; adds = w .adds; asked = w .asked; good = true }
 
 -- the same, if that is not behind the target
 unfoldable pub riseTo : Walk → (target size : ℕ) → Walk
 riseTo w target size = upTo target (w .place + size) (rose w size)
 
+-- the ADDs since the BEGIN of an open transaction, one more; 0 if none is open
+unfoldable pub addsAfter : (begin adds : ℕ) → ℕ
+addsAfter begin adds = cond (eqb begin 0) 0 (adds + 1)
+
 -- ADD
 unfoldable pub fallTo : Walk → Walk
 fallTo w =
-    record { place = w .place + 1; height = w .height - 1; begin = w .begin; base = w .base; asked = w .asked; good = true }
+    record {
+      place = w .place + 1;
+      height = w .height - 1;
+      begin = w .begin;
+      base = w .base;
+      adds = addsAfter (w .begin) (w .adds);
+      asked = w .asked;
+      good = true;
+    }
 
 -- WRITE
 unfoldable pub stayTo : Walk → (target : ℕ) → Walk
 stayTo w target =
     upTo target (w .place + 2)
-    (record { place = w .place + 2; height = w .height; begin = w .begin; base = w .base; asked = w .asked; good = true })
+    (record { place = w .place + 2; height = w .height; begin = w .begin; base = w .base; adds = w .adds; asked = w .asked; good = true })
 
 -- BEGIN and COMMIT: other notes
 unfoldable pub noteTo : Walk → (begin base : ℕ) → Walk
 noteTo w begin base =
-    record { place = w .place + 1; height = w .height; begin = begin; base = base; asked = w .asked; good = true }
+    record { place = w .place + 1; height = w .height; begin = begin; base = base; adds = 0; asked = w .asked; good = true }
 
 -- FORK: exactly one record has its child code
 unfoldable pub forked : Walk → (size : ℕ) → Asked → Walk
 forked w size a =
     cond
     (eqb (a .number) 1)
-    (record { place = w .place + 3 + size; height = w .height + 1; begin = w .begin; base = w .base; asked = a .asked; good = true })
+    (record { place = w .place + 3 + size; height = w .height + 1; begin = w .begin; base = w .base; adds = w .adds; asked = a .asked; good = true })
     lostWalk
 
 -- the same, with the records whose own code it is, if the parent does not go on behind the target
@@ -117,6 +129,7 @@ walkOf starts ends asked place w =
       height = w .height;
       begin = w .begin;
       base = w .base;
+      adds = w .adds;
       asked = marks starts ends (w .children) asked;
       good = true;
     }
@@ -136,7 +149,7 @@ walkFrom bytes starts ends start end target asked =
 
 -- the record has what the walk comes to
 unfoldable pub agreeing : Walk → Row → Bool
-agreeing w r = w .good && (eqb (w .height) (r .height) && (eqb (w .begin) (r .begin) && eqb (w .base) (r .base)))
+agreeing w r = w .good && (eqb (w .height) (r .height) && (eqb (w .begin) (r .begin) && (eqb (w .base) (r .base) && leb (r .over) (w .adds))))
 
 -- no thread was judged yet
 unfoldable pub firstVerdict : Verdict
@@ -171,6 +184,7 @@ rowAt s i =
       height = getD (s .heights) i 0;
       begin = getD (s .begins) i 0;
       base = getD (s .bases) i 0;
+      over = getD (s .overs) i 0;
     }
 
 -- the records from i on

@@ -5,7 +5,7 @@ ghost use mathlib.Core.Bool.{_&&_, _||_, not};
 ghost use mathlib.Core.Path.{_≡_};
 ghost use Rattle.machine.specs.FitTest.{allZero, free, isZero};
 ghost use Rattle.survey.specs.InnerRecords.{zeroFrom, emptySurvey, unfitTo, passTo, putTo, tidy, withTo};
-ghost use Rattle.survey.specs.InnerWalk.{agreeing, allAsked, askedFor, fallTo, forkTo, judgeAll, judgeTo, lostWalk, noteTo, noted, riseTo, stayTo, stepTo, surveyFits, walkFrom};
+ghost use Rattle.survey.specs.InnerWalk.{addsAfter, agreeing, allAsked, askedFor, fallTo, forkTo, judgeAll, judgeTo, lostWalk, noteTo, noted, riseTo, stayTo, stepTo, surveyFits, walkFrom};
 ghost use Rattle.word.specs.Registers.{member};
 
 // What the records that came so far leave: the numbers of each thread, how many threads there are, how many records came, and whether
@@ -17,6 +17,7 @@ pub struct Survey {
     pub heights: [usize; 16],
     pub begins: [usize; 16],
     pub bases: [usize; 16],
+    pub overs: [usize; 16],
     pub count: usize,
     pub seen: usize,
     pub good: bool,
@@ -30,6 +31,7 @@ struct Row {
     height: usize,
     begin: usize,
     base: usize,
+    over: usize,
 }
 
 // How many records have a FORK's child code as their own, and the set of the records that were asked for.
@@ -45,6 +47,8 @@ struct Walk {
     height: usize,
     begin: usize,
     base: usize,
+    // ADDs passed since the BEGIN of an open transaction
+    adds: usize,
     asked: u64,
     good: bool,
 }
@@ -136,6 +140,9 @@ fn is_blank(t: thread::Thread) -> bool
     if t.base != 0 {
         return false;
     }
+    if t.over != 0 {
+        return false;
+    }
     if t.reads != 0 {
         return false;
     }
@@ -198,6 +205,7 @@ impl Survey {
             heights: [0; 16],
             begins: [0; 16],
             bases: [0; 16],
+            overs: [0; 16],
             count: 0,
             seen: 0,
             good: true,
@@ -235,6 +243,7 @@ impl Survey {
         self.heights[seen] = t.height;
         self.begins[seen] = t.begin;
         self.bases[seen] = t.base;
+        self.overs[seen] = t.over;
         self.count = count + 1;
         self.seen = seen + 1;
         self
@@ -321,6 +330,17 @@ fn less(n: usize) -> usize
     n - 1
 }
 
+// The ADDs since the BEGIN of an open transaction, one more; 0 if none is open.
+fn adds_after(begin: usize, adds: usize) -> usize
+    requires { ⌜ adds < 2 ^ 64 - 1 ⌝ }
+    ensures { λ r. ⌜ r ≡ addsAfter begin adds ⌝ }
+{
+    if begin == 0 {
+        return 0;
+    }
+    adds + 1
+}
+
 // A walk that does not come to the thread's place.
 fn lost() -> Walk
     ensures { λ r. ⌜ r ≡ lostWalk ⌝ }
@@ -330,6 +350,7 @@ fn lost() -> Walk
         height: 0,
         begin: 0,
         base: 0,
+        adds: 0,
         asked: 0,
         good: false,
     }
@@ -351,6 +372,7 @@ impl Walk {
             height,
             begin: self.begin,
             base: self.base,
+            adds: self.adds,
             asked: self.asked,
             good: true,
         }
@@ -358,7 +380,7 @@ impl Walk {
 
     // ADD.
     fn fall(self) -> Walk
-        requires { ⌜ self .place < 2 ^ 64 - 1 ⌝ }
+        requires { ⌜ (self .place < 2 ^ 64 - 1) × (self .adds ≤ self .place) ⌝ }
         ensures { λ r. ⌜ r ≡ fallTo self ⌝ }
     {
         Walk {
@@ -366,6 +388,7 @@ impl Walk {
             height: less(self.height),
             begin: self.begin,
             base: self.base,
+            adds: adds_after(self.begin, self.adds),
             asked: self.asked,
             good: true,
         }
@@ -385,6 +408,7 @@ impl Walk {
             height: self.height,
             begin: self.begin,
             base: self.base,
+            adds: self.adds,
             asked: self.asked,
             good: true,
         }
@@ -400,6 +424,7 @@ impl Walk {
             height: self.height,
             begin,
             base,
+            adds: 0,
             asked: self.asked,
             good: true,
         }
@@ -429,6 +454,7 @@ impl Walk {
             height,
             begin: self.begin,
             base: self.base,
+            adds: self.adds,
             asked: a.asked,
             good: true,
         }
@@ -436,7 +462,7 @@ impl Walk {
 
     // One instruction. The walk is lost if the next one is behind the target.
     fn step(self, starts: &[usize; 16], ends: &[usize; 16], target: usize, op: ops::Op) -> Walk
-        requires { ⌜ (self .place < target) × (self .height ≤ self .place) ⌝ }
+        requires { ⌜ (self .place < target) × (self .height ≤ self .place) × (self .adds ≤ self .place) ⌝ }
         ensures { λ r. ⌜ r ≡ stepTo (now (starts .entry)) (now (ends .entry)) target self op ⌝ }
     {
         match op {
@@ -473,6 +499,7 @@ fn walk_to(
         height: 0,
         begin: 0,
         base: 0,
+        adds: 0,
         asked,
         good: true,
     };
@@ -510,7 +537,10 @@ fn is_agreeing(w: Walk, row: Row) -> bool
     if w.begin != row.begin {
         return false;
     }
-    w.base == row.base
+    if w.base != row.base {
+        return false;
+    }
+    row.over <= w.adds
 }
 
 impl Verdict {
@@ -582,6 +612,7 @@ impl Survey {
         let heights = self.heights;
         let begins = self.begins;
         let bases = self.bases;
+        let overs = self.overs;
         let mut v = Verdict {
             asked: 0,
             good: true,
@@ -595,6 +626,7 @@ impl Survey {
                 height: heights[i],
                 begin: begins[i],
                 base: bases[i],
+                over: overs[i],
             };
             v = v.judge(code, &starts, &ends, row);
             i += 1;

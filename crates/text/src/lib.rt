@@ -222,7 +222,8 @@ pub fn signed(n: Number) -> i32 {
     }
     let value = n.value as i32;
     if n.minus {
-        return word::add(!value, 1);
+        let less = word::add(!value, 1);
+        return less.value;
     }
     value
 }
@@ -479,16 +480,18 @@ pub fn write_end() {
 }
 
 // Writes the numbers of a step's answer.
-pub fn write_step(event: usize, register: usize, turn: usize) {
+pub fn write_step(event: usize, register: usize, turn: usize, over: usize) {
     write_number(b"event ", event);
     write_number(b" register ", register);
     write_number(b" turn ", turn);
+    write_number(b" over ", over);
 }
 
 // Writes the counts of a run's answer.
-pub fn write_counts(steps: usize, idle: usize, commits: usize, back: usize) {
+pub fn write_counts(steps: usize, idle: usize, commits: usize, back: usize, over: usize) {
     write_number(b"steps ", steps);
     write_number(b" idle ", idle);
     write_number(b" commits ", commits);
     write_number(b" back ", back);
+    write_number(b" over ", over);
 }

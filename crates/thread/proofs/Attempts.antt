@@ -1,7 +1,7 @@
 -- What a step comes to, by its tests. Assumes nothing.
 use Prim.Native.Nat.{ℕ, _+_, _-_, _^_, _≤_, _<_}
 use mathlib.Core.Bool.{Bool, true, false, cond, not, _||_}
-use mathlib.Core.Path.{_≡_, refl, sym, ap, _∙_}
+use mathlib.Core.Path.{_≡_, refl, sym, ap, _∙_, subst}
 use mathlib.Core.List.{List}
 use native.Mathlib.Omega.{arith}
 use borrow.Author.Tests.{eq-eqb, ne-eqb, eqb-true, leb-true, ltb-false}
@@ -13,13 +13,14 @@ use native.Mathlib.Numerals.{add-one}
 use Rattle.thread.specs.declared.Action.{Action}
 use Rattle.thread.specs.declared.Thread.{Thread}
 use Rattle.thread.specs.declared.Plan.{Plan}
-use Rattle.thread.specs.Threads.{withPlace, withStack, push, add}
-use Rattle.thread.specs.InnerStep.{Due, Stackable, handed, unacted, acting, enoughFor, takesOp, performed, ableOp, dueOp, attempted, stepped, stackedOp, stackEvent, numberOp, plainIn, stackOnly, plainOp, planOf, valueOf, stackedBy, stackTurn}
+use Rattle.thread.specs.Threads.{withPlace, withStack, withNotes, below, push}
+use Rattle.thread.specs.InnerStep.{Due, Stackable, handed, unacted, acting, enoughFor, takesOp, performed, ableOp, dueOp, attempted, stepped, stackedOp, stackEvent, numberOp, plainIn, stackOnly, plainOp, planOf, valueOf, noteAfter, overAtOnce, summing, stackedBy, stackTurn}
 use Rattle.code.specs.Ops.{opAt}
 use Rattle.ops.specs.Shown.{shownOp}
 use Rattle.ops.specs.declared.Op.{Op}
 use Rattle.ops.specs.declared.Op.the-variants as op
-use Rattle.word.specs.Sum.{wrapping}
+use Rattle.word.specs.Sum.{wrapping, added}
+use Rattle.word.specs.declared.Added.{Added}
 
 -- ---- what an instruction takes
 never : {A : Type 0} → _≡_ {A = Bool} false true → A
@@ -316,26 +317,52 @@ module _ (bytes : List ℕ) (t : Thread) where
       go false = take′ (stackedOp able (t .height) left) refl
 
 -- the record after it: by one way of stores, and as its definition says
-pub stacked-cells : (t : Thread) (event : ℕ) (n : ℤ) → Stackable event (t .height) (t .place) → let q = planOf event (t .height) (t .place) in withPlace (q .place) (withStack (q .height) (set (set (t .cells) (q .high) (pos 0)) (q .low) (valueOf event n (getD (t .cells) (q .low) (pos 0)) (getD (t .cells) (q .high) (pos 0)))) t) ≡ stackedBy event n t
-unfolding planOf valueOf stackedBy push add
+told-none : (begin : ℕ) → overAtOnce begin false ≡ 0
+unfolding overAtOnce
+told-none begin = go (eqb begin 0)
+  where
+    go : (b : Bool) → _≡_ {A = ℕ} (cond b 0 0) 0
+    go true = refl
+    go false = refl
+
+noted-none : (begin over : ℕ) → noteAfter begin over false ≡ over
+unfolding noteAfter
+noted-none begin over = go (eqb begin 0)
+  where
+    go : (b : Bool) → cond b over over ≡ over
+    go true = refl
+    go false = refl
+
+pub stacked-cells : (t : Thread) (event : ℕ) (n : ℤ) → Stackable event (t .height) (t .place) → let q = planOf event (t .height) (t .place) in let s = valueOf event n (getD (t .cells) (q .low) (pos 0)) (getD (t .cells) (q .high) (pos 0)) in acting event (stackTurn event (t .begin)) (overAtOnce (t .begin) (s .overflowed)) (withPlace (q .place) (withStack (q .height) (set (set (t .cells) (q .high) (pos 0)) (q .low) (s .value)) (withNotes (t .begin) (t .base) (noteAfter (t .begin) (t .over) (s .overflowed)) t))) ≡ stackedBy event n t
+unfolding planOf valueOf stackedBy stackTurn push summing added
 stacked-cells t event n f = go (eqb event 1) refl (eqb event 2) refl
   where
-    after : Plan → ℤ → Thread
-    after q x = withPlace (q .place) (withStack (q .height) (set (set (t .cells) (q .high) (pos 0)) (q .low) x) t)
+    after : Plan → Added → Thread
+    after q s = withPlace (q .place) (withStack (q .height) (set (set (t .cells) (q .high) (pos 0)) (q .low) (s .value)) (withNotes (t .begin) (t .base) (noteAfter (t .begin) (t .over) (s .overflowed)) t))
 
-    at : Plan → ℕ → ℤ
-    at q i = getD (t .cells) i (pos 0)
+    sum : Plan → ℕ → Added
+    sum q k = valueOf k n (getD (t .cells) (q .low) (pos 0)) (getD (t .cells) (q .high) (pos 0))
 
-    go : (b : Bool) → eqb event 1 ≡ b → (c : Bool) → eqb event 2 ≡ c → let q : Plan = (elim b [ true ↦ record { low = t .height; high = t .height; height = t .height + 1; place = t .place + 5 } | false ↦ elim c [ true ↦ record { low = t .height - 2; high = t .height - 1; height = t .height - 1; place = t .place + 1 } | false ↦ record { low = 0; high = 0; height = t .height; place = t .place } ] ]) in after q (cond b n (cond c (wrapping (at q (q .low)) (at q (q .high))) (at q (q .low)))) ≡ (elim b [ true ↦ push n (t .place + 5) t | false ↦ elim c [ true ↦ add wrapping t | false ↦ t ] ])
-    go true e c h = rw (set-set (t .cells) (t .height) (pos 0) n, add-one)
+    made : ℕ → Action
+    made k =
+        let q = planOf k (t .height) (t .place) in
+        acting k (stackTurn k (t .begin)) (overAtOnce (t .begin) (sum q k .overflowed)) (after q (sum q k))
+
+    go : (b : Bool) → eqb event 1 ≡ b → (c : Bool) → eqb event 2 ≡ c → made event ≡ stackedBy event n t
+    go true e c h = subst (λ (k : ℕ). made k ≡ stackedBy k n t) (sym (eqb-true event 1 e)) (rw (told-none (t .begin), noted-none (t .begin) (t .over), set-set (t .cells) (t .height) (pos 0) n, add-one))
     go false e true h =
         let g = f .add (eqb-true event 2 h) .0 in
-        ap (λ (l : List ℤ). withPlace (t .place + 1) (withStack (t .height - 1) l t)) (set-comm (t .cells) (t .height - 1) (t .height - 2) (pos 0) _ (λ q. omega arith))
-    go false e false h = ap (λ (l : List ℤ). withPlace (t .place) (withStack (t .height) l t)) (set-set (t .cells) 0 (pos 0) (getD (t .cells) 0 (pos 0)) ∙ set-getD (t .cells) 0 (pos 0))
+        subst (λ (k : ℕ). made k ≡ stackedBy k n t) (sym (eqb-true event 2 h)) (rw (set-comm (t .cells) (t .height - 1) (t .height - 2) (pos 0) (wrapping (below t 2) (below t 1)) (λ q. omega arith)))
+    go false e false h =
+        let q : planOf event (t .height) (t .place) ≡ record { low = 0; high = 0; height = t .height; place = t .place } = rw (planOf, e, h) in
+        let v : valueOf event n (getD (t .cells) 0 (pos 0)) (getD (t .cells) 0 (pos 0)) ≡ record { value = getD (t .cells) 0 (pos 0); overflowed = false } = rw (valueOf, e, h) in
+        let k : stackTurn event (t .begin) ≡ 0 = rw h in
+        let r : stackedBy event n t ≡ acting event 0 0 t = rw (stackedBy, e, h) in
+        rw (q, v, k, r, told-none (t .begin), noted-none (t .begin) (t .over), set-set (t .cells) 0 (pos 0) (getD (t .cells) 0 (pos 0)), set-getD (t .cells) 0 (pos 0))
 
 -- and what is handed back with it
 abbrev pub plainAction : Thread → Op → Action
-plainAction t o = acting (stackEvent o) (stackTurn (stackEvent o) (t .begin)) (stackedBy (stackEvent o) (numberOp o) t)
+plainAction t o = stackedBy (stackEvent o) (numberOp o) t
 
 stack-acts : (table : List ℤ) (t : Thread) (left : ℕ) (o : Op) → stackedOp o (t .height) left ≡ true → handed (plainAction t o) table ≡ performed wrapping table t o
 unfolding stackedOp takesOp stackEvent stackTurn stackedBy numberOp performed

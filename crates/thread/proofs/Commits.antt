@@ -13,10 +13,10 @@ module _ (t : Thread) (table : List ℤ) (v : ℕ) (found : v ≡ firstStaleIn 6
   first : firstStale 64 0 t table ≡ v
   first = sym (found ∙ first-in 64 0 t table)
 
-  pub commit-back : v < 64 → (u : Thread) → u ≡ closed (t .begin) (t .base) t → handed (record { thread = u; event = 10; register = v; turn = 0; start = 0; end = 0 }) table ≡ committed table t
+  pub commit-back : v < 64 → (u : Thread) → u ≡ closed (t .begin) (t .base) t → handed (record { thread = u; event = 10; register = v; turn = 0; over = 0; start = 0; end = 0 }) table ≡ committed table t
   unfolding committed
   commit-back l u e = rw (first, lt-ltb v 64 l, e)
 
-  pub commit-done : 64 ≤ v → (u : Thread) → u ≡ closed (t .place + 1) (t .height) t → (after : List ℤ) → after ≡ storedIn 64 0 (t .writes) (t .writelog) table → handed (acting 9 1 u) after ≡ committed table t
+  pub commit-done : 64 ≤ v → (u : Thread) → u ≡ closed (t .place + 1) (t .height) t → (after : List ℤ) → after ≡ storedIn 64 0 (t .writes) (t .writelog) table → handed (acting 9 1 (t .over) u) after ≡ committed table t
   unfolding committed
   commit-done l u e after s = rw (first, le-ltb v 64 l, e, s, stored-in 64 0 t table)

@@ -11,14 +11,16 @@ use lib.ListN.{length, drop, getD, set, take, replicate}
 use Rattle.thread.specs.declared.Action.{Action}
 use Rattle.thread.specs.declared.Plan.{Plan}
 use Rattle.thread.specs.declared.Thread.{Thread}
-use Rattle.thread.specs.Threads.{push, add, begin, noted, read, write, closed, firstStale, overlaid}
+use Rattle.thread.specs.Threads.{below, adding, push, begin, noted, read, write, closed, firstStale, overlaid}
 use Rattle.code.specs.Ops.{opAt}
 use Rattle.ops.specs.Shown.{shownOp}
 use Rattle.ops.specs.declared.Op.{Op}
 use Rattle.ops.specs.declared.Op.the-variants as op
 use Rattle.stm.specs.Events.{fromTable}
 use Rattle.word.specs.Registers.{member}
-use Rattle.word.specs.Sum.{Rule, wrapping}
+use Rattle.word.specs.InnerCount.{saturated}
+use Rattle.word.specs.Sum.{Rule, wrapping, added}
+use Rattle.word.specs.declared.Added.{Added}
 
 -- ---- by the sets and values of a record
 -- the first register that a set marks, from this one on; 64 if there is none
@@ -65,15 +67,28 @@ abbrev pub handed : Action → List ℤ → Handed
 handed a table = record { acted = a; table = table }
 
 abbrev pub unacted : Thread → Action
-unacted t = record { thread = t; event = 0; register = 0; turn = 0; start = 0; end = 0 }
+unacted t = record { thread = t; event = 0; register = 0; turn = 0; over = 0; start = 0; end = 0 }
 
-abbrev pub acting : (event turn : ℕ) → Thread → Action
-acting event turn t = record { thread = t; event = event; register = 0; turn = turn; start = 0; end = 0 }
+abbrev pub acting : (event turn over : ℕ) → Thread → Action
+acting event turn over t = record { thread = t; event = event; register = 0; turn = turn; over = over; start = 0; end = 0 }
+
+-- the note after a sum that left the range or not, the greatest note staying; and what the sum counts at once
+unfoldable pub noteAfter : (begin over : ℕ) → Bool → ℕ
+noteAfter begin over overflowed = cond (eqb begin 0) over (cond overflowed (saturated over 1) over)
+
+unfoldable pub overAtOnce : (begin : ℕ) → Bool → ℕ
+overAtOnce begin overflowed = cond (eqb begin 0) (cond overflowed 1 0) 0
+
+-- ADD
+unfoldable pub summing : Rule → Thread → Action
+summing sum t =
+    let s = added sum (below t 2) (below t 1) in
+    acting 2 (outsideTurn (t .begin)) (overAtOnce (t .begin) (s .overflowed)) (adding (noteAfter (t .begin) (t .over) (s .overflowed)) (s .value) t)
 
 abbrev pub committedBy : (stale : Bool) (v : ℕ) (table : List ℤ) → Thread → Handed
 committedBy true v table t =
-    handed (record { thread = closed (t .begin) (t .base) t; event = 10; register = v; turn = 0; start = 0; end = 0 }) table
-committedBy false v table t = handed (acting 9 1 (closed (t .place + 1) (t .height) t)) (overlaid 64 0 t table)
+    handed (record { thread = closed (t .begin) (t .base) t; event = 10; register = v; turn = 0; over = 0; start = 0; end = 0 }) table
+committedBy false v table t = handed (acting 9 1 (t .over) (closed (t .place + 1) (t .height) t)) (overlaid 64 0 t table)
 
 unfoldable pub committed : (table : List ℤ) → Thread → Handed
 committed table t =
@@ -97,11 +112,11 @@ takesOp (op.Fork size) h b r left = cond (ltb left 3) false (enoughFor 0 h 63 si
 takesOp op.Foreign h b r left = false
 
 unfoldable pub performed : Rule → (table : List ℤ) → Thread → Op → Handed
-performed sum table t (op.Push n) = handed (acting 1 0 (push n (t .place + 5) t)) table
-performed sum table t op.Add = handed (acting 2 (outsideTurn (t .begin)) (add sum t)) table
-performed sum table t (op.Read v) = handed (acting (sourceNumber (t .writes) (t .reads) v) 0 (read table v t)) table
-performed sum table t (op.Write v) = handed (acting 8 0 (write v t)) table
-performed sum table t op.Begin = handed (acting 4 0 (begin t)) table
+performed sum table t (op.Push n) = handed (acting 1 0 0 (push n (t .place + 5) t)) table
+performed sum table t op.Add = handed (summing sum t) table
+performed sum table t (op.Read v) = handed (acting (sourceNumber (t .writes) (t .reads) v) 0 0 (read table v t)) table
+performed sum table t (op.Write v) = handed (acting 8 0 0 (write v t)) table
+performed sum table t op.Begin = handed (acting 4 0 0 (begin t)) table
 performed sum table t op.Commit = committed table t
 performed sum table t (op.Fork size) =
     handed
@@ -110,6 +125,7 @@ performed sum table t (op.Fork size) =
       event = 3;
       register = 0;
       turn = 1;
+      over = 0;
       start = t .place + 3;
       end = t .place + 3 + size;
     })
@@ -149,7 +165,7 @@ stepped sum bytes table t =
       | false ↦ attempted sum bytes table t (shownOp (opAt (drop (t .place) bytes)))
     ]
 
--- ---- PUSH and ADD, which change the stack alone
+-- ---- PUSH and ADD, which change the stack and the note, not the logs
 -- its event, 0 if it is none of them
 unfoldable pub stackEvent : Op → ℕ
 stackEvent (op.Push n) = 1
@@ -205,14 +221,18 @@ planOf event height place =
       ]
     ]
 
-unfoldable pub valueOf : (event : ℕ) (n a b : ℤ) → ℤ
-valueOf event n a b = cond (eqb event 1) n (cond (eqb event 2) (wrapping a b) a)
+unfoldable pub valueOf : (event : ℕ) (n a b : ℤ) → Added
+valueOf event n a b =
+    elim (eqb event 1) [
+      | true ↦ record { value = n; overflowed = false }
+      | false ↦ elim (eqb event 2) [ true ↦ added wrapping a b | false ↦ record { value = a; overflowed = false } ]
+    ]
 
-unfoldable pub stackedBy : (event : ℕ) (n : ℤ) → Thread → Thread
+unfoldable pub stackedBy : (event : ℕ) (n : ℤ) → Thread → Action
 stackedBy event n t =
     elim (eqb event 1) [
-      | true ↦ push n (t .place + 5) t
-      | false ↦ elim (eqb event 2) [ true ↦ add wrapping t | false ↦ t ]
+      | true ↦ acting 1 0 0 (push n (t .place + 5) t)
+      | false ↦ elim (eqb event 2) [ true ↦ summing wrapping t | false ↦ acting event 0 0 t ]
     ]
 
 unfoldable pub stackTurn : (event begin : ℕ) → ℕ

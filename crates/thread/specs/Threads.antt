@@ -11,7 +11,7 @@ use Rattle.thread.specs.declared.Thread.{Thread}
 use Rattle.stm.specs.Events.{Source, fromWrites, fromReads, fromTable}
 use Rattle.word.specs.Registers as registers
 use Rattle.word.specs.Registers.{member, with}
-use Rattle.word.specs.Sum.{Rule}
+use Rattle.word.specs.Sum.{Rule, overOf}
 
 -- 64 numbers, all 0
 abbrev pub zeros : List ℤ
@@ -28,6 +28,7 @@ blank =
       cells = zeros;
       begin = 0;
       base = 0;
+      over = 0;
       reads = registers.none;
       readlog = zeros;
       writes = registers.none;
@@ -60,6 +61,7 @@ withPlace place t =
       cells = t .cells;
       begin = t .begin;
       base = t .base;
+      over = t .over;
       reads = t .reads;
       readlog = t .readlog;
       writes = t .writes;
@@ -76,14 +78,15 @@ withStack height cells t =
       cells = cells;
       begin = t .begin;
       base = t .base;
+      over = t .over;
       reads = t .reads;
       readlog = t .readlog;
       writes = t .writes;
       writelog = t .writelog;
     }
 
-abbrev pub withNotes : (begin base : ℕ) → Thread → Thread
-withNotes begin base t =
+abbrev pub withNotes : (begin base over : ℕ) → Thread → Thread
+withNotes begin base over t =
     record {
       start = t .start;
       end = t .end;
@@ -92,6 +95,7 @@ withNotes begin base t =
       cells = t .cells;
       begin = begin;
       base = base;
+      over = over;
       reads = t .reads;
       readlog = t .readlog;
       writes = t .writes;
@@ -108,6 +112,7 @@ withLogs reads readlog writes writelog t =
       cells = t .cells;
       begin = t .begin;
       base = t .base;
+      over = t .over;
       reads = reads;
       readlog = readlog;
       writes = writes;
@@ -129,6 +134,7 @@ spawned start end =
       cells = zeros;
       begin = 0;
       base = 0;
+      over = 0;
       reads = registers.none;
       readlog = zeros;
       writes = registers.none;
@@ -143,15 +149,28 @@ below t i = getD (t .cells) (t .height - i) (pos 0)
 unfoldable pub push : ℤ → ℕ → Thread → Thread
 push n next t = withPlace next (withStack (suc (t .height)) (set (t .cells) (t .height) n) t)
 
+-- document 02 No. 2: "An open attempt's count is one of its notes": after ADD, one more if the exact sum falls outside the range and a
+-- transaction is open, else as it was
+abbrev pub sumNoted : Thread → ℕ
+sumNoted t = cond (eqb (t .begin) 0) (t .over) (t .over + overOf (below t 2) (below t 1))
+
+-- "such sums outside transactions": 1 if this one is, else 0
+abbrev pub sumTold : Thread → ℕ
+sumTold t = cond (eqb (t .begin) 0) (overOf (below t 2) (below t 1)) 0
+
+-- a record with another place, whose two topmost numbers become one, and another count
+abbrev pub adding : (over : ℕ) (n : ℤ) → Thread → Thread
+adding over n t =
+    withPlace (t .place + 1)
+    (withStack (t .height - 1) (set (set (t .cells) (t .height - 2) n) (t .height - 1) (pos 0)) (withNotes (t .begin) (t .base) over t))
+
 -- ADD: the two topmost numbers become their sum
 unfoldable pub add : Rule → Thread → Thread
-add sum t =
-    withPlace (t .place + 1)
-    (withStack (t .height - 1) (set (set (t .cells) (t .height - 2) (sum (below t 2) (below t 1))) (t .height - 1) (pos 0)) t)
+add sum t = adding (sumNoted t) (sum (below t 2) (below t 1)) t
 
--- "BEGIN: notes its place and the stack height, and empties both logs"
+-- "BEGIN: notes its place and the stack height, and empties both logs"; no sum is counted yet
 unfoldable pub begin : Thread → Thread
-begin t = withPlace (t .place + 1) (withNotes (t .place) (t .height) (withoutLogs t))
+begin t = withPlace (t .place + 1) (withNotes (t .place) (t .height) 0 (withoutLogs t))
 
 -- READ: "the value in the write log if there, else in the read log if there, else the table's"
 unfoldable pub sourceOf : Thread → ℕ → Source
@@ -184,7 +203,7 @@ write v t =
 unfoldable pub closed : (place height : ℕ) → Thread → Thread
 closed place height t =
     withPlace place
-    (withStack height (take height (t .cells) ++ replicate (64 - height) (pos 0)) (withNotes 0 0 (withoutLogs t)))
+    (withStack height (take height (t .cells) ++ replicate (64 - height) (pos 0)) (withNotes 0 0 0 (withoutLogs t)))
 
 -- "A register is stale if its read log value differs from the table's"
 unfoldable pub stale : Thread → List ℤ → ℕ → Bool

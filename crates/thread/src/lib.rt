@@ -4,7 +4,7 @@ ghost use lib.ListN.{length};
 ghost use mathlib.Core.List.{List};
 ghost use mathlib.Core.Path.{_≡_};
 ghost use lib.IntN.{ℤ};
-ghost use Rattle.thread.specs.InnerStep.{Due, Marked, Stackable, acting, cleared, committed, dueOp, enoughFor, firstStaleIn, handed, logged, numberOp, outsideTurn, performed, plainIn, plainOp, planOf, sourceNumber, stackEvent, stackTurn, stackedBy, stackedOp, staleIn, stepped, storedIn, takesOp, unacted, valueOf};
+ghost use Rattle.thread.specs.InnerStep.{Due, Marked, Stackable, acting, cleared, committed, dueOp, enoughFor, firstStaleIn, handed, logged, noteAfter, numberOp, outsideTurn, overAtOnce, performed, plainIn, plainOp, planOf, sourceNumber, stackEvent, stackTurn, stackedBy, stackedOp, staleIn, stepped, storedIn, summing, takesOp, unacted, valueOf};
 ghost use Rattle.thread.specs.Threads as threads;
 ghost use Rattle.word.specs.Sum.{wrapping};
 
@@ -19,9 +19,11 @@ pub struct Thread {
     // the stack: `height` of its cells are in use
     pub height: usize,
     pub cells: [i32; 64],
-    // the notes of the open transaction: its BEGIN's place and the stack height there; 0 if none is open
+    // the notes of the open transaction: its BEGIN's place, the stack height there, and how many of its sums so far left the range of 32 bits;
+    // 0 if none is open
     pub begin: usize,
     pub base: usize,
+    pub over: usize,
     // the read log and the write log: the set of registers that each marks, and their values
     pub reads: u64,
     pub readlog: [i32; 64],
@@ -39,6 +41,8 @@ pub struct Action {
     pub register: usize,
     // 1 if it took a turn, else 0
     pub turn: usize,
+    // sums that left the range and took effect: 1 for such a sum outside a transaction, the note for a commit, else 0
+    pub over: usize,
     // a forked child's code, else 0 and 0
     pub start: usize,
     pub end: usize,
@@ -135,6 +139,32 @@ fn outside(begin: usize) -> usize
     ensures { λ r. ⌜ r ≡ outsideTurn begin ⌝ }
 {
     if begin == 0 {
+        return 1;
+    }
+    0
+}
+
+// The note after a sum: one more if it left the range and a transaction is open; the greatest number stays.
+fn note_after(begin: usize, over: usize, overflowed: bool) -> usize
+    ensures { λ r. ⌜ r ≡ noteAfter begin over overflowed ⌝ }
+{
+    if begin == 0 {
+        return over;
+    }
+    if overflowed {
+        return word::saturating_add(over, 1);
+    }
+    over
+}
+
+// What a sum counts at once: 1 if it left the range and no transaction is open.
+fn over_at_once(begin: usize, overflowed: bool) -> usize
+    ensures { λ r. ⌜ r ≡ overAtOnce begin overflowed ⌝ }
+{
+    if begin != 0 {
+        return 0;
+    }
+    if overflowed {
         return 1;
     }
     0
@@ -294,28 +324,35 @@ fn planned(event: usize, height: usize, place: usize) -> Plan
     }
 }
 
-// What the low one of these cells becomes.
-fn value(event: usize, n: i32, a: i32, b: i32) -> i32
+// What the low one of these cells becomes, and whether it is a sum that left the range.
+fn value(event: usize, n: i32, a: i32, b: i32) -> word::Added
     ensures { λ r. ⌜ r ≡ valueOf event n a b ⌝ }
 {
     if event == 1 {
-        return n;
+        return word::Added {
+            value: n,
+            overflowed: false,
+        };
     }
     if event == 2 {
         return word::add(a, b);
     }
-    a
+    word::Added {
+        value: a,
+        overflowed: false,
+    }
 }
 
 // The record after an instruction that forks nothing and is not sent back.
-fn did(thread: Thread, event: usize, turn: usize) -> Action
-    ensures { λ r. ⌜ r ≡ acting event turn thread ⌝ }
+fn did(thread: Thread, event: usize, turn: usize, over: usize) -> Action
+    ensures { λ r. ⌜ r ≡ acting event turn over thread ⌝ }
 {
     Action {
         thread,
         event,
         register: 0,
         turn,
+        over,
         start: 0,
         end: 0,
     }
@@ -331,6 +368,7 @@ impl Thread {
             event: 0,
             register: 0,
             turn: 0,
+            over: 0,
             start: 0,
             end: 0,
         }
@@ -351,21 +389,26 @@ impl Thread {
     }
 
     // ADD
-    fn add(mut self) -> Thread
+    fn add(mut self) -> Action
         requires { ⌜ (2 ≤ self .height) × (self .height ≤ 64) × (self .place + 1 < 2 ^ 64) ⌝ }
-        ensures { λ r. ⌜ r ≡ threads.add wrapping self ⌝ }
+        ensures { λ r. ⌜ r ≡ summing wrapping self ⌝ }
     {
         let height = self.height;
         let place = self.place;
+        let begin = self.begin;
+        let over = self.over;
         let mut cells = self.cells;
         let a = cells[height - 2];
         let b = cells[height - 1];
-        cells[height - 2] = word::add(a, b);
+        let s = word::add(a, b);
+        let n = s.value;
+        cells[height - 2] = n;
         cells[height - 1] = 0;
         self.cells = cells;
         self.height = height - 1;
         self.place = place + 1;
-        self
+        self.over = note_after(begin, over, s.overflowed);
+        did(self, 2, outside(begin), over_at_once(begin, s.overflowed))
     }
 
     // BEGIN
@@ -377,6 +420,7 @@ impl Thread {
         let height = self.height;
         self.begin = place;
         self.base = height;
+        self.over = 0;
         self.reads = word::empty();
         self.readlog = [0; 64];
         self.writes = word::empty();
@@ -459,6 +503,7 @@ impl Thread {
             cells: freed,
             begin: 0,
             base: 0,
+            over: 0, // the notes go, also those of an attempt that is sent back
             reads: word::empty(),
             readlog: [0; 64],
             writes: word::empty(),
@@ -480,6 +525,7 @@ impl Thread {
                 event: 10,
                 register: v,
                 turn: 0,
+                over: 0,
                 start: 0,
                 end: 0,
             };
@@ -492,6 +538,7 @@ impl Thread {
             event: 9,
             register: 0,
             turn: 1,
+            over: self.over,
             start: 0,
             end: 0,
         }
@@ -530,25 +577,21 @@ impl Thread {
         match op {
             ops::Op::Push(n) => {
                 let t = self.push(n, place + 5);
-                did(t, 1, 0)
+                did(t, 1, 0, 0)
             }
-            ops::Op::Add => {
-                let turn = outside(self.begin);
-                let t = self.add();
-                did(t, 2, turn)
-            }
+            ops::Op::Add => self.add(),
             ops::Op::Read(v) => {
                 let event = source(self.writes, self.reads, v);
                 let t = self.read(registers, v);
-                did(t, event, 0)
+                did(t, event, 0, 0)
             }
             ops::Op::Write(v) => {
                 let t = self.write(v);
-                did(t, 8, 0)
+                did(t, 8, 0, 0)
             }
             ops::Op::Begin => {
                 let t = self.begin();
-                did(t, 4, 0)
+                did(t, 4, 0, 0)
             }
             ops::Op::Commit => self.commit(registers),
             ops::Op::Fork(size) => {
@@ -558,6 +601,7 @@ impl Thread {
                     event: 3,
                     register: 0,
                     turn: 1,
+                    over: 0,
                     start: place + 3,
                     end: place + 3 + size,
                 }
@@ -592,7 +636,7 @@ impl Thread {
         op
     }
 
-    // Whether a step is a PUSH or an ADD, which changes the stack alone, or is idle because there is no such thread or it has ended.
+    // Whether a step is a PUSH or an ADD, which changes the stack and the note and not the logs, or is idle because there is no such thread or it has ended.
     pub fn is_plain(self, code: &[u8]) -> bool
         ensures { λ r. ⌜ r ≡ plainIn (now (code .entry)) self ⌝ }
     {
@@ -605,23 +649,33 @@ impl Thread {
         stack_event(self.plain_op(code)) != 0
     }
 
-    // After a PUSH, an ADD or none of them, in one way: the stack alone is changed.
-    fn stacked(mut self, event: usize, n: i32) -> Thread
+    // A PUSH, an ADD or none of them, in one way: the stack and the note are changed, not the logs.
+    fn stacked(mut self, event: usize, n: i32) -> Action
         requires { ⌜ Stackable event (self .height) (self .place) ⌝ }
         ensures { λ r. ⌜ r ≡ stackedBy event n self ⌝ }
     {
         let q = planned(event, self.height, self.place);
         let low = q.low;
         let high = q.high;
+        let begin = self.begin;
+        let over = self.over;
         let mut cells = self.cells;
         let a = cells[low];
         let b = cells[high];
         cells[high] = 0;
-        cells[low] = value(event, n, a, b);
+        let s = value(event, n, a, b);
+        let m = s.value;
+        cells[low] = m;
         self.cells = cells;
         self.height = q.height;
         self.place = q.place;
-        self
+        self.over = note_after(begin, over, s.overflowed);
+        did(
+            self,
+            event,
+            stack_turn(event, begin),
+            over_at_once(begin, s.overflowed),
+        )
     }
 
     // One instruction if it is PUSH or ADD; else the record is handed back idle.
@@ -631,8 +685,6 @@ impl Thread {
         let op = self.plain_op(code);
         let event = stack_event(op);
         let n = number(op);
-        let turn = stack_turn(event, self.begin);
-        let t = self.stacked(event, n);
-        did(t, event, turn)
+        self.stacked(event, n)
     }
 }

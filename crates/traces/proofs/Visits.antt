@@ -159,7 +159,7 @@ module _ {bytes : List ℕ} {j : Job} (c : IsCode bytes j) (sum : Rule) where
     abbrev now : List Moment
     now = record { before = s; thread = i; after = pick sum bytes s i .state } ∷ []
 
-    idle-visited : pick sum bytes s i ≡ record { state = s; event = idle } → Visited bytes (ms ++ now) s′
+    idle-visited : pick sum bytes s i ≡ record { state = s; event = idle; over = 0 } → Visited bytes (ms ++ now) s′
     idle-visited e k x =
         let q : s′ ≡ s = ap (λ (r : Stepped). r .state) e in
         subst (λ (z : State). PassedBy bytes (ms ++ now) (threadAt z k)) (sym q) (passed-more now (v k (subst (λ (z : State). Exists z k) q x)))

@@ -34,7 +34,7 @@ Chained sum code s (m ∷ ms) last =
 -- what the picks did
 unfoldable pub happened : Rule → (code : List ℕ) → List Moment → List Happened
 happened sum code [] = []
-happened sum code (m ∷ ms) = record { thread = m .thread; event = pick sum code (m .before) (m .thread) .event } ∷ happened sum code ms
+happened sum code (m ∷ ms) = record { thread = m .thread; event = pick sum code (m .before) (m .thread) .event; over = pick sum code (m .before) (m .thread) .over } ∷ happened sum code ms
 
 -- one of a list
 pub data Among (m : Moment) : List Moment → Type 0 where

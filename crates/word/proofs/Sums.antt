@@ -1,15 +1,17 @@
 -- What a number wraps to is in range, differs from it by a multiple of 2 ^ 32, and is the one number that does both. Assumes nothing.
-use mathlib.Core.Path.{_≡_, sym, ap, _∙_}
+use mathlib.Core.Bool.{Bool, true, false, _||_}
+use mathlib.Core.Logic.{_↔_}
+use mathlib.Core.Path.{_≡_, refl, sym, ap, _∙_}
 use Prim.Native.Nat.{ℕ, zero, suc, _+_, _*_, _-_, _/_, _%_, _^_, _≤_, _<_}
 use native.Mathlib.Decide.{decLt}
 use native.Mathlib.Omega.{arith}
 use lib.IntN.{ℤ, pos, negsuc, negℤ, subℕ, _+ℤ_, _*ℤ_}
-use lib.Signed.{leZ-yes}
-use lib.Dec.{leb→le, le→leb}
+use lib.Signed.{leZ-yes, ltZ}
+use lib.Dec.{ltb, leb→le, le→leb}
 use borrow.Author.Tests.{lt-ltb, le-ltb}
 use mir.Syntax.{w32}
 use mir.Val.{SFits}
-use Rattle.word.specs.Sum.{InRange, residue, signed, wrap, wrapping}
+use Rattle.word.specs.Sum.{InRange, residue, signed, wrap, Rule, wrapping, overflows, added}
 
 -- the range, as the check of the code states it
 pub fits→range : {z : ℤ} → SFits w32 z → InRange z
@@ -153,3 +155,37 @@ residue-shift (negsuc a) (negsuc k) = rw (below k) (omega arith)
 pub wrap-only : (z w k : ℤ) → InRange w → z ≡ w +ℤ (k *ℤ pos 4294967296) → w ≡ wrap z
 unfolding wrap
 wrap-only z w k h e = sym (rw (e, residue-shift w k) (signed-residue w h))
+
+-- ---- whether a sum leaves the range
+clash : {A : Type 0} → _≡_ {A = Bool} false true → A
+clash e = absurd (let z : _≡_ {A = ℕ} 0 1 = cc in omega arith)
+
+outside-not : (z : ℤ) → (ltZ (pos 2147483647) z || ltZ z (negsuc 2147483647)) ≡ true → InRange z → ⊥
+outside-not (pos n) e h =
+    let b : n ≤ 2147483647 = let f = range→fits h .sfits in omega arith in
+    clash (sym (rw (le-ltb 2147483647 n b)) ∙ e)
+outside-not (negsuc n) e h =
+    let b : n ≤ 2147483647 = let f = range→fits h .sfits in omega arith in
+    clash (sym (rw (le-ltb 2147483647 n b)) ∙ e)
+
+not-outside : (z : ℤ) → (InRange z → ⊥) → (ltZ (pos 2147483647) z || ltZ z (negsuc 2147483647)) ≡ true
+not-outside (pos n) h = go (decLt 2147483647 n)
+  where
+    go : Dec (2147483647 < n) → (ltb 2147483647 n || false) ≡ true
+    go (yes l) = rw (lt-ltb 2147483647 n l)
+    go (no l) = absurd (h (fits→range (record { sfits = omega arith })))
+not-outside (negsuc n) h = go (decLt 2147483647 n)
+  where
+    go : Dec (2147483647 < n) → (false || ltb 2147483647 n) ≡ true
+    go (yes l) = rw (lt-ltb 2147483647 n l)
+    go (no l) = absurd (h (fits→range (record { sfits = omega arith })))
+
+-- a sum tells of itself exactly if the exact sum is no number of 32 bits, whatever the rule
+pub overflowed-exactly : (sum : Rule) (a b : ℤ) → (added sum a b .overflowed ≡ true) ↔ (InRange (a +ℤ b) → ⊥)
+unfolding added overflows
+overflowed-exactly sum a b = (outside-not (a +ℤ b), not-outside (a +ℤ b))
+
+-- and what it gives is the rule's sum
+pub added-value : (sum : Rule) (a b : ℤ) → added sum a b .value ≡ sum a b
+unfolding added
+added-value sum a b = refl

@@ -2,20 +2,46 @@
 ghost use Prim.Native.Nat.{_*_, _+_, _/_, _%_};
 ghost use mathlib.Core.Path.{_≡_};
 ghost use Rattle.word.specs.Registers.{member, none, with};
-ghost use Rattle.word.specs.Sum.{wrapping};
+ghost use Rattle.word.specs.InnerCount.{saturated};
+ghost use Rattle.word.specs.Sum.{added, wrapping};
 
-// The sum of two numbers, wrapped to 32 bits: the one leaf for ADD.
-pub fn add(a: i32, b: i32) -> i32
-    ensures { λ r. ⌜ r ≡ wrapping a b ⌝ }
+// A sum, and whether the exact sum fell outside the range of 32 bits.
+pub struct Added {
+    pub value: i32,
+    pub overflowed: bool,
+}
+
+// The sum of two numbers, wrapped to 32 bits, and whether it left the range: the one leaf for ADD.
+pub fn add(a: i32, b: i32) -> Added
+    ensures { λ r. ⌜ r ≡ added wrapping a b ⌝ }
 {
     let s = a as i64 + b as i64;
     if s > 2147483647 {
-        (s - 4294967296) as i32
+        Added {
+            value: (s - 4294967296) as i32,
+            overflowed: true,
+        }
     } else if s < -2147483648 {
-        (s + 4294967296) as i32
+        Added {
+            value: (s + 4294967296) as i32,
+            overflowed: true,
+        }
     } else {
-        s as i32
+        Added {
+            value: s as i32,
+            overflowed: false,
+        }
     }
+}
+
+// The sum of two counts; the greatest number stands for what is above it.
+pub fn saturating_add(a: usize, b: usize) -> usize
+    ensures { λ r. ⌜ r ≡ saturated a b ⌝ }
+{
+    if b > 18446744073709551615 - a {
+        return 18446744073709551615;
+    }
+    a + b
 }
 
 // The set with no register.

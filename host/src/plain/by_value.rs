@@ -20,7 +20,7 @@ pub fn run(code: &[u8], registers: &mut [i32], threads: &mut [Thread], picks: &[
     }
     let mut counts = Counts::default();
     for &pick in picks {
-        counts.add(turn(code, registers, threads, pick).event);
+        counts.add(turn(code, registers, threads, pick));
     }
     Ok(counts)
 }
@@ -63,10 +63,7 @@ impl Thread {
                 self.push(n);
                 Step::of(Event::Push)
             }
-            Op::Add => {
-                self.sum();
-                Step { turn: self.begin == 0, ..Step::of(Event::Sum) }
-            }
+            Op::Add => self.sum(),
             Op::Fork(length) => {
                 self.push(0);
                 place = next + length;
@@ -76,6 +73,7 @@ impl Thread {
             Op::Begin => {
                 self.begin = self.place;
                 self.base = self.height;
+                self.over = 0;
                 Step::of(Event::Begin)
             }
             Op::Read(register) => Step::of(self.read(usize::from(register), registers)),
@@ -90,8 +88,9 @@ impl Thread {
                     Step { stale: Some(register as u8), ..Step::of(Event::SentBack) }
                 }
                 None => {
+                    let over = self.over;
                     self.commit(registers);
-                    Step { turn: true, ..Step::of(Event::Commit) }
+                    Step { turn: true, over, ..Step::of(Event::Commit) }
                 }
             },
         };
@@ -104,11 +103,19 @@ impl Thread {
         self.height += 1;
     }
 
-    fn sum(&mut self) {
+    /// A sum; one that leaves the range is told outside a transaction, and noted inside.
+    fn sum(&mut self) -> Step {
         let top = self.height - 1;
-        self.cells[top - 1] = self.cells[top - 1].wrapping_add(self.cells[top]);
+        let exact = i64::from(self.cells[top - 1]) + i64::from(self.cells[top]);
+        self.cells[top - 1] = exact as i32;
         self.cells[top] = 0;
         self.height = top;
+        let over = usize::from(exact > i32::MAX.into() || exact < i32::MIN.into());
+        if self.begin == 0 {
+            return Step { turn: true, over, ..Step::of(Event::Sum) };
+        }
+        self.over += over;
+        Step::of(Event::Sum)
     }
 
     fn read(&mut self, register: usize, registers: &[i32; REGISTERS]) -> Event {
@@ -147,6 +154,7 @@ impl Thread {
     fn close(&mut self) {
         self.begin = 0;
         self.base = 0;
+        self.over = 0;
         self.reads = 0;
         self.readlog = [0; REGISTERS];
         self.writes = 0;

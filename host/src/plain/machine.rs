@@ -31,7 +31,7 @@ pub fn run(code: &[u8], registers: &mut [i32], threads: &mut [Thread], picks: &[
     }
     let mut counts = Counts::default();
     for &pick in picks {
-        counts.add(act(code, registers, threads, pick).event);
+        counts.add(act(code, registers, threads, pick));
     }
     Ok(counts)
 }
@@ -56,7 +56,8 @@ pub fn starting(start: usize, end: usize) -> Thread {
     Thread { start, end, place: start, ..Thread::ABSENT }
 }
 
-/// One pick in a state that fits.
+/// One pick in a state that fits. Inlined, for its answer would be passed through memory.
+#[inline(always)]
 fn act(code: &[u8], registers: &mut [i32; REGISTERS], threads: &mut [Thread; RECORDS], pick: u8) -> Step {
     let Some(thread) = threads.get_mut(usize::from(pick)) else {
         return Step::IDLE;
@@ -76,10 +77,16 @@ fn act(code: &[u8], registers: &mut [i32; REGISTERS], threads: &mut [Thread; REC
         Op::Add => {
             let top = thread.height - 1;
             let right = thread.cells[top];
+            let (sum, over) = thread.cells[top - 1].overflowing_add(right);
             thread.cells[top] = 0;
-            thread.cells[top - 1] = thread.cells[top - 1].wrapping_add(right);
+            thread.cells[top - 1] = sum;
             thread.height = top;
-            Step { turn: thread.begin == 0, ..Step::of(Event::Sum) }
+            if thread.begin == 0 {
+                Step { turn: true, over: over.into(), ..Step::of(Event::Sum) }
+            } else {
+                thread.over += usize::from(over);
+                Step::of(Event::Sum)
+            }
         }
         Op::Fork(length) => {
             push(thread, 0);
@@ -92,6 +99,7 @@ fn act(code: &[u8], registers: &mut [i32; REGISTERS], threads: &mut [Thread; REC
         Op::Begin => {
             thread.begin = place;
             thread.base = thread.height;
+            thread.over = 0;
             Step::of(Event::Begin)
         }
         Op::Read(register) => {
@@ -125,8 +133,9 @@ fn act(code: &[u8], registers: &mut [i32; REGISTERS], threads: &mut [Thread; REC
                 for register in marked(thread.writes) {
                     registers[register] = thread.writelog[register];
                 }
+                let over = thread.over;
                 close(thread);
-                Step { turn: true, ..Step::of(Event::Commit) }
+                Step { turn: true, over, ..Step::of(Event::Commit) }
             }
         },
     }
@@ -163,4 +172,5 @@ fn close(thread: &mut Thread) {
     thread.writes = 0;
     thread.begin = 0;
     thread.base = 0;
+    thread.over = 0;
 }

@@ -42,8 +42,8 @@ fn execute(input: &[u8], registers: &mut [i32], threads: &mut [Thread]) -> Resul
 }
 
 fn lines(counts: &Counts, registers: &[i32], threads: &[Thread]) -> String {
-    let Counts { steps, idle, commits, back } = counts;
-    let mut text = format!("steps {steps} idle {idle} commits {commits} back {back}\n");
+    let Counts { steps, idle, commits, back, over } = counts;
+    let mut text = format!("steps {steps} idle {idle} commits {commits} back {back} over {over}\n");
     for (number, thread) in threads.iter().enumerate().filter(|(_, thread)| thread.start != 0) {
         let written = if thread.place == thread.end {
             writeln!(text, "thread {number} done {}", thread.cells[0])

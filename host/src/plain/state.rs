@@ -7,8 +7,15 @@ use crate::Thread;
 /// Where a thread stands, by its code.
 struct Standing {
     height: usize,
-    /// BEGIN's place and the height there, while a transaction is open.
-    notes: Option<(usize, usize)>,
+    /// While a transaction is open.
+    notes: Option<Notes>,
+}
+
+/// BEGIN's place, the height there, and the ADDs passed since.
+struct Notes {
+    begin: usize,
+    base: usize,
+    adds: usize,
 }
 
 /// Tests a state against a tested code.
@@ -53,14 +60,19 @@ pub fn fits(code: &[u8], outline: &Outline, registers: usize, threads: &[Thread]
 fn walk(code: &[u8], thread: &Thread, mut passing: impl FnMut(usize)) -> Option<Standing> {
     let mut at = thread.start;
     let mut height = 0;
-    let mut notes = None;
+    let mut notes: Option<Notes> = None;
     while at < thread.place && at < thread.end {
         let (op, next) = code::decode(code, at)?;
         match op {
             Op::Push(_) | Op::Read(_) => height += 1,
-            Op::Add => height -= 1,
+            Op::Add => {
+                height -= 1;
+                if let Some(notes) = &mut notes {
+                    notes.adds += 1;
+                }
+            }
             Op::Write(_) => {}
-            Op::Begin => notes = Some((at, height)),
+            Op::Begin => notes = Some(Notes { begin: at, base: height, adds: 0 }),
             Op::Commit => notes = None,
             Op::Fork(length) => {
                 passing(next);
@@ -80,8 +92,8 @@ fn holds(thread: &Thread, standing: &Standing) -> bool {
         return false;
     }
     let notes_and_marks = match standing.notes {
-        Some(notes) => (thread.begin, thread.base) == notes,
-        None => (thread.begin, thread.base, thread.reads, thread.writes) == (0, 0, 0, 0),
+        Some(Notes { begin, base, adds }) => (thread.begin, thread.base) == (begin, base) && thread.over <= adds,
+        None => (thread.begin, thread.base, thread.over, thread.reads, thread.writes) == (0, 0, 0, 0, 0),
     };
     notes_and_marks
         && unmarked_are_zero(thread.reads, &thread.readlog)

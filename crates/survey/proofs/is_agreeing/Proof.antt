@@ -18,7 +18,11 @@ returns-3 c = rw (not-false (c .before .before .before .before .before .before .
 
 returns-4 : tie.Need-returns-4
 unfolding agreeing
-returns-4 c = rw (not-false (c .before .before .before .before .before .before .before .before .before .before .args .w .good) (c .before .before .before .before .before .before .before .before .if1 .left), eq-eqb (c .before .before .before .before .before .before .before .before .before .before .args .w .height) (c .before .before .before .before .before .before .before .before .before .before .args .row .height) (c .before .before .before .before .before .if2 .left), eq-eqb (c .before .before .before .before .before .before .before .before .before .before .args .w .begin) (c .before .before .before .before .before .before .before .before .before .before .args .row .begin) (c .before .before .if3 .left))
+returns-4 c = rw (not-false (c .before .before .before .before .before .before .before .before .before .before .before .args .w .good) (c .before .before .before .before .before .before .before .before .before .if1 .left), eq-eqb (c .before .before .before .before .before .before .before .before .before .before .before .args .w .height) (c .before .before .before .before .before .before .before .before .before .before .before .args .row .height) (c .before .before .before .before .before .before .if2 .left), eq-eqb (c .before .before .before .before .before .before .before .before .before .before .before .args .w .begin) (c .before .before .before .before .before .before .before .before .before .before .before .args .row .begin) (c .before .before .before .if3 .left), ne-eqb (c .before .before .before .before .before .before .before .before .before .before .before .args .w .base) (c .before .before .before .before .before .before .before .before .before .before .before .args .row .base) (c .if4 .taken))
+
+returns-5 : tie.Need-returns-5
+unfolding agreeing
+returns-5 c = rw (not-false (c .before .before .before .before .before .before .before .before .before .before .before .before .before .args .w .good) (c .before .before .before .before .before .before .before .before .before .before .before .if1 .left), eq-eqb (c .before .before .before .before .before .before .before .before .before .before .before .before .before .args .w .height) (c .before .before .before .before .before .before .before .before .before .before .before .before .before .args .row .height) (c .before .before .before .before .before .before .before .before .if2 .left), eq-eqb (c .before .before .before .before .before .before .before .before .before .before .before .before .before .args .w .begin) (c .before .before .before .before .before .before .before .before .before .before .before .before .before .args .row .begin) (c .before .before .before .before .before .if3 .left), eq-eqb (c .before .before .before .before .before .before .before .before .before .before .before .before .before .args .w .base) (c .before .before .before .before .before .before .before .before .before .before .before .before .before .args .row .base) (c .before .before .if4 .left))
 
 pub is-agreeing-spec : {M : Type 1} → statement M
-is-agreeing-spec = tie.close (tie.spec returns returns-2 returns-3 returns-4)
+is-agreeing-spec = tie.close (tie.spec returns returns-2 returns-3 returns-4 returns-5)

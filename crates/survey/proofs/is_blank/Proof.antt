@@ -26,28 +26,31 @@ returns-6 : tie.Need-returns-6
 returns-6 c = is-false _ (λ e. c .if6 .taken (zeros-of (c .before .before .before .before .before .before .before .before .before .before .before .before .args .t) e .base))
 
 returns-7 : tie.Need-returns-7
-returns-7 c = is-false _ (λ e. c .if7 .taken (zeros-of (c .before .before .before .before .before .before .before .before .before .before .before .before .before .before .args .t) e .reads))
+returns-7 c = is-false _ (λ e. c .if7 .taken (zeros-of (c .before .before .before .before .before .before .before .before .before .before .before .before .before .before .args .t) e .over))
 
 returns-8 : tie.Need-returns-8
-returns-8 c = is-false _ (λ e. c .if8 .taken (zeros-of (c .before .before .before .before .before .before .before .before .before .before .before .before .before .before .before .before .args .t) e .writes))
+returns-8 c = is-false _ (λ e. c .if8 .taken (zeros-of (c .before .before .before .before .before .before .before .before .before .before .before .before .before .before .before .before .args .t) e .reads))
+
+returns-9 : tie.Need-returns-9
+returns-9 c = is-false _ (λ e. c .if9 .taken (zeros-of (c .before .before .before .before .before .before .before .before .before .before .before .before .before .before .before .before .before .before .args .t) e .writes))
 
 is-zero-from-requires : tie.Need-is-zero-from-requires
 is-zero-from-requires c κs = search needs
 
-returns-9 : tie.Need-returns-9
-returns-9 c = is-false _ (λ e. clash (sym (c .before .is-zero-from .ensures) ∙ not-true _ (c .if9 .taken)) (zeros-of (c .before .before .before .before .before .before .before .before .before .before .before .before .before .before .before .before .before .before .before .before .args .t) e .cells))
+returns-10 : tie.Need-returns-10
+returns-10 c = is-false _ (λ e. clash (sym (c .before .is-zero-from .ensures) ∙ not-true _ (c .if10 .taken)) (zeros-of (c .before .before .before .before .before .before .before .before .before .before .before .before .before .before .before .before .before .before .before .before .before .before .args .t) e .cells))
 
 is-zero-from-requires-2 : tie.Need-is-zero-from-requires-2
 is-zero-from-requires-2 c κs = search needs
 
-returns-10 : tie.Need-returns-10
-returns-10 c = is-false _ (λ e. clash (sym (c .before .is-zero-from2 .ensures) ∙ not-true _ (c .if10 .taken)) (zeros-of (c .before .before .before .before .before .before .before .before .before .before .before .before .before .before .before .before .before .before .before .before .before .before .before .before .args .t) e .readlog))
+returns-11 : tie.Need-returns-11
+returns-11 c = is-false _ (λ e. clash (sym (c .before .is-zero-from2 .ensures) ∙ not-true _ (c .if11 .taken)) (zeros-of (c .before .before .before .before .before .before .before .before .before .before .before .before .before .before .before .before .before .before .before .before .before .before .before .before .before .before .args .t) e .readlog))
 
 is-zero-from-requires-3 : tie.Need-is-zero-from-requires-3
 is-zero-from-requires-3 c κs = search needs
 
-returns-11 : tie.Need-returns-11
-returns-11 c = alike _ _ (λ e. all-zero (c .before .before .before .before .before .before .before .before .before .before .before .before .before .before .before .before .before .before .before .before .before .before .before .before .before .before .before .args .t) (record { start = c .before .before .before .before .before .before .before .before .before .before .before .before .before .before .before .before .before .before .before .before .before .before .before .before .before .if1 .left; end = c .before .before .before .before .before .before .before .before .before .before .before .before .before .before .before .before .before .before .before .before .before .before .before .if2 .left; place = c .before .before .before .before .before .before .before .before .before .before .before .before .before .before .before .before .before .before .before .before .before .if3 .left; height = c .before .before .before .before .before .before .before .before .before .before .before .before .before .before .before .before .before .before .before .if4 .left; begin = c .before .before .before .before .before .before .before .before .before .before .before .before .before .before .before .before .before .if5 .left; base = c .before .before .before .before .before .before .before .before .before .before .before .before .before .before .before .if6 .left; reads = c .before .before .before .before .before .before .before .before .before .before .before .before .before .if7 .left; writes = c .before .before .before .before .before .before .before .before .before .before .before .if8 .left; cells = sym (c .before .before .before .before .before .before .before .before .is-zero-from .ensures) ∙ not-false _ (c .before .before .before .before .before .before .before .if9 .left); readlog = sym (c .before .before .before .before .is-zero-from2 .ensures) ∙ not-false _ (c .before .before .before .if10 .left); writelog = sym (c .is-zero-from3 .ensures) ∙ e })) (λ e. c .is-zero-from3 .ensures ∙ zeros-of (c .before .before .before .before .before .before .before .before .before .before .before .before .before .before .before .before .before .before .before .before .before .before .before .before .before .before .before .args .t) e .writelog)
+returns-12 : tie.Need-returns-12
+returns-12 c = alike _ _ (λ e. all-zero (c .before .before .before .before .before .before .before .before .before .before .before .before .before .before .before .before .before .before .before .before .before .before .before .before .before .before .before .before .before .args .t) (record { start = c .before .before .before .before .before .before .before .before .before .before .before .before .before .before .before .before .before .before .before .before .before .before .before .before .before .before .before .if1 .left; end = c .before .before .before .before .before .before .before .before .before .before .before .before .before .before .before .before .before .before .before .before .before .before .before .before .before .if2 .left; place = c .before .before .before .before .before .before .before .before .before .before .before .before .before .before .before .before .before .before .before .before .before .before .before .if3 .left; height = c .before .before .before .before .before .before .before .before .before .before .before .before .before .before .before .before .before .before .before .before .before .if4 .left; begin = c .before .before .before .before .before .before .before .before .before .before .before .before .before .before .before .before .before .before .before .if5 .left; base = c .before .before .before .before .before .before .before .before .before .before .before .before .before .before .before .before .before .if6 .left; over = c .before .before .before .before .before .before .before .before .before .before .before .before .before .before .before .if7 .left; reads = c .before .before .before .before .before .before .before .before .before .before .before .before .before .if8 .left; writes = c .before .before .before .before .before .before .before .before .before .before .before .if9 .left; cells = sym (c .before .before .before .before .before .before .before .before .is-zero-from .ensures) ∙ not-false _ (c .before .before .before .before .before .before .before .if10 .left); readlog = sym (c .before .before .before .before .is-zero-from2 .ensures) ∙ not-false _ (c .before .before .before .if11 .left); writelog = sym (c .is-zero-from3 .ensures) ∙ e })) (λ e. c .is-zero-from3 .ensures ∙ zeros-of (c .before .before .before .before .before .before .before .before .before .before .before .before .before .before .before .before .before .before .before .before .before .before .before .before .before .before .before .before .before .args .t) e .writelog)
 
 pub is-blank-spec : {M : Type 1} → statement M
 is-blank-spec =
@@ -61,9 +64,10 @@ is-blank-spec =
     returns-6
     returns-7
     returns-8
-    is-zero-from-requires
     returns-9
-    is-zero-from-requires-2
+    is-zero-from-requires
     returns-10
+    is-zero-from-requires-2
+    returns-11
     is-zero-from-requires-3
-    returns-11)
+    returns-12)

@@ -11,7 +11,7 @@ use borrow.Author.Tests.{lt-ltb, le-ltb}
 use mir.Syntax.{w32, w64}
 use mir.Val.{SFits, toZ, ofZ}
 use mir.Facts.{toZ-ofZ, sfits-widen}
-use Rattle.word.specs.Sum.{wrapping}
+use Rattle.word.specs.Sum.{wrapping, overflows, added}
 use Rattle.word.proofs.Sums.{fits→range, wrap-only, wrap-same}
 use Rattle.word.proofs.add.Statement.{statement}
 use Rattle.word.proofs.add.Tie as tie
@@ -92,36 +92,48 @@ cast-s-2 c = rw (toZ-ofZ (c .fits .b)) (sfits-widen tt (c .fits .b))
 add-s : tie.Need-add-s
 add-s c = rw (wide _ (c .fits .a), wide _ (c .fits .b)) (sum-fits _ _ (c .fits .a) (c .fits .b))
 
-sub-result : tie.Need-sub-result
-sub-result c = rw (read (c .before)) (sfits-widen tt (is-over c))
+sub-t8 : tie.Need-sub-t8
+sub-t8 c = rw (read (c .before)) (sfits-widen tt (is-over c))
 
-cast-result : tie.Need-cast-result
-cast-result c = rw (read (c .before), toZ-ofZ (sfits-widen {w′ = w64} tt (is-over c))) (is-over c)
+cast-t9 : tie.Need-cast-t9
+cast-t9 c = rw (read (c .before), toZ-ofZ (sfits-widen {w′ = w64} tt (is-over c))) (is-over c)
 
-add-result : tie.Need-add-result
-add-result c = rw (read (c .before .before)) (sfits-widen tt (is-under c))
+add-t12 : tie.Need-add-t12
+add-t12 c = rw (read (c .before .before)) (sfits-widen tt (is-under c))
 
-cast-result-2 : tie.Need-cast-result-2
-cast-result-2 c = rw (read (c .before .before), toZ-ofZ (sfits-widen {w′ = w64} tt (is-under c))) (is-under c)
+cast-t13 : tie.Need-cast-t13
+cast-t13 c = rw (read (c .before .before), toZ-ofZ (sfits-widen {w′ = w64} tt (is-under c))) (is-under c)
 
-cast-result-3 : tie.Need-cast-result-3
-cast-result-3 c = rw (read (c .before .before)) (is-within c)
+cast-t14 : tie.Need-cast-t14
+cast-t14 c = rw (read (c .before .before)) (is-within c)
+
+-- what is told in each case
+told : (a b : ℤ) (n : ℤ) (t : Bool) → n ≡ wrapping a b → t ≡ overflows a b → record { value = n; overflowed = t } ≡ added wrapping a b
+unfolding added
+told a b n t e f = λ i. record { value = e i; overflowed = f i }
 
 returns : tie.Need-returns
-unfolding wrapping
+unfolding wrapping overflows
 returns c =
+    let above : ltZ (pos 2147483647) (sum (c .before)) ≡ true = rw (read (c .before)) at (c .if1 .taken) in
     rw (read (c .before), toZ-ofZ (sfits-widen {w′ = w64} tt (is-over c)), toZ-ofZ (is-over c))
-    (wrap-only _ _ (pos 1) (fits→range (is-over c)) (sym (-ℤ-+ℤ-cancel _ (pos 4294967296))))
+    (told _ _ _ true (wrap-only _ _ (pos 1) (fits→range (is-over c)) (sym (-ℤ-+ℤ-cancel _ (pos 4294967296)))) (rw above))
 
 returns-2 : tie.Need-returns-2
-unfolding wrapping
+unfolding wrapping overflows
 returns-2 c =
+    let not-above : ltZ (pos 2147483647) (sum (c .before .before)) ≡ false = rw (read (c .before .before)) at (c .before .if1 .left) in
+    let below : ltZ (sum (c .before .before)) (negsuc 2147483647) ≡ true = rw (read (c .before .before)) at (c .if2 .taken) in
     rw (read (c .before .before), toZ-ofZ (sfits-widen {w′ = w64} tt (is-under c)), toZ-ofZ (is-under c))
-    (wrap-only _ _ (negsuc 0) (fits→range (is-under c)) (sym (+ℤ-negℤ-cancel _ (pos 4294967296))))
+    (told _ _ _ true (wrap-only _ _ (negsuc 0) (fits→range (is-under c)) (sym (+ℤ-negℤ-cancel _ (pos 4294967296)))) (rw (not-above, below)))
 
 returns-3 : tie.Need-returns-3
-unfolding wrapping
-returns-3 c = rw (read (c .before .before), toZ-ofZ (is-within c)) (sym (wrap-same _ (fits→range (is-within c))))
+unfolding wrapping overflows
+returns-3 c =
+    let not-above : ltZ (pos 2147483647) (sum (c .before .before)) ≡ false = rw (read (c .before .before)) at (c .before .if1 .left) in
+    let not-below : ltZ (sum (c .before .before)) (negsuc 2147483647) ≡ false = rw (read (c .before .before)) at (c .if2 .left) in
+    rw (read (c .before .before), toZ-ofZ (is-within c))
+    (told _ _ _ false (sym (wrap-same _ (fits→range (is-within c)))) (rw (not-above, not-below)))
 
 pub add-spec : {M : Type 1} → statement M
 add-spec =
@@ -130,11 +142,11 @@ add-spec =
     cast-s
     cast-s-2
     add-s
-    sub-result
-    cast-result
-    add-result
-    cast-result-2
-    cast-result-3
+    sub-t8
+    cast-t9
+    add-t12
+    cast-t13
+    cast-t14
     returns
     returns-2
     returns-3)

@@ -41,6 +41,12 @@ mul-self-6 c = search needs
 element-write-self-6 : tie.Need-element-write-self-6
 element-write-self-6 c = search needs
 
+mul-self-7 : tie.Need-mul-self-7
+mul-self-7 c = search needs
+
+element-write-self-7 : tie.Need-element-write-self-7
+element-write-self-7 c = search needs
+
 add-self : tie.Need-add-self
 add-self c = search needs
 
@@ -67,6 +73,8 @@ put-spec =
     element-write-self-5
     mul-self-6
     element-write-self-6
+    mul-self-7
+    element-write-self-7
     add-self
     add-self-2
     returns)

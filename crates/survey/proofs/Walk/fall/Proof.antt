@@ -10,9 +10,12 @@ add-t2 c = search needs
 less-requires : tie.Need-less-requires
 less-requires c κs = search needs
 
+adds-after-requires : tie.Need-adds-after-requires
+adds-after-requires c κs = search needs
+
 returns : tie.Need-returns
 unfolding fallTo
-returns c = rw (c .less .ensures)
+returns c = rw (c .before .less .ensures, c .adds-after .ensures)
 
 pub fall-spec : {M : Type 1} → statement M
-fall-spec = tie.close (tie.spec add-t2 less-requires returns)
+fall-spec = tie.close (tie.spec add-t2 less-requires adds-after-requires returns)

@@ -26,11 +26,8 @@ did-requires c κs = search needs
 enum-told : tie.Need-enum-told
 enum-told c = search needs
 
-outside-requires : tie.Need-outside-requires
-outside-requires c κs = search needs
-
 add-requires : tie.Need-add-requires
-add-requires c κs = add-due _ _ _ (c .before .before .before .pre) (c .before .enum-told .given .1)
+add-requires c κs = add-due _ _ _ (c .before .before .pre) (c .enum-told .given .1)
 
 did-requires-2 : tie.Need-did-requires-2
 did-requires-2 c κs = search needs
@@ -62,9 +59,6 @@ enum-told-2 c = search needs
 begin-requires : tie.Need-begin-requires
 begin-requires c κs = begin-due _ _ _ (c .before .before .pre) (c .enum-told2 .given .1)
 
-did-requires-5 : tie.Need-did-requires-5
-did-requires-5 c κs = search needs
-
 enum-told-3 : tie.Need-enum-told-3
 enum-told-3 c = search needs
 
@@ -89,14 +83,14 @@ add-push-3 c =
 push-requires-2 : tie.Need-push-requires-2
 push-requires-2 c κs = fork-due _ _ _ (c .before .before .before .pre) _ (c .before .op4 .given .1) .0
 
+add-t21 : tie.Need-add-t21
+add-t21 c = add-push-2 (c .before)
+
+add-t22 : tie.Need-add-t22
+add-t22 c = add-push-2 (c .before)
+
 add-t23 : tie.Need-add-t23
-add-t23 c = add-push-2 (c .before)
-
-add-t24 : tie.Need-add-t24
-add-t24 c = add-push-2 (c .before)
-
-add-t25 : tie.Need-add-t25
-add-t25 c = add-push-3 (c .before)
+add-t23 c = add-push-3 (c .before)
 
 enum-told-4 : tie.Need-enum-told-4
 enum-told-4 c = search needs
@@ -110,22 +104,22 @@ returns c = rw (c .did .ensures, c .before .push .ensures, toZ-ofZ (sfits-of (c 
 
 returns-2 : tie.Need-returns-2
 unfolding performed
-returns-2 c = rw (c .did2 .ensures, c .before .add .ensures, c .before .before .outside .ensures, c .before .before .before .enum-told .given .1)
+returns-2 c = rw (c .add .ensures, c .before .enum-told .given .1)
 
 same-length : tie.Need-same-length
 same-length c = search needs
 
 returns-3 : tie.Need-returns-3
 unfolding performed
-returns-3 c = rw (c .did3 .ensures, c .before .read .ensures, c .before .before .before .source .ensures, c .before .before .before .before .before .op2 .given .1)
+returns-3 c = rw (c .did2 .ensures, c .before .read .ensures, c .before .before .before .source .ensures, c .before .before .before .before .before .op2 .given .1)
 
 returns-4 : tie.Need-returns-4
 unfolding performed
-returns-4 c = rw (c .did4 .ensures, c .before .write .ensures, c .before .before .before .op3 .given .1)
+returns-4 c = rw (c .did3 .ensures, c .before .write .ensures, c .before .before .before .op3 .given .1)
 
 returns-5 : tie.Need-returns-5
 unfolding performed
-returns-5 c = rw (c .did5 .ensures, c .before .begin .ensures, c .before .before .enum-told2 .given .1)
+returns-5 c = rw (c .did4 .ensures, c .before .begin .ensures, c .before .before .enum-told2 .given .1)
 
 same-length-2 : tie.Need-same-length-2
 same-length-2 c = search needs
@@ -151,28 +145,26 @@ act-spec =
     push-requires
     did-requires
     enum-told
-    outside-requires
     add-requires
-    did-requires-2
     enum-known-op-2
     source-requires
     read-requires
-    did-requires-3
+    did-requires-2
     enum-known-op-3
     write-requires
-    did-requires-4
+    did-requires-3
     enum-told-2
     begin-requires
-    did-requires-5
+    did-requires-4
     enum-told-3
     commit-requires
     enum-known-op-4
     add-push-2
     add-push-3
     push-requires-2
+    add-t21
+    add-t22
     add-t23
-    add-t24
-    add-t25
     enum-told-4
     idle-requires
     returns

@@ -1,7 +1,7 @@
 use mir.Facts.{toZ-ofZ}
-use borrow.Author.Needs.{sfits-of}
-use Rattle.thread.specs.Threads.{add}
-use borrow.Author.Needs.{needs}
+use mir.Syntax.{w32}
+use Rattle.thread.specs.InnerStep.{summing}
+use borrow.Author.Needs.{needs, sfits-of}
 use Rattle.thread.proofs.Thread.add.Statement.{statement}
 use Rattle.thread.proofs.Thread.add.Tie as tie
 
@@ -50,9 +50,25 @@ sub-self c = search needs
 add-self : tie.Need-add-self
 add-self c = search needs
 
+note-after-requires : tie.Need-note-after-requires
+note-after-requires c κs = search needs
+
+outside-requires : tie.Need-outside-requires
+outside-requires c κs = search needs
+
+over-at-once-requires : tie.Need-over-at-once-requires
+over-at-once-requires c κs = search needs
+
+did-requires : tie.Need-did-requires
+did-requires c κs = search needs
+
 returns : tie.Need-returns
-unfolding add
-returns c = rw (toZ-ofZ (sfits-of (c .add .ok)), c .add .ensures, toZ-ofZ (sfits-of (c .before .before .a .given)), toZ-ofZ (sfits-of (c .before .b .given)))
+unfolding summing
+returns c =
+    let g = c .before .before .before .before in
+    let e = g .before in
+    let back = toZ-ofZ {w = w32} {z = e .add .result .value} (record { sfits = g .struct-told .given .0 .1 }) in
+    rw (c .did .ensures, c .before .over-at-once .ensures, c .before .before .outside .ensures, c .before .before .before .note-after .ensures, back, e .add .ensures, toZ-ofZ (sfits-of (e .before .before .a .given)), toZ-ofZ (sfits-of (e .before .b .given)))
 
 pub add-spec : {M : Type 1} → statement M
 add-spec =
@@ -73,4 +89,8 @@ add-spec =
     array-set-of-cells
     sub-self
     add-self
+    note-after-requires
+    outside-requires
+    over-at-once-requires
+    did-requires
     returns)

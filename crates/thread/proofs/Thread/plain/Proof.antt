@@ -16,31 +16,16 @@ stack-event-requires c κs = search needs
 number-requires : tie.Need-number-requires
 number-requires c κs = search needs
 
-stack-turn-requires : tie.Need-stack-turn-requires
-stack-turn-requires c κs = search needs
-
 stacked-requires : tie.Need-stacked-requires
 stacked-requires c κs =
-    let e = c .before .before .before in
+    let e = c .before .before in
     let k = e .before .shared-slice-known .given in
-    rw (c .before .before .stack-event .ensures, e .plain-op .ensures) (plain-able (e .before .before .args .code .now) (e .before .before .args .self) (omega arith))
-
-did-requires : tie.Need-did-requires
-did-requires c κs = search needs
+    rw (c .before .stack-event .ensures, e .plain-op .ensures) (plain-able (e .before .before .args .code .now) (e .before .before .args .self) (omega arith))
 
 returns : tie.Need-returns
 returns c =
-    let e = c .before .before .before .before .before in
-    λ table. rw (c .did .ensures, c .before .stacked .ensures, c .before .before .stack-turn .ensures, toZ-ofZ (sfits-of (c .before .before .before .number .ok)), c .before .before .before .number .ensures, c .before .before .before .before .stack-event .ensures, e .plain-op .ensures) (plain-acts (e .before .before .args .code .now) table (e .before .before .args .self))
+    let e = c .before .before .before in
+    λ table. rw (c .stacked .ensures, toZ-ofZ (sfits-of (c .before .number .ok)), c .before .number .ensures, c .before .before .stack-event .ensures, e .plain-op .ensures) (plain-acts (e .before .before .args .code .now) table (e .before .before .args .self))
 
 pub plain-spec : {M : Type 1} → statement M
-plain-spec =
-    tie.close
-    (tie.spec
-    plain-op-requires
-    stack-event-requires
-    number-requires
-    stack-turn-requires
-    stacked-requires
-    did-requires
-    returns)
+plain-spec = tie.close (tie.spec plain-op-requires stack-event-requires number-requires stacked-requires returns)

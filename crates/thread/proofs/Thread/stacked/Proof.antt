@@ -2,10 +2,10 @@ use Prim.Native.Nat.{_<_}
 use mathlib.Core.Path.{_≡_, sym, subst}
 use native.Mathlib.Omega.{arith}
 use mir.Facts.{toZ-ofZ}
-use borrow.Author.Needs.{sfits-of}
+use mir.Syntax.{w32}
+use borrow.Author.Needs.{needs, sfits-of}
 use Rattle.thread.specs.declared.Plan.{Plan}
 use Rattle.thread.proofs.Attempts.{plan-low, stacked-cells}
-use borrow.Author.Needs.{needs}
 use Rattle.thread.proofs.Thread.stacked.Statement.{statement}
 use Rattle.thread.proofs.Thread.stacked.Tie as tie
 
@@ -48,17 +48,32 @@ value-requires c κs = search needs
 
 mul-cells-2 : tie.Need-mul-cells-2
 mul-cells-2 c =
-    let f = small (c .before .before .before .before) in
+    let f = small (c .before .before .before .before .before) in
     let g = f .0 in
     omega arith
 
 array-set-from-cells : tie.Need-array-set-from-cells
-array-set-from-cells c = small (c .before .before .before .before) .0
+array-set-from-cells c = small (c .before .before .before .before .before) .0
+
+note-after-requires : tie.Need-note-after-requires
+note-after-requires c κs = search needs
+
+stack-turn-requires : tie.Need-stack-turn-requires
+stack-turn-requires c κs = search needs
+
+over-at-once-requires : tie.Need-over-at-once-requires
+over-at-once-requires c κs = search needs
+
+did-requires : tie.Need-did-requires
+did-requires c κs = search needs
 
 returns : tie.Need-returns
 returns c =
-    let e = c .before .before .before .before in
-    rw (toZ-ofZ (sfits-of (c .value .ok)), c .value .ensures, toZ-ofZ (e .before .fits .n), toZ-ofZ (sfits-of (c .before .before .a .given)), toZ-ofZ (sfits-of (c .before .b .given)), e .planned .ensures) (stacked-cells _ _ _ (e .before .pre))
+    let g = c .before .before .before .before in
+    let v = g .before in
+    let back = toZ-ofZ {w = w32} {z = v .value .result .value} (record { sfits = g .struct-told .given .0 .1 }) in
+    let e = v .before .before .before .before in
+    rw (c .did .ensures, c .before .over-at-once .ensures, c .before .before .stack-turn .ensures, c .before .before .before .note-after .ensures, back, v .value .ensures, toZ-ofZ (e .before .fits .n), toZ-ofZ (sfits-of (v .before .before .a .given)), toZ-ofZ (sfits-of (v .before .b .given)), e .planned .ensures) (stacked-cells _ _ _ (e .before .pre))
 
 pub stacked-spec : {M : Type 1} → statement M
 stacked-spec =
@@ -74,4 +89,8 @@ stacked-spec =
     value-requires
     mul-cells-2
     array-set-from-cells
+    note-after-requires
+    stack-turn-requires
+    over-at-once-requires
+    did-requires
     returns)
