@@ -1,3 +1,4 @@
 -- The worked cases hold.
 pub mod Cases
 pub mod Forecasts
+pub mod Overflows

@@ -1,3 +1,4 @@
--- The worked cases of document 01: "Slides for the bench", its figures, and a state that fits or does not for each sentence on fitting; those of the forecast.
+-- The worked cases of document 01: "Slides for the bench", its figures, and a state that fits or does not for each sentence on fitting; those of the forecast, and of sums that leave the range.
 pub mod Cases
 pub mod Forecasts
+pub mod Overflows
