@@ -33,11 +33,7 @@ use Rattle.word.proofs.Counting.{saturated-exact}
 more-low : (b : Bool) (n m : ℕ) → n + suc m < 18446744073709551615 → moreTo b n + m < 18446744073709551615
 unfolding moreTo
 more-low false n m l = omega arith
-more-low true n m l = go (eqb n 18446744073709551615)
-  where
-    go : (b : Bool) → cond b n (n + 1) + m < 18446744073709551615
-    go true = omega arith
-    go false = omega arith
+more-low true n m l = let e = saturated-exact n 1 (omega arith) in omega arith
 
 plus-low : (a b m : ℕ) → b < 6000 → a + 6000 * suc (suc m) < 18446744073709551615 → saturated a b + 6000 * suc m < 18446744073709551615
 plus-low a b m few l = let e = saturated-exact a b (omega arith) in omega arith

@@ -5,7 +5,7 @@ use mathlib.Core.Logic.{_⊎_, inl, inr}
 use mathlib.Core.Path.{_≡_, refl, sym, ap, ap₂, subst, _∙_}
 use mathlib.Core.List.{List, [], _∷_}
 use native.Mathlib.Omega.{arith}
-use borrow.Author.Tests.{lt-ltb, le-ltb, ne-eqb, eqb-true, eqb-false, ltb-true, ltb-false}
+use borrow.Author.Tests.{lt-ltb, le-ltb, eqb-true, eqb-false, ltb-true, ltb-false}
 use lib.Dec.{eqb, ltb}
 use lib.IntN.{ℤ}
 use lib.ListN.{length, set, length-set}
@@ -92,7 +92,7 @@ back-number (sentBack v) = refl
 low-more : (b : Bool) (n : ℕ) → n < 18446744073709551615 → moreTo b n ≡ more b n
 unfolding moreTo
 low-more false n l = refl
-low-more true n l = rw (ne-eqb n 18446744073709551615 (λ e. absurd (omega arith))) (omega arith)
+low-more true n l = saturated-exact n 1 (omega arith) ∙ omega arith
 
 -- the progress after an event that tells of so many sums
 advances : (e : Event) (over : ℕ) (p : Progress) → Low p → over < 6000 → shown (advancedTo (eventNumber e) (eventRegister e) (turnNumber e) over p) ≡ tally.advanced e over (shown p)

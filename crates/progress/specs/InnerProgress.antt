@@ -28,7 +28,7 @@ use Rattle.word.specs.Sum.{wrapping}
 
 -- one more if so; the greatest number stays
 unfoldable pub moreTo : Bool → ℕ → ℕ
-moreTo so n = cond so (cond (eqb n 18446744073709551615) n (n + 1)) n
+moreTo so n = cond so (saturated n 1) n
 
 -- the seat that a forked child takes, 16 if there is none
 unfoldable pub seatOf : (event threads : ℕ) → ℕ

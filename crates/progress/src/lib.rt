@@ -35,13 +35,10 @@ pub struct Picked {
 fn more(so: bool, n: usize) -> usize
     ensures { λ r. ⌜ r ≡ moreTo so n ⌝ }
 {
-    if !so {
-        return n;
+    if so {
+        return word::saturating_add(n, 1);
     }
-    if n == 18446744073709551615 {
-        return n;
-    }
-    n + 1
+    n
 }
 
 // The seat that a forked child takes.
