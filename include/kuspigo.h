@@ -21,8 +21,9 @@
  *   11  no accepted job compiles to the code
  *   12  the state does not fit the code
  *   13  more than 32,768 picks
+ *   14  a transaction of more than 200 nodes
  *
- * For 1 to 9 the place is a byte offset in the job, else 0.
+ * For 1 to 9 and 14 the place is a byte offset in the job, else 0.
  */
 #ifndef KUSPIGO_H
 #define KUSPIGO_H
@@ -121,10 +122,10 @@ typedef struct kuspigo_forecast_reply {
                                          the FORKs in the job; 0 behind them */
 } kuspigo_forecast_reply;
 
-/* The job's stack code, at the front of out. Refusals 1 to 9, then 10. */
+/* The job's stack code, at the front of out. Refusals 1 to 9, then 14, then 10. */
 kuspigo_written kuspigo_compile(const uint8_t *job, size_t job_count, uint8_t *out, size_t out_count);
 
-/* What the job will need, from its bytes alone. Refusals 1 to 9. */
+/* What the job will need, from its bytes alone. Refusals 1 to 9, then 14. */
 kuspigo_forecast_reply kuspigo_forecast(const uint8_t *job, size_t job_count);
 
 /* The job that compiles to the code, at the front of out. Refusals 11, then 10. */

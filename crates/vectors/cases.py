@@ -154,7 +154,11 @@ def large(most):
     def parts():
         out, left = [], most - 1
         while left > 12:
-            part = atomic(machine.some_tran(rng, rng.randint(1, 9), registers())) if rng.random() < 0.7 else valp(7)
+            kind = rng.random()
+            if kind < 0.03 and left > 220:
+                part = atomic(wide(rng.randint(100, 200)))
+            else:
+                part = atomic(machine.some_tran(rng, rng.randint(1, 9), registers())) if kind < 0.7 else valp(7)
             part = fork(part) if sum(map(machine.forks, out)) < 15 and rng.random() < 0.1 else part
             out.append(part)
             left -= nodes(part) + 1
@@ -167,6 +171,24 @@ def large(most):
         return addp(even(parts[:at]), even(parts[at:]))
 
     return accepted(lambda: even(parts()))
+
+
+def wide(size):
+    """A transaction of so many nodes, of little depth."""
+    if size == 1:
+        return jobs.read(rng.randrange(64)) if rng.random() < 0.9 else valt(7)
+    if size == 2 or rng.random() < 0.3:
+        return write(rng.randrange(64), wide(size - 1))
+    least = max(1, (size - 1) // 3)
+    left = rng.randint(least, size - 1 - least)
+    return addt(wide(left), wide(size - 1 - left))
+
+
+def around(size):
+    """A tree with a transaction of so many nodes, and small parts beside it."""
+    parts = [atomic(wide(size))] + [small(1, 5) for _ in range(rng.randrange(3))]
+    rng.shuffle(parts)
+    return scattered(joined([fork(part) if rng.random() < 0.3 else part for part in parts]))
 
 
 def any_tree():
@@ -802,6 +824,58 @@ def the_forecasts():
             a_forecast(damaged_job(number))
 
 
+def a_long(call, size):
+    """A case of a call, the tree having a transaction of so many nodes."""
+    tree = around(size)
+    data, code = job(tree), whole(tree)
+    picks = [0] if size > 200 else schedule(tree, 300)[0]
+    if call == "job":
+        a_job(data)
+    elif call == "compile":
+        a_job(data, 0 if size > 201 else room(len(code)))
+    elif call == "back":
+        a_code(code, room(len(data)), "long transaction")
+    elif call == "forecast":
+        a_forecast(data)
+    elif call == "report":
+        report("long transaction", an_input(data, picks))
+    else:
+        state("long transaction", call, code if size > 200 else tree, [], "", picks)
+    said = cases.answers[-1].rpartition(": ")[2]
+    if size <= 200:
+        assert "refused" not in said
+    elif call in ("back", "fresh", "step", "run"):
+        assert said == "refused 11 at 0 kept"
+    else:
+        place = jobs.read_job(data)[2]
+        assert data[place] == 3 and "refused 14 at %d" % place in said
+        seen["places of 14"][place] += 1
+
+
+def the_long():
+    cases.section("inputs of the run program with a transaction of 200 and of 201 nodes")
+    for tree, size, count, said in (
+        (jobs.FULL, None, 202, "prints steps 202 idle 0 commits 1 back 0 over 0 / thread 0 done 0 /"),
+        (jobs.TOO_LONG, None, 202, "prints refused 14 at 7 /"),
+        (jobs.TOO_LONG, None, LONG, "prints refused 14 at 7 /"),
+        (jobs.TOO_LONG, 15, 0, "refused 10 at 0"),
+    ):
+        report("long transaction", an_input(job(atomic(tree))), size, [0] * count)
+        assert cases.answers[-1].endswith(": %s kept" % said)
+    cases.section("transactions of about 200 nodes")
+    for size in (200, 201, 202):
+        for call in ("job", "compile", "back", "forecast", "report", "run"):
+            a_long(call, size)
+    for call in ("back", "fresh", "step"):
+        a_long(call, rng.randint(201, 260))
+    cases.section("transactions of more than 200 nodes in jobs that are turned down for another reason")
+    for number in (1, 5, 6, 9):
+        data = b""
+        while not data or jobs.read_job(data)[:2] != ("refused", number):
+            data = JOB_DAMAGE[number](job(around(rng.randint(201, 220))))
+        a_job(data, rng.choice((None, 0)))
+
+
 def the_overs():
     cases.section("a note that crosses two calls")
     calls("over", atomic(addt(valt(2147483647), valt(1))), [], [[0] * 4, [0]])
@@ -847,9 +921,10 @@ def the_overs():
     for k in range(30):
         tree, picks = showing(("outside", "counted", "dropped")[k % 3])
         report("over", an_input(job(tree), picks))
-    tree = jobs.balanced(addp, valp(-2147483648), 500)
-    report("over", an_input(job(tree)), picks=[0] * 999)
-    assert cases.answers[-1].endswith(": prints steps 999 idle 0 commits 0 back 0 over 250 / thread 0 done 0 / kept")
+    for count, steps, over in ((500, 999, 250), (256, 511, 128)):
+        tree = jobs.balanced(addp, valp(-2147483648), count)
+        report("over", an_input(job(tree)), picks=[0] * steps)
+        assert cases.answers[-1].endswith(": prints steps %d idle 0 commits 0 back 0 over %d / thread 0 done 0 / kept" % (steps, over))
 
 
 def check():
@@ -861,7 +936,7 @@ def check():
     assert set(range(32)) <= set(seen["places of 1"])
     for number, place in ((2, 0), (3, 3), (4, 5)):
         assert set(seen["places of %d" % number]) == {place}
-    for number, least in ((5, 10), (6, 10), (7, 10), (8, 5), (9, 10)):
+    for number, least in ((5, 10), (6, 10), (7, 10), (8, 5), (9, 10), (14, 2)):
         assert len(seen["places of %d" % number]) >= least, (number, seen["places of %d" % number])
     assert set(seen["damage of code"]) == set(CODE_DAMAGE) and min(seen["damage of code"].values()) >= 5
     assert set(seen["event"]) == set(seen["event in a run"]) == set(range(11))
@@ -877,7 +952,7 @@ def check():
     for kind in ("high", "outside", "blank", "lower", "higher", "counted", "dropped"):
         assert seen["note"][kind] >= 3, (kind, seen["note"])
     for name in ("short", "longer", "steps", "idle", "commits", "back", "over", "thread open", "thread negative", "thread least", "thread of two digits",
-                 "register negative", "register least", "register of two digits", *("refused %d" % n for n in (1, 2, 3, 4, 5, 6, 7, 8, 9, 13))):
+                 "register negative", "register least", "register of two digits", *("refused %d" % n for n in (1, 2, 3, 4, 5, 6, 7, 8, 9, 13, 14))):
         assert seen["report"][name] >= 1, (name, seen["report"])
 
 
@@ -888,7 +963,7 @@ def main(seed=SEED, folder=HERE):
         cases.lines += stated.cases.lines + [""]
         cases.answers += stated.cases.answers
     cases.lines.append("# Random cases of every call.")
-    for part in (the_jobs, the_damaged_jobs, the_codes, the_damaged_codes, the_states, the_calls, the_inputs, the_large, the_forecasts, the_overs):
+    for part in (the_jobs, the_damaged_jobs, the_codes, the_damaged_codes, the_states, the_calls, the_inputs, the_large, the_forecasts, the_overs, the_long):
         part()
     check()
     cases.save(folder, ROOM)

@@ -99,6 +99,7 @@ def read_job(data):
         return refused(4, 5)
     # the nodes that are due, the next one last: what is permitted there, and its depth
     due = [(PROCESS, 1)]
+    transactions = []  # of each its ATOMIC's place and how many nodes it holds
     at, used, forks, code = 7, 0, 0, 5
     while due:
         permitted, depth = due.pop()
@@ -120,6 +121,10 @@ def read_job(data):
             forks += 1
             if forks == 16:
                 return refused(8, at)
+        if kind == ATOMIC_KIND:
+            transactions.append([at, 0])
+        elif kind in TRANSACTION:
+            transactions[-1][1] += 1
         for part in reversed(parts):
             due.append((part, depth + 1))
         at += 1 + size
@@ -127,6 +132,9 @@ def read_job(data):
         code += own
     if used != count or at != length:
         return refused(9, at)
+    for place, held in transactions:
+        if held > 200:
+            return refused(14, place)
     return accepted(code)
 
 
@@ -364,6 +372,11 @@ def chain(node, times, tree):
 
 def write0(t):
     return write(0, t)
+
+
+def sized(size):
+    """A transaction of so many nodes: a sum of READs, or a WRITE of one."""
+    return balanced(addt, read(5), (size + 1) // 2) if size % 2 else write0(sized(size - 1))
 
 
 # ---- the cases
@@ -651,15 +664,17 @@ def the_lengths():
 
 def the_sizes():
     section("1,000 and 1,001 nodes")
-    values = balanced(addp, V, 499)
-    assert nodes(READS) == 1000 and nodes(values) == 997
-    taken("1000 nodes, 500 of them READs", READS)
+    values, small = balanced(addp, V, 499), balanced(addp, atomic(read(5)), 333)
+    assert nodes(READS) == 1000 and nodes(values) == 997 and nodes(small) == 998
+    taken("1000 nodes, 496 of them READs", READS)
     taken("1000 nodes, most of them processes", addp(values, atomic(T)))
+    taken("1000 nodes, 333 of them ATOMICs", chain(fork, 2, small))
     over = balanced(addp, atomic(read(5)), 334)
     assert nodes(over) == 1001
     case("1001 nodes, and the count says so", job(over), refused(4, 5))
     case("1001 nodes, and the count says 1000", job(over, count=1000), refused(9, 7 + 333 + 334 * 3 - 2))
     case("999 nodes, and the count says 1000", job(balanced(addp, V, 500), count=1000), refused(9, 3006))
+    case("999 nodes, 333 of them ATOMICs, and the count says 1000", job(fork(small), count=1000), refused(9, 7 + 1 + 332 + 333 * 3))
 
 
 def the_first_of_two():
@@ -674,14 +689,73 @@ def the_first_of_two():
     case("FORK in a transaction is no sixteenth", head(17) + FORKS + b"\x03\x04", refused(5, 23))
 
 
+def the_transactions():
+    section("14: transactions of 200 and 201 nodes")
+    taken("200 nodes in a transaction", atomic(FULL))
+    for label, full, over in LENGTHS:
+        assert nodes(full) == 200 and nodes(over) == 201
+        case("201 nodes in a transaction, %s" % label, job(atomic(over)), refused(14, 7))
+    case("239 nodes in a transaction, to depth 64", job(atomic(chain(lambda t: addt(t, read(5)), 56, sized(127)))), refused(14, 7))
+    case("301 nodes in a transaction", job(atomic(sized(301))), refused(14, 7))
+    section("14: each transaction is counted by itself")
+    long = encode(atomic(TOO_LONG))
+    assert (len(long), len(encode(atomic(FULL)))) == (303, 302)
+    taken("150 and 150 nodes", addp(atomic(sized(150)), atomic(sized(150))))
+    taken("101 and 100 nodes", addp(atomic(sized(101)), atomic(sized(100))))
+    taken("200 nodes in a transaction, 15 FORKs above it", chain(fork, 15, atomic(FULL)))
+    taken("200 nodes in a transaction, sums above it", chain(lambda p: addp(p, V), 50, atomic(FULL)))
+    taken("200 nodes in each of a FORK's child and its thread", addp(fork(atomic(FULL)), atomic(FULL)))
+    section("14: the place is that of the first one")
+    for label, tree, place in (
+        ("as right part", addp(V, atomic(TOO_LONG)), 13),
+        ("before a short one", addp(atomic(TOO_LONG), atomic(read(1))), 8),
+        ("behind a short one", addp(atomic(read(1)), atomic(TOO_LONG)), 11),
+        ("behind one of 200", addp(atomic(FULL), atomic(TOO_LONG)), 310),
+        ("twice", addp(atomic(TOO_LONG), atomic(TOO_LONG)), 8),
+        ("twice, the second being longer", addp(atomic(TOO_LONG), atomic(sized(301))), 8),
+        ("in a FORK's child", fork(atomic(TOO_LONG)), 8),
+        ("in the child of a FORK's child", fork(addp(V, fork(atomic(TOO_LONG)))), 15),
+        ("in a FORK's child, behind a short one in another", addp(fork(atomic(read(1))), fork(atomic(TOO_LONG))), 13),
+        ("in a FORK's child, and behind it", addp(fork(atomic(TOO_LONG)), atomic(TOO_LONG)), 9),
+        ("behind a FORK's child with a short one", addp(fork(atomic(read(1))), atomic(TOO_LONG)), 12),
+    ):
+        case("a long transaction " + label, job(tree), refused(14, place))
+    section("14 comes behind all tests for 1 to 9")
+    behind = b"\x02" + long  # the next node is at 311
+    case("a long transaction, another first byte", b"w" + job(atomic(TOO_LONG))[1:], refused(2, 0))
+    case("a long transaction, version 2", job(atomic(TOO_LONG), version=2), refused(3, 3))
+    case("a long transaction, count 0", job(atomic(TOO_LONG), count=0), refused(4, 5))
+    case("a long transaction, count 1001", job(atomic(TOO_LONG), count=1001), refused(4, 5))
+    case("a long transaction and a byte behind the tree", job(atomic(TOO_LONG)) + b"\x00", refused(9, 310))
+    case("a long transaction, count one above", job(atomic(TOO_LONG), count=203), refused(9, 310))
+    case("a long transaction, count one below", job(atomic(TOO_LONG), count=201), refused(9, 308))
+    case("register 64 in a long transaction", job(atomic(flat(addt, [read(5)] * 100 + [read(64)]))), refused(6, 309))
+    case("a long transaction, then count used up", head(203) + behind + encode(V), refused(9, 311))
+    case("a long transaction, then no byte", head(300) + behind, refused(1, 311))
+    case("a long transaction, then the number cut", head(300) + behind + b"\x01\x00\x00\x00", refused(1, 315))
+    case("a long transaction, then kind 9", head(300) + behind + b"\x09", refused(5, 311))
+    case("a long transaction, then register 64", head(300) + behind + b"\x03\x07\x40", refused(6, 313))
+    case("a long transaction, then a node at depth 65", head(300) + behind + DEEP[1:] + b"\x01", refused(7, 374))
+    case("a long transaction, then a sixteenth FORK", head(300) + behind + FORKS + b"\x04", refused(8, 326))
+
+
 WHOLE = addp(STEP, STEP)
 WHOLE_CODE = "57 53 43 00 01" + 2 * "07 00 0C 05 03 00 01 00 00 00 01 02 04 00 06" + "02"
 ONE_CODE = "57 53 43 00 01 01 00 00 00 07"
 P = "01 00 00 00 07"  # the code of V, and in a transaction of T
-READS = atomic(balanced(addt, read(5), 500))
+FULL = sized(200)
+TOO_LONG = sized(201)
+# shapes of transactions, of 200 and of 201 nodes
+LENGTHS = (
+    ("sums", FULL, TOO_LONG),
+    ("the left part being the deep one", *(chain(lambda t: addt(t, read(5)), 50, sized(n)) for n in (100, 101))),
+    ("the right part being the deep one", *(chain(lambda t: addt(read(5), t), 50, sized(n)) for n in (100, 101))),
+    ("WRITEs in each other", *(flat(addt, [chain(write0, n, read(5)) for n in (48, 48, k, 49)]) for k in (48, 49))),
+)
+READS = flat(addp, [atomic(FULL)] * 4 + [atomic(sized(191))])
 LONG = fork(balanced(addp, valp(-2), 500))
-# 161 transactions, one of them of 485 nodes, and 16 threads
-MILLION = flat(addp, [fork(atomic(read(1)))] * 15 + [atomic(read(1))] * 145 + [atomic(balanced(addt, read(2), 243))])
+# 1000 nodes: 262 transactions, one of them of 200 nodes, and 16 threads
+BOUND = flat(addp, [fork(atomic(read(1)))] * 15 + [atomic(read(1))] * 245 + [atomic(write(1, read(1))), atomic(FULL)])
 FEW = addp(fork(left_comb(addp, valp(258), 50)), V)  # its child's code has 299 bytes
 MANY = addp(fork(addp(atomic(read(1)), left_comb(addp, valp(258), 51))), V)  # and here 310
 
@@ -707,6 +781,7 @@ def there():
         ("depth", job(left_comb(addp, V, 65)), refused(7, 71)),
         ("forks", job(chain(fork, 16, V)), refused(8, 22)),
         ("length", job(WHOLE) + b"\x00", refused(9, 32)),
+        ("long transaction", job(atomic(TOO_LONG)), refused(14, 7)),
     ):
         compiling("refused for its " + label, 6000, data, answer)
         compiling("refused for its " + label, 0, data, answer)
@@ -750,7 +825,13 @@ def there_and_back():
     both("15 FORKs and sums to depth 64", chain(fork, 15, left_comb(addp, V, 49)))
     both("15 FORKs in each other", chain(fork, 15, V))
     both("15 FORKs side by side", balanced(addp, fork(V), 15))
-    both("1000 nodes, 500 of them READs", READS)
+    for label, full, _ in LENGTHS:
+        both("200 nodes in a transaction, %s" % label, atomic(full))
+    compiling("200 nodes in a transaction, no output", 0, job(atomic(FULL)), refused(10, 0))
+    both("101 nodes in a transaction, 100 in a FORK's", addp(atomic(sized(101)), fork(atomic(sized(100)))))
+    both("1000 nodes, 496 of them READs", READS)
+    compiling("1000 nodes, 496 of them READs, an output one short", len(whole(READS)) - 1, job(READS), refused(10, 0))
+    back("1000 nodes, 496 of them READs, an output one short", len(job(READS)) - 1, whole(READS), refused(10, 0))
     assert nodes(LONG) == 1000 and len(whole(LONG)) == 3007  # no code is longer
     compiling("1000 nodes, an output one short", 3006, job(LONG), refused(10, 0))
     compiling("1000 nodes, the longest code", 6000, job(LONG), whole(LONG))
@@ -784,9 +865,11 @@ def the_forecasts():
         ("15 FORKs in each other", chain(fork, 15, V), (55, 0, 16, 16, 0, 16, [], [], [1] * 16)),
         ("15 FORKs side by side", balanced(addp, fork(V), 15), (139, 0, 16, 44, 0, 44, [], [], [5] + [1] * 15)),
         ("every register", flat(addp, [atomic(write(63 - v, read(v))) for v in range(64)]), (452, 64, 1, 319, 4, 319, list(range(64)), list(range(64)), [7])),
-        ("a bound above a million", MILLION, (1580, 161, 16, 1142, 487, 1169942, [1, 2], [], [17] + [1] * 15)),
+        ("200 nodes in a transaction", atomic(FULL), (308, 1, 1, 202, 202, 202, [5], [0], [8])),
+        ("100 nodes in a FORK's transaction, 101 in its thread's", addp(fork(atomic(sized(100))), atomic(sized(101))), (316, 2, 2, 207, 103, 310, [5], [0], [8, 7])),
+        ("the greatest bound", BOUND, (1660, 262, 16, 1262, 202, 792092, [1, 5], [0, 1], [17] + [1] * 15)),
         ("1000 nodes, the longest code", LONG, (3007, 0, 2, 1000, 0, 1000, [], [], [1, 10])),
-        ("1000 nodes in one transaction", READS, (1506, 1, 1, 1001, 1001, 1001, [5], [], [10])),
+        ("1000 nodes in five transactions", READS, (1510, 5, 1, 1005, 202, 1005, [5], [0], [11])),
     ):
         foretold(label, job(tree), answer)
     section("forecasts: a refused job")
@@ -802,6 +885,9 @@ def the_forecasts():
         ("forks", job(chain(fork, 16, V)), refused(8, 22)),
         ("bytes left over", job(WHOLE) + b"\x00", refused(9, 32)),
         ("nodes left over", job(WHOLE, count=14), refused(9, 32)),
+        ("a long transaction", job(atomic(TOO_LONG)), refused(14, 7)),
+        ("a long transaction in a FORK's child", job(addp(V, fork(atomic(TOO_LONG)))), refused(14, 14)),
+        ("a long transaction and a byte behind it", job(atomic(TOO_LONG)) + b"\x00", refused(9, 310)),
     ):
         foretold("refused, " + label, data, answer)
 
@@ -915,7 +1001,7 @@ def foreign_lengths():
 
 
 def foreign_sizes():
-    section("foreign code: 1,001 nodes, depth 65, sixteen FORKs")
+    section("foreign code: 1,001 nodes, depth 65, sixteen FORKs, 201 nodes in a transaction")
     over = balanced(addp, atomic(read(5)), 334)
     assert nodes(over) == 1001
     foreign("1001 nodes", whole(over), 6000)
@@ -933,6 +1019,11 @@ def foreign_sizes():
     foreign("16 FORKs in each other", whole(chain(fork, 16, V)))
     foreign("16 FORKs side by side", whole(balanced(addp, fork(V), 16)), 1000)
     foreign("16 FORKs, in each other and side by side", whole(addp(chain(fork, 8, V), chain(fork, 8, V))))
+    for label, _, over in LENGTHS:
+        foreign("201 nodes in a transaction, %s" % label, whole(atomic(over)), 1000)
+    foreign("201 nodes in the transaction of a FORK's child", whole(addp(V, fork(atomic(TOO_LONG)))), 1000)
+    foreign("201 nodes in a transaction behind one of 200", whole(addp(atomic(FULL), atomic(TOO_LONG))), 1000)
+    foreign("201 nodes in a transaction before a short one", whole(addp(atomic(TOO_LONG), atomic(read(1)))), 1000)
     foreign("257 numbers and no sum", 257 * P, 6000)
     section("foreign code comes before a short output")
     foreign("no bytes", b"", 0)
@@ -942,6 +1033,7 @@ def foreign_sizes():
     foreign("the whole case and a byte 0", bytes.fromhex(WHOLE_CODE) + b"\x00", 0)
     foreign("ADDP left comb of depth 65", whole(left_comb(addp, V, 65)), 0)
     foreign("16 FORKs in each other", whole(chain(fork, 16, V)), 0)
+    foreign("301 nodes in a transaction", whole(atomic(sized(301))), 0)
 
 
 def the_text():
@@ -982,6 +1074,7 @@ def make():
         the_lengths,
         the_sizes,
         the_first_of_two,
+        the_transactions,
         there,
         there_and_back,
         the_forecasts,

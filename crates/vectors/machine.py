@@ -520,6 +520,28 @@ def the_sizes():
     case("run 62 WRITEs in each other", atomic(chain(lambda t: write(9, t), 62, valt(4))), picks="0*65", says=ran(65, 0, 1, 0, "thread 0 done 4", "register 9 4"))
 
 
+def the_transactions():
+    section("a transaction of 200 nodes: a WRITE to register 0 of the sum of 100 READs of register 5")
+    full = atomic(jobs.FULL)
+    end = ("thread 0 done 300", "register 0 300", "register 5 3")
+    case("fresh 200 nodes", full, says="laid, thread 0 open")
+    case("run 200 nodes to the end", full, picks="0*202", says=ran(202, 0, 1, 0, "thread 0 done 0"))
+    case("run 200 nodes, register 5 being 3", full, "0", "register 5 3", "0*202", says=ran(201, 1, 1, 0, *end))
+    case("run 200 nodes up to COMMIT", full, picks="0*201", says=ran(201, 0, 0, 0, "thread 0 open"))
+    case("step 200 nodes, COMMIT", full, "0*201", picks="0", says=stepped(9, 0, 1, "thread 0 done 0"))
+    case("run 200 nodes, sent back once", full, "0*201", "register 5 3", "0*203", says=ran(203, 0, 1, 1, *end))
+    other = addp(fork(atomic(write(5, valt(3)))), full)
+    case("run 200 nodes, sent back by another thread", other, picks="0*202 1*4 0*204", says=ran(410, 0, 2, 1, end[0], "thread 1 done 3", *end[1:]))
+    case("run 200 nodes in a FORK's child", fork(full), picks="0 1*202", says=ran(203, 0, 1, 0, "thread 0 done 0", "thread 1 done 0"))
+    section("code of a transaction of 201 nodes: 11")
+    long = atomic(jobs.TOO_LONG)
+    for label, tree in (("", long), (" in a FORK's child", fork(long))):
+        for command, picks in (("fresh", ""), ("step", "0"), ("run", "0*3")):
+            case("%s 201 nodes%s" % (command, label), whole(tree), picks=picks, says="refused 11 at 0 kept")
+    case("run 201 nodes, long list", whole(long), changes="records 15", picks="0*32769", says="refused 11 at 0 kept")
+    case("fresh 201 nodes and 15 records", whole(long), changes="records 15", says="refused 11 at 0 kept")
+
+
 def the_overs():
     most, least = 2147483647, -2147483648
     section("sums outside transactions that leave the range")
@@ -544,6 +566,7 @@ def the_overs():
         case("step %d + %d" % (a, b), addp(valp(a), valp(b)), "0*2", picks="0", says=stepped(2, 0, 1, "thread 0 done %d" % total, over=over))
     case("run a sum of a child", fork(addp(valp(most), valp(1))), picks="0 1*3", says=ran(4, 0, 0, 0, "thread 0 done 0", "thread 1 done -2147483648", over=1))
     case("run 500 least numbers", jobs.balanced(addp, valp(least), 500), picks="0*999", says=ran(999, 0, 0, 0, "thread 0 done 0", over=250))
+    case("run 64 least numbers", jobs.balanced(addp, valp(least), 64), picks="0*127", says=ran(127, 0, 0, 0, "thread 0 done 0", over=32))
     section("sums in transactions that leave the range: counted when the attempt takes effect")
     one = atomic(addt(valt(most), valt(1)))
     two = atomic(addt(addt(valt(most), valt(1)), valt(-1)))
@@ -890,5 +913,5 @@ def the_random():
 
 def make():
     lines.append("# Calls of fresh, step and run on states, written by cases.py.")
-    for part in (the_whole_case, fresh_states, the_order, the_events, the_sizes, the_overs, the_table, the_cuts, the_lines, the_random):
+    for part in (the_whole_case, fresh_states, the_order, the_events, the_sizes, the_transactions, the_overs, the_table, the_cuts, the_lines, the_random):
         part()

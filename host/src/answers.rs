@@ -5,9 +5,9 @@ use std::fmt;
 /// Why a call was turned down. Nothing that was lent to it is altered.
 #[derive(Clone, Copy, PartialEq, Eq, Hash, Debug)]
 pub struct Refusal {
-    /// 1 to 13.
+    /// 1 to 14.
     pub number: u8,
-    /// A byte offset in the job for 1 to 9, else 0.
+    /// A byte offset in the job for 1 to 9 and 14, else 0.
     pub place: usize,
 }
 
@@ -37,6 +37,7 @@ impl Refusal {
             11 => ("foreign code", "No accepted job compiles to this code."),
             12 => ("foreign state", "The state does not fit the code."),
             13 => ("long list", "There are more than 32,768 picks."),
+            14 => ("long transaction", "The transaction has more than 200 nodes."),
             _ => ("unknown", "The library gave a number that is not known here."),
         }
     }

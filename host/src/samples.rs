@@ -90,6 +90,11 @@ impl Shape {
         self.process(rng, self.nodes, self.room)
     }
 
+    /// One transaction of all the nodes, ATOMIC not counted.
+    pub fn atomic(mut self, rng: &mut Rng) -> Process {
+        Process::Atomic(Box::new(self.transaction(rng, self.nodes, self.room - 1)))
+    }
+
     fn process(&mut self, rng: &mut Rng, nodes: usize, room: usize) -> Process {
         if nodes == 1 {
             return Process::Val(rng.number());

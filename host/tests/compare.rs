@@ -18,6 +18,8 @@ const CASES: u64 = 20_000;
 const ENOUGH: u64 = 5_000;
 /// So many differences of a call are shown.
 const SHOWN: u64 = 5;
+/// Codes that are refused for a transaction alone.
+const LONG_CODE: &str = "refused 11: a long transaction";
 
 struct Call {
     name: &'static str,
@@ -43,15 +45,25 @@ const CALLS: [Call; 8] = [
             "refused 08",
             "refused 09",
             "refused 10",
+            "refused 14",
             "taken: 1,000 nodes",
             "taken: depth 64",
             "taken: 15 FORKs",
             "taken: register 63",
             "taken: 3,007 bytes",
+            "taken: 200 nodes in a transaction",
         ],
     },
-    Call { name: "read_back", case: read_back, reaches: &["accepted", "refused 10", "refused 11"] },
-    Call { name: "fresh", case: fresh, reaches: &["accepted", "refused 11", "refused 12"] },
+    Call {
+        name: "read_back",
+        case: read_back,
+        reaches: &["accepted", "refused 10", "refused 11", "taken: 200 nodes in a transaction", LONG_CODE],
+    },
+    Call {
+        name: "fresh",
+        case: fresh,
+        reaches: &["accepted", "refused 11", "refused 12", "taken: 200 nodes in a transaction", LONG_CODE],
+    },
     Call {
         name: "step",
         case: step,
@@ -79,6 +91,7 @@ const CALLS: [Call; 8] = [
             "over: a lent note sent back",
             "state with another note: fits",
             "state with a note too high: 12",
+            "state and code of a long transaction: 11",
         ],
     },
     Call {
@@ -103,6 +116,7 @@ const CALLS: [Call; 8] = [
             "over: a lent note sent back",
             "state with another note: fits",
             "state with a note too high: 12",
+            "state and code of a long transaction: 11",
         ],
     },
     Call {
@@ -127,6 +141,7 @@ const CALLS: [Call; 8] = [
             "prints refused 08",
             "prints refused 09",
             "prints refused 13",
+            "prints refused 14",
         ],
     },
     Call {
@@ -143,6 +158,7 @@ const CALLS: [Call; 8] = [
             "refused 07",
             "refused 08",
             "refused 09",
+            "refused 14",
             "told: 1,000 nodes",
             "told: 3,007 bytes",
             "told: 16 threads",
@@ -152,6 +168,7 @@ const CALLS: [Call; 8] = [
             "told: READ of register 63",
             "told: WRITE of register 63",
             "told: bound above 10,000",
+            "told: 200 nodes in a transaction",
         ],
     },
     Call {
@@ -161,6 +178,7 @@ const CALLS: [Call; 8] = [
             "job any",
             "job at a limit",
             "job contested",
+            "job of full transactions",
             "job tall",
             "picks all of a thread",
             "picks in turns",
@@ -211,13 +229,29 @@ impl Tally {
         }
     }
 
+    /// What became of a code, `long` being one made with a transaction that is too long.
+    fn code(&mut self, code: &[u8], long: bool, refusal: usize) -> Result<(), String> {
+        if long && refusal != 11 {
+            return Err(format!("code of a long transaction is answered with {refusal}: {}", hex(code)));
+        }
+        self.refusal(refusal);
+        self.add_if(long, LONG_CODE);
+        self.add_if(refusal == 0 && longest_transaction(code) == 200, "taken: 200 nodes in a transaction");
+        Ok(())
+    }
+
     /// What became of a state; some are made so that they fit, and some so that they do not.
     fn scene(&mut self, what: &str, refusal: usize) -> Result<(), String> {
         if FITTING.contains(&what) && refusal != 0 {
             return Err(format!("a state is refused with {refusal} that was made to fit: {what}"));
         }
-        if what == TOO_HIGH && refusal != 12 {
-            return Err(format!("a state is taken that was made not to fit: {what}"));
+        let expected = match what {
+            TOO_HIGH => 12,
+            TOO_LONG => 11,
+            _ => refusal,
+        };
+        if refusal != expected {
+            return Err(format!("a state that was made for {expected} is answered with {refusal}: {what}"));
         }
         match refusal {
             0 => self.add(&format!("state {what}: fits"), 1),
@@ -275,7 +309,7 @@ fn main() {
         }
         println!("{}: {cases} cases, {differing} differences, {:.1} s", call.name, started.elapsed().as_secs_f64());
         for (what, count) in &tally.0 {
-            println!("    {what:<32} {count:>10}");
+            println!("    {what:<42} {count:>10}");
         }
         for what in call.reaches.iter().filter(|&&what| cases >= ENOUGH && tally.of(what) == 0) {
             println!("    NOT REACHED: {what}");
@@ -320,6 +354,7 @@ fn compile(rng: &mut Rng, tally: &mut Tally) -> Result<(), String> {
             ("taken: 15 FORKs", tree.forks() == 15),
             ("taken: register 63", instructions(&tree.code()).iter().any(|&at| names(&tree.code()[at..], 63))),
             ("taken: 3,007 bytes", answer.length == 3_007),
+            ("taken: 200 nodes in a transaction", longest_transaction(&tree.code()) == 200),
         ];
         for (limit, met) in limits {
             tally.add_if(met, limit);
@@ -328,13 +363,28 @@ fn compile(rng: &mut Rng, tally: &mut Tally) -> Result<(), String> {
     Ok(())
 }
 
+/// The most nodes of a transaction of a tree's code, ATOMIC not counted; 0 if there is none.
+fn longest_transaction(code: &[u8]) -> usize {
+    let mut longest = 0;
+    let mut inside = 0;
+    for at in instructions(code) {
+        match code[at] {
+            5 => inside = 0,
+            6 => longest = longest.max(inside),
+            _ => inside += 1,
+        }
+    }
+    longest
+}
+
 /// Whether it is READ or WRITE of the register.
 fn names(instruction: &[u8], register: u8) -> bool {
     matches!(instruction, &[3 | 4, named, ..] if named == register)
 }
 
 fn read_back(rng: &mut Rng, tally: &mut Tally) -> Result<(), String> {
-    let code = any_code(rng);
+    let long = rng.one_in(40);
+    let code = if long { long_tree(rng).code() } else { any_code(rng) };
     let answer = outputs(
         rng,
         &code,
@@ -344,8 +394,7 @@ fn read_back(rng: &mut Rng, tally: &mut Tally) -> Result<(), String> {
             ("library", &|code, out| raw::read_back(code, out)),
         ],
     )?;
-    tally.refusal(answer.refusal);
-    Ok(())
+    tally.code(&code, long, answer.refusal)
 }
 
 fn report(rng: &mut Rng, tally: &mut Tally) -> Result<(), String> {
@@ -450,6 +499,7 @@ fn forecast(rng: &mut Rng, tally: &mut Tally) -> Result<(), String> {
             ("told: READ of register 63", answer.reads >> 63 == 1),
             ("told: WRITE of register 63", answer.writes >> 63 == 1),
             ("told: bound above 10,000", answer.bound > 10_000),
+            ("told: 200 nodes in a transaction", answer.longest == 202),
         ] {
             tally.add_if(met, what);
         }
@@ -526,7 +576,8 @@ impl Memory {
 type Lent = (usize, usize);
 
 fn fresh(rng: &mut Rng, tally: &mut Tally) -> Result<(), String> {
-    let code = any_code(rng);
+    let long = rng.one_in(40);
+    let code = if long { long_tree(rng).code() } else { any_code(rng) };
     let garbage = State { registers: [0; 64].map(|_: i32| rng.draw() as i32), threads: [garbage(rng); 16] };
     let lent = if rng.one_in(4) { wrong_counts(rng) } else { (64, 16) };
     let answer = states(
@@ -540,8 +591,7 @@ fn fresh(rng: &mut Rng, tally: &mut Tally) -> Result<(), String> {
         |reply| reply.refusal,
         || format!("code {}", hex(&code)),
     )?;
-    tally.refusal(answer.refusal);
-    Ok(())
+    tally.code(&code, long, answer.refusal)
 }
 
 fn step(rng: &mut Rng, tally: &mut Tally) -> Result<(), String> {
@@ -792,6 +842,7 @@ fn finished(rng: &mut Rng, tally: &mut Tally) -> Result<(), String> {
         0 | 1 => ("job contested", contested(rng)),
         2 => ("job at a limit", accepted(rng, limit_tree)),
         3 if rng.one_in(8) => ("job tall", accepted(rng, tall)),
+        3 if rng.one_in(4) => ("job of full transactions", full_tree(rng)),
         _ => ("job any", accepted(rng, any_tree)),
     };
     let job = tree.job();
@@ -1080,7 +1131,7 @@ fn any_tree(rng: &mut Rng) -> Process {
         nodes,
         room: rng.choose(&[11, 20, 64, 64]),
         forks: rng.choose(&[0, 2, 4, 15]),
-        transaction: rng.choose(&[12, 1_000]),
+        transaction: rng.choose(&[12, 200]),
         registers: rng.between(1, 4),
         lean: rng.choose(&[Lean::Even, Lean::Left, Lean::Right, Lean::Any]),
     };
@@ -1094,7 +1145,7 @@ fn any_tree(rng: &mut Rng) -> Process {
 
 /// A tree at one of the limits: on either side of it, or on the last step before it.
 fn limit_tree(rng: &mut Rng) -> Process {
-    match rng.below(17) {
+    match rng.below(19) {
         0 if rng.one_in(2) => {
             // 1,000 nodes with the longest code
             let forks = rng.choose(&[1, 3, 15]);
@@ -1109,7 +1160,7 @@ fn limit_tree(rng: &mut Rng) -> Process {
             let nodes = rng.between(999, 1_001);
             let lean = rng.choose(&[Lean::Even, Lean::Left, Lean::Right, Lean::Any]);
             let forks = rng.choose(&[0, 15]);
-            Shape { nodes, room: 64, forks, transaction: 1_000, registers: 3, lean }.tree(rng)
+            Shape { nodes, room: 64, forks, transaction: 200, registers: 3, lean }.tree(rng)
         }
         1..=7 => {
             let depth = rng.between(63, 66);
@@ -1128,6 +1179,8 @@ fn limit_tree(rng: &mut Rng) -> Process {
             }
             tree
         }
+        12 => full_tree(rng),
+        13 => long_tree(rng),
         _ => {
             let far = rng.choose(&[62, 63, 64, 65, 127, 128, 255]);
             let near = rng.choose(&[0, 63]);
@@ -1139,6 +1192,44 @@ fn limit_tree(rng: &mut Rng) -> Process {
             let beside = any_tree(rng);
             Process::Add(Box::new(Process::Atomic(Box::new(t))), Box::new(beside))
         }
+    }
+}
+
+/// A tree with a transaction of 200 nodes, and perhaps another of nearly so many.
+fn full_tree(rng: &mut Rng) -> Process {
+    let other = rng.between(190, 200);
+    with_transactions(rng, &[200, other])
+}
+
+/// A tree that is turned down only for a transaction of more than 200 nodes, or two; others may have 200 or fewer.
+fn long_tree(rng: &mut Rng) -> Process {
+    let long = rng.choose(&[201, 201, 202, 300]);
+    let other = rng.choose(&[20, 200, 201, 300]);
+    with_transactions(rng, &[long, other])
+}
+
+/// A tree with a transaction of the first number of nodes, ATOMIC not counted, perhaps one of the second, and small
+/// processes.
+fn with_transactions(rng: &mut Rng, nodes: &[usize; 2]) -> Process {
+    let mut parts = Vec::new();
+    for &nodes in &nodes[..rng.between(1, 2)] {
+        let lean = rng.choose(&[Lean::Even, Lean::Left, Lean::Right, Lean::Any]);
+        let room = rng.choose(&[12, 30, 56]);
+        parts.push(Shape { nodes, room, forks: 0, transaction: nodes, registers: 3, lean }.atomic(rng));
+    }
+    for _ in 0..rng.below(4) {
+        let nodes = rng.between(1, 9);
+        parts.push(Shape { nodes, room: 20, forks: 2, transaction: 9, registers: 3, lean: Lean::Any }.tree(rng));
+    }
+    for i in 1..parts.len() {
+        parts.swap(i, rng.below(i + 1));
+    }
+    let parts = parts.into_iter().map(|part| if rng.one_in(3) { Process::Fork(Box::new(part)) } else { part });
+    let tree = sum(parts.collect());
+    if rng.one_in(4) {
+        Process::Fork(Box::new(tree))
+    } else {
+        tree
     }
 }
 
@@ -1439,6 +1530,8 @@ const NOTED: &str = "with another note";
 const FITTING: [&str; 6] = [REACHED, FREE, RENUMBERED, MADE, BUSY, NOTED];
 /// States that do not, by the note alone.
 const TOO_HIGH: &str = "with a note too high";
+/// States that would fit their code if its transactions were not too long.
+const TOO_LONG: &str = "and code of a long transaction";
 
 /// A state that picks reached, or one made up from the rules, perhaps altered, for its code or another one.
 fn any_scene(rng: &mut Rng) -> Scene {
@@ -1448,7 +1541,7 @@ fn any_scene(rng: &mut Rng) -> Scene {
     let what = if made { MADE } else { REACHED };
     let mut scene = Scene { what, code, state, lent: (64, 16) };
     let Scene { what, code, state, lent } = &mut scene;
-    match rng.below(22) {
+    match rng.below(23) {
         0..=5 => {}
         6 | 7 => {
             *what = FREE;
@@ -1489,6 +1582,11 @@ fn any_scene(rng: &mut Rng) -> Scene {
             let i = rng.below(state.existing() + 1).min(15);
             let most = adds_passed(code, &state.threads[i]);
             state.threads[i].over = rng.choose(&[most + 1, most + 1, most + 2, most + 64, usize::MAX]);
+        }
+        21 => {
+            *what = TOO_LONG;
+            *code = long_tree(rng).code();
+            *state = make_up(rng, code);
         }
         _ => {
             *what = "and other code";

@@ -1,9 +1,9 @@
-//! The cases of documents 01 and 02, and forecasts and sums counted by hand, of the library through its wrapper and of
-//! the plain implementation.
+//! The cases of documents 01 and 02, and forecasts, sums and the nodes of long transactions counted by hand, of the
+//! library through its wrapper and of the plain implementation.
 
 use kuspigo::plain::{self, tree};
 use kuspigo::samples::{chain, Lean, Rng, Shape};
-use kuspigo::{Counts, Event, Forecast, Refusal, State, Step};
+use kuspigo::{Counts, Event, Forecast, Refusal, State, Step, Thread};
 use tree::{Process, Transaction};
 
 /// Two threads each add 1 to register 0.
@@ -224,6 +224,93 @@ fn the_run_programs_refusals() {
     assert_eq!(kuspigo::report(&input).unwrap(), b"refused 13 at 0\n");
     input[2] = 0;
     assert_eq!(kuspigo::report(&input).unwrap(), b"refused 2 at 0\n");
+    let job = sum(Process::Val(1), atomic(long())).job();
+    for picks in [0, 32_769] {
+        let input = [&(job.len() as u16).to_be_bytes()[..], &job, &vec![0; picks]].concat();
+        assert_eq!(plain::listing(&input), "refused 14 at 13\n");
+        assert_eq!(kuspigo::report(&input).unwrap(), b"refused 14 at 13\n");
+    }
+}
+
+/// A transaction of 200 nodes, in 301 bytes of a job.
+fn full() -> Transaction {
+    write(0, flat_reads(100))
+}
+
+/// One of 201 nodes, in 302 bytes.
+fn long() -> Transaction {
+    flat_reads(101)
+}
+
+#[test]
+fn long_transactions() {
+    assert_eq!((full().nodes(), long().nodes()), (200, 201));
+    let compiled = |tree: Process| compiled(&tree.job()).map(|code| code.len());
+    assert_eq!(compiled(atomic(full())), Ok(5 + 303));
+    assert_eq!(compiled(atomic(long())), refused(14, 7));
+    // each is counted by itself
+    assert_eq!(compiled(sum(atomic(full()), fork(atomic(full())))), Ok(5 + 303 + 3 + 303 + 1));
+    assert_eq!(compiled(sum(atomic(flat_reads(51)), atomic(write(0, flat_reads(50))))), Ok(5 + 154 + 153 + 1));
+    // the place is the first one's
+    assert_eq!(compiled(sum(atomic(full()), atomic(long()))), refused(14, 8 + 302));
+    assert_eq!(compiled(sum(atomic(long()), atomic(full()))), refused(14, 8));
+    assert_eq!(compiled(sum(atomic(long()), atomic(flat_reads(200)))), refused(14, 8));
+    assert_eq!(compiled(sum(fork(atomic(long())), atomic(long()))), refused(14, 9));
+    assert_eq!(compiled(fork(sum(Process::Val(1), fork(atomic(long()))))), refused(14, 15));
+    // four chains of WRITEs in each other
+    let chain = |writes| (0..writes).fold(Transaction::Read(1), |tree, _| write(2, tree));
+    let four = |last| sum_inside(sum_inside(chain(48), chain(48)), sum_inside(chain(48), chain(last)));
+    assert_eq!(compiled(atomic(four(49))), Ok(5 + 2 + 193 * 2 + 4 * 2 + 3));
+    assert_eq!(compiled(atomic(four(50))), refused(14, 7));
+}
+
+#[test]
+fn long_transactions_come_behind_9_and_before_10() {
+    let job = sum(atomic(long()), Process::Val(1)).job();
+    // the number is at 311
+    assert_eq!(compiled(&job), refused(14, 8));
+    assert_eq!(compiled(&job[..315]), refused(1, 315));
+    assert_eq!(compiled(&[&job[..], &[0]].concat()), refused(9, 316));
+    let with = |at: usize, bytes: &[u8]| [&job[..at], bytes, &job[at + bytes.len()..]].concat();
+    assert_eq!(compiled(&with(5, &[0, 205])), refused(9, 316));
+    assert_eq!(compiled(&with(5, &[0, 203])), refused(9, 311));
+    assert_eq!(compiled(&with(311, &[5])), refused(5, 311));
+    assert_eq!(compiled(&with(310, &[64])), refused(6, 310));
+    let deep = (1..64).fold(Process::Val(1), |tree, _| sum(tree, Process::Val(1)));
+    assert_eq!(compiled(&sum(atomic(long()), deep).job()), refused(7, 311 + 63));
+    let forks = (0..16).fold(Process::Val(1), |tree, _| fork(tree));
+    assert_eq!(compiled(&sum(atomic(long()), forks).job()), refused(8, 311 + 15));
+    assert_eq!(kuspigo::compile_into(&atomic(long()).job(), &mut []), refused(14, 7));
+    assert_eq!(kuspigo::compile_into(&atomic(full()).job(), &mut []), refused(10, 0));
+}
+
+#[test]
+fn code_of_long_transactions() {
+    for tree in [atomic(long()), fork(atomic(long())), sum(atomic(full()), atomic(long()))] {
+        let code = tree.code();
+        for out in [&mut [0; 3_100][..], &mut []] {
+            assert_eq!(kuspigo::read_back_into(&code, out), refused(11, 0));
+            assert_eq!(plain::read_back(&code, out), refused(11, 0));
+            assert_eq!(tree::read_back(&code, out), refused(11, 0));
+        }
+        // the state that would be the fresh one
+        let mut state = State { registers: [0; 64], threads: [Thread::ABSENT; 16] };
+        state.threads[0] = Thread { start: 5, end: code.len(), place: 5, ..Thread::ABSENT };
+        let mut other = state.clone();
+        assert_eq!(State::fresh(&code), refused(11, 0));
+        assert_eq!(plain::fresh(&code, &mut other.registers, &mut other.threads), refused(11, 0));
+        assert_eq!(state.step(&code, 0), refused(11, 0));
+        assert_eq!(plain::step(&code, &mut other.registers, &mut other.threads, 0), refused(11, 0));
+        assert_eq!(ran(&mut state, &code, &[0; 32_769]), refused(11, 0));
+    }
+    // one of 200 nodes is sent back once: register 1 changes before its COMMIT
+    let code = compiled(&atomic(full()).job()).unwrap();
+    let mut state = State::fresh(&code).unwrap();
+    assert_eq!(ran(&mut state, &code, &[0; 201]).unwrap().steps, 201);
+    state.registers[1] = 3;
+    let counts = ran(&mut state, &code, &[0; 204]).unwrap();
+    assert_eq!(counts, Counts { steps: 203, idle: 1, commits: 1, back: 1, over: 0 });
+    assert_eq!((state.threads[0].result(), state.registers[0]), (Some(300), 300));
 }
 
 fn sum(left: Process, right: Process) -> Process {
@@ -394,16 +481,18 @@ fn forecasts_at_the_limits() {
     let told = forecast(&kuspigo::samples::sum(all.collect()).job()).unwrap();
     assert_eq!((told.reads.bits, told.writes.bits), (u64::MAX, u64::MAX));
 
-    // a bound above a million: 15 FORKs, 160 small transactions and a long one
-    let mut parts = vec![atomic(flat_reads(243))];
-    parts.extend((0..145).map(|_| atomic(Transaction::Read(0))));
+    // the longest transaction
+    let told = forecast(&atomic(full()).job()).unwrap();
+    assert_eq!((told.length, numbers(&told)), (5 + 303, [1, 1, 202, 202, 202]));
+
+    // the greatest bound: 1,000 nodes, among them 15 FORKs, 261 small transactions and one of 200 nodes
+    let mut parts = vec![atomic(full()), atomic(write(0, Transaction::Read(0)))];
+    parts.extend((0..245).map(|_| atomic(Transaction::Read(0))));
     parts.extend((0..15).map(|_| fork(atomic(Transaction::Read(0)))));
     let tree = kuspigo::samples::sum(parts);
     let told = forecast(&tree.job()).unwrap();
-    let nodes = 1 + 485 + 160 * 2 + 15 + 160;
-    assert_eq!(tree.nodes(), nodes);
-    assert_eq!(numbers(&told), [161, 16, nodes + 161, 487, nodes + 161 + 160 * 15 * 487]);
-    assert!(told.bound > 1_000_000);
+    assert_eq!(tree.nodes(), 1 + 200 + 260 * 2 + 3 + 15 + 261);
+    assert_eq!(numbers(&told), [262, 16, 1_262, 202, 1_262 + 261 * 15 * 202]);
 }
 
 /// A sum of so many READs, as flat as it can be.
@@ -428,11 +517,14 @@ fn forecasts_that_are_refused() {
     assert_eq!(forecast(&sixteen.job()), refused(8, 22));
     assert_eq!(forecast(&[whole_case(), vec![0]].concat()), refused(9, 32));
     assert_eq!(forecast(&whole_case()[..31]), refused(1, 31));
+    assert_eq!(forecast(&atomic(long()).job()), refused(14, 7));
+    assert_eq!(forecast(&sum(Process::Val(1), fork(atomic(long()))).job()), refused(14, 14));
+    assert_eq!(forecast(&[atomic(long()).job(), vec![0]].concat()), refused(9, 310));
 }
 
 #[test]
 fn refusals_have_words() {
-    let words: Vec<&str> = (1..=13).map(|number| Refusal { number, place: 0 }.word()).collect();
+    let words: Vec<&str> = (1..=14).map(|number| Refusal { number, place: 0 }.word()).collect();
     assert_eq!(
         words,
         [
@@ -448,7 +540,8 @@ fn refusals_have_words() {
             "short tray",
             "foreign code",
             "foreign state",
-            "long list"
+            "long list",
+            "long transaction"
         ]
     );
     let error: Box<dyn std::error::Error> = Box::new(Refusal { number: 10, place: 0 });

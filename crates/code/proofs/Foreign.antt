@@ -9,13 +9,14 @@ use native.Mathlib.Omega.{arith}
 use lib.Dec.{eqb, leb, ltb}
 use lib.ListN.{length, drop, getD}
 use Rattle.code.specs.Bytes.{codeMark, compiled, Foreign}
+use borrow.Author.Tests.{lt-ltb}
 use Rattle.code.specs.Ops.{Op, push, add, read, write, begin, commit, fork, opcodeOperand, decoded, opAt, sizeOf}
-use Rattle.code.specs.Reader.{Item, proc, tran, begun, forked, sumTop, writeTop, commitTop, childEnded, doneWith, doOp, endsAfter, endedAt, ended, readOps, within, codeMarked, readCode}
+use Rattle.code.specs.Reader.{Item, proc, tran, begun, forked, sumTop, writeTop, commitTop, childEnded, doneWith, doOp, endsAfter, endedAt, ended, readOps, sized, codeMarked, readCodeTree, shortOnly, readCode}
 use Rattle.code.proofs.Flat.{flatT, flatP, compiled-flat}
-use Rattle.code.proofs.ReadBack.{code-read, read-is-code}
+use Rattle.code.proofs.ReadBack.{code-tree-read, code-read, read-is-code}
 use Rattle.script.specs.Tree.{Tran, ValT, AddT, Read, Write, Proc, ValP, AddP, Atomic, Fork}
-use Rattle.script.specs.Count.{nodesP}
-use Rattle.script.specs.Limits.{ValuedT, ValuedP, Within}
+use Rattle.script.specs.Count.{nodesP, longestNodes}
+use Rattle.script.specs.Limits.{ValuedT, ValuedP, Sized, Within}
 use Rattle.script.specs.Bytes.{Bytes, bytes16, bytes32, nodeBytes, bytesT, bytesP, jobMark, jobBytes}
 use Rattle.script.specs.Outcome.{Outcome, refused, done, refuse, onward}
 use Rattle.script.specs.Jobs.{Job, number16}
@@ -144,9 +145,9 @@ ops-eleven (suc fuel) inside s es q bs =
     (do-eleven op inside (now .items))
     (λ next. ops-eleven fuel (next .inside) (next .items) (endsAfter op q (now .ends)) (q + sizeOf op) (drop (sizeOf op) bs)))))
 
-code-eleven : (bs : List ℕ) → Eleven (readCode bs)
-unfolding readCode
-code-eleven bs =
+code-tree-eleven : (bs : List ℕ) → Eleven (readCodeTree bs)
+unfolding readCodeTree
+code-tree-eleven bs =
     refuse-eleven
     (ltb (length bs) 5)
     _
@@ -160,7 +161,11 @@ code-eleven bs =
     (readOps (suc (length bs)) false [] [] 5 (drop 5 bs))
     _
     (ops-eleven (suc (length bs)) false [] [] 5 (drop 5 bs))
-    (λ p. refuse-eleven (not (within p)) (done (record { version = number16 bs 3; tree = p })) tt))))
+    (λ p. refuse-eleven (not (sized p)) (done (record { version = number16 bs 3; tree = p })) tt))))
+
+code-eleven : (bs : List ℕ) → Eleven (readCode bs)
+unfolding readCode
+code-eleven bs = onward-eleven (readCodeTree bs) shortOnly (code-tree-eleven bs) (λ j. refuse-eleven (ltb 200 (longestNodes (j .tree))) (done j) tt)
 
 -- code is refused by number 11 alone, and at place 0
 pub only-foreign : (bs : List ℕ) (n p : ℕ) → readCode bs ≡ refused n p → (n ≡ 11) × (p ≡ 0)
@@ -258,4 +263,10 @@ foreign-exactly bs b = (there, back (readCode bs) refl)
     back (refused n p) e f = let h = only-foreign bs n p e in cc
     back (done j) e f =
         let i = read-is-code bs j b e in
-        absurd (f (jobBytes (j .version) (j .tree)) j (job-bytes (j .version) (j .tree) (i .within .valued)) (job-is-accepted _ j (record { version = i .version; within = i .within; text = refl })) (sym (i .text)))
+        absurd (f (jobBytes (j .version) (j .tree)) j (job-bytes (j .version) (j .tree) (i .within .sized .valued)) (job-is-accepted _ j (record { version = i .version; within = i .within; text = refl })) (sym (i .text)))
+
+-- the code of a tree within document 01's limits is foreign if a transaction is too long
+pub long-is-foreign : (j : Job) → Taken (j .version) → Sized (j .tree) → 200 < longestNodes (j .tree) → Foreign (compiled j)
+unfolding readCode
+long-is-foreign j v w l =
+    foreign-exactly (compiled j) (code-bytes j (w .valued)) .0 (rw (code-tree-read j v w, lt-ltb 200 (longestNodes (j .tree)) l))

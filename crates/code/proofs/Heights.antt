@@ -154,12 +154,12 @@ child-heights (Fork p) n h = (omega (arith, height-depth p), child-heights p n (
 
 -- a stack of 64 is enough for a script within the limits
 pub height-fits : {p : Proc} → Within p → heightP p ≤ 64
-height-fits {p} w = omega (arith, height-depth p, w .flat)
+height-fits {p} w = omega (arith, height-depth p, w .sized .flat)
 
 -- and for each FORK's child in it
 pub heights-fit : {p : Proc} → Within p → AtMost 64 (heights p)
 unfolding heights
-heights-fit {p} w = (height-fits w, child-heights p 64 (w .flat))
+heights-fit {p} w = (height-fits w, child-heights p 64 (w .sized .flat))
 
 runs-tran : (n : ℕ) (t : Tran) (c : Code) (h : ℕ) → h + heightT t ≤ n → RunsIn n c (suc h) → RunsIn n (compileT t c) h
 unfolding compileT heightT Takes RunsIn
@@ -180,7 +180,7 @@ runs-proc n (Fork p) c h d l r = ((omega arith, runs-proc n p ε 0 (omega arith)
 -- the code of a script within the limits, and each FORK's child in it, runs in a stack of 64 and ends with one number on it
 pub runs-in-64 : {p : Proc} → Within p → RunsIn 64 (compileP p ε) 0
 unfolding RunsIn
-runs-in-64 {p} w = runs-proc 64 p ε 0 (w .flat) (omega (arith, height-fits w)) refl
+runs-in-64 {p} w = runs-proc 64 p ε 0 (w .sized .flat) (omega (arith, height-fits w)) refl
 
 -- ---- what code that runs from a height in n cells has: each instruction finds what it takes, no height is above n, one number is left
 module _ (n h : ℕ) (c : Code) where

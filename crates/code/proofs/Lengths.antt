@@ -30,4 +30,4 @@ pub fork-length : (j : Job) → Within (j .tree) → (child : Code) → OccursIn
 unfolding instructionsBytes
 fork-length j w child o =
     let l : length (instructionsBytes (compileP (j .tree) ε)) ≡ codeP (j .tree) = ap length (flat-proc (j .tree) ε ∙ append-nil (flatP (j .tree))) ∙ flat-lengthP (j .tree) in
-    states child (omega (arith, shorter o, l, code-small (j .tree), w .few))
+    states child (omega (arith, shorter o, l, code-small (j .tree), w .sized .few))

@@ -8,15 +8,15 @@ use lib.Dec.{eqb, leb, ltb, eqb·suc-zero}
 use lib.IntN.{ℤ}
 use lib.ListN.{length, length-append}
 use lib.Seq.{drop-at}
-use borrow.Author.Tests.{le-ltb, le-leb, eq-eqb, ne-eqb, eqb-true, leb-true, not-false}
+use borrow.Author.Tests.{le-ltb, ltb-false, le-leb, eq-eqb, ne-eqb, eqb-true, leb-true, not-false}
 use Rattle.code.specs.Bytes.{codeMark, compiled, IsCode}
 use Rattle.code.specs.Ops.{Op, push, add, read, write, begin, commit, fork, sizeOf}
-use Rattle.code.specs.Reader.{Item, proc, tran, begun, forked, valueItem, sumTop, writeTop, commitTop, childEnded, Done, doneWith, doOp, endsAfter, OpenParts, endedAt, ended, readOps, within, codeMarked, readCode}
+use Rattle.code.specs.Reader.{Item, proc, tran, begun, forked, valueItem, sumTop, writeTop, commitTop, childEnded, Done, doneWith, doOp, endsAfter, OpenParts, endedAt, ended, readOps, sized, codeMarked, readCodeTree, shortOnly, readCode}
 use Rattle.code.proofs.Flat.{flatT, flatP, compiled-flat, flat-lengthP}
 use Rattle.code.proofs.Ops.{opBytes, ValuedO, op-length, op-reads, Sees, good, bad, seen}
 use Rattle.script.specs.Tree.{Tran, ValT, AddT, Read, Write, Proc, ValP, AddP, Atomic, Fork}
-use Rattle.script.specs.Count.{nodesT, nodesP, depthP, forks, atomics, instructions, codeT, codeP}
-use Rattle.script.specs.Limits.{ValuedT, ValuedP, Within}
+use Rattle.script.specs.Count.{nodesT, nodesP, depthP, forks, atomics, instructions, longestNodes, codeT, codeP}
+use Rattle.script.specs.Limits.{ValuedT, ValuedP, Sized, Within}
 use Rattle.script.specs.Bytes.{Bytes, bytes16, bytes32}
 use Rattle.script.specs.Outcome.{Outcome, refused, done, onward}
 use Rattle.script.specs.Jobs.{Job}
@@ -161,7 +161,7 @@ at-end : (p : Proc) (fuel q : ℕ) → readOps (suc fuel) false (proc p ∷ []) 
 unfolding readOps endedAt
 at-end p fuel q = refl
 
-tree-read : (p : Proc) → Within p → readOps (suc (5 + length (flatP p))) false [] [] 5 (flatP p) ≡ done p
+tree-read : (p : Proc) → Sized p → readOps (suc (5 + length (flatP p))) false [] [] 5 (flatP p) ≡ done p
 tree-read p w =
     let small : (instructions p ≤ codeP p) × (codeP p ≤ 5 * nodesP p) = code-small p in
     let few : nodesP p ≤ 1000 = w .few in
@@ -171,22 +171,22 @@ tree-read p w =
     rw (flat-lengthP p, e) (rw (append-nil (flatP p)) at r)
 
 -- the limits, as they are tested
-pub within-yes : (p : Proc) → nodesP p ≤ 1000 → depthP p ≤ 64 → forks p ≤ 15 → within p ≡ true
-unfolding within
-within-yes p few flat narrow = rw (le-leb (nodesP p) 1000 few, le-leb (depthP p) 64 flat, le-leb (forks p) 15 narrow)
+pub sized-yes : (p : Proc) → nodesP p ≤ 1000 → depthP p ≤ 64 → forks p ≤ 15 → sized p ≡ true
+unfolding sized
+sized-yes p few flat narrow = rw (le-leb (nodesP p) 1000 few, le-leb (depthP p) 64 flat, le-leb (forks p) 15 narrow)
 
 -- what the test of the limits tells
-pub within-back : (p : Proc) → within p ≡ true → (nodesP p ≤ 1000) × (depthP p ≤ 64) × (forks p ≤ 15)
-unfolding within
-within-back p e =
+pub sized-back : (p : Proc) → sized p ≡ true → (nodesP p ≤ 1000) × (depthP p ≤ 64) × (forks p ≤ 15)
+unfolding sized
+sized-back p e =
     let m = both (leb (nodesP p) 1000) _ e in
     let n = both (leb (depthP p) 64) _ (m .1) in
     (leb-true _ _ (m .0), leb-true _ _ (n .0), leb-true _ _ (n .1))
 
--- the code of a job within the limits is read, and gives that job
-pub code-read : (j : Job) → Taken (j .version) → Within (j .tree) → readCode (compiled j) ≡ done j
-unfolding readCode codeMark bytes16 codeMarked taken
-code-read j v w =
+-- the code of a job within document 01's limits is read, and gives that job
+pub code-tree-read : (j : Job) → Taken (j .version) → Sized (j .tree) → readCodeTree (compiled j) ≡ done j
+unfolding readCodeTree codeMark bytes16 codeMarked taken
+code-tree-read j v w =
     let p = j .tree in
     let e : j .version / 256 % 256 * 256 + j .version % 256 ≡ j .version = omega arith in
     let r : readOps (suc (5 + length (flatP p))) false [] [] 5 (flatP p) ≡ done p = tree-read p w in
@@ -197,8 +197,13 @@ code-read j v w =
       e,
       eq-eqb (j .version) 1 v,
       rw l at r,
-      within-yes p (w .few) (w .flat) (w .narrow),
+      sized-yes p (w .few) (w .flat) (w .narrow),
     )
+
+-- so is that of a job within all limits
+pub code-read : (j : Job) → Taken (j .version) → Within (j .tree) → readCode (compiled j) ≡ done j
+unfolding readCode
+code-read j v w = rw (code-tree-read j v (w .sized), le-ltb 200 (longestNodes (j .tree)) (w .short))
 
 -- the result that an outcome came from
 pub record From {A B : Type 0} (f : A → Outcome B) (o : Outcome A) (b : B) : Type 0 where
@@ -432,8 +437,14 @@ text-of : (j : Job) (a b c d e : ℕ) (rest : List ℕ) → d < 256 → e < 256 
 unfolding codeMark
 text-of j a b c d e rest pd pe p q s v r = rw (compiled-flat j, p, q, s, ← v, bytes16-number16 d e pd pe, r)
 
-sound-long : (a b c d e : ℕ) (rest : List ℕ) (j : Job) → Bytes (a ∷ b ∷ c ∷ d ∷ e ∷ rest) → readCode (a ∷ b ∷ c ∷ d ∷ e ∷ rest) ≡ done j → IsCode (a ∷ b ∷ c ∷ d ∷ e ∷ rest) j
-unfolding readCode codeMarked taken
+-- the bytes are the code of a tree within document 01's limits, in a version taken
+pub record IsCodeTree (bs : List ℕ) (j : Job) : Type 0 where
+  pub version : Taken (j .version)
+  pub sized : Sized (j .tree)
+  pub text : bs ≡ compiled j
+
+sound-long : (a b c d e : ℕ) (rest : List ℕ) (j : Job) → Bytes (a ∷ b ∷ c ∷ d ∷ e ∷ rest) → readCodeTree (a ∷ b ∷ c ∷ d ∷ e ∷ rest) ≡ done j → IsCodeTree (a ∷ b ∷ c ∷ d ∷ e ∷ rest) j
+unfolding readCodeTree codeMarked taken
 sound-long a b c d e rest j small h =
     let bs : List ℕ = a ∷ b ∷ c ∷ d ∷ e ∷ rest in
     let t₁ = passed (ltb (length bs) 5) 11 0 _ h in
@@ -441,28 +452,44 @@ sound-long a b c d e rest j small h =
     let t₃ = passed (not (taken (d * 256 + e))) 11 0 _ (t₂ .1) in
     let w = onward-from _ (readOps (suc (length bs)) false [] [] 5 rest) j (t₃ .1) in
     let p = w .before in
-    let t₄ = passed (not (within p)) 11 0 _ (w .becomes) in
+    let t₄ = passed (not (sized p)) 11 0 _ (w .becomes) in
     let m = both (eqb a 87) _ (not-false _ (t₂ .0)) in
     let m′ = both (eqb b 83) _ (m .1) in
     let small₃ : Bytes (d ∷ e ∷ rest) = bytes-drop 3 small in
     let r = ops-sound (suc (length bs)) false [] [] 5 rest p (bytes-drop 2 small₃) start-fits (w .was) in
-    let l = within-back p (not-false _ (t₄ .0)) in
+    let l = sized-back p (not-false _ (t₄ .0)) in
     let k : Job = record { version = d * 256 + e; tree = p } in
     subst
-    (IsCode bs)
+    (IsCodeTree bs)
     (same (t₄ .1))
     (record {
       version = eqb-true _ _ (not-false _ (t₃ .0));
-      within = record { valued = r .valued; few = l .0; flat = l .1; narrow = l .2 };
+      sized = record { valued = r .valued; few = l .0; flat = l .1; narrow = l .2 };
       text = text-of k a b c d e rest (bytes-head small₃) (bytes-head (bytes-tail small₃)) (eqb-true a 87 (m .0)) (eqb-true b 83 (m′ .0)) (eqb-true c 67 (m′ .1)) refl (start-whole rest p r);
     })
 
--- what is read back is the code of the job that is given, and that job is within the limits
-pub read-is-code : (bs : List ℕ) (j : Job) → Bytes bs → readCode bs ≡ done j → IsCode bs j
+-- what is read back is the code of the job that is given, and that job is within document 01's limits
+pub read-is-code-tree : (bs : List ℕ) (j : Job) → Bytes bs → readCodeTree bs ≡ done j → IsCodeTree bs j
+unfolding readCodeTree
+read-is-code-tree [] j b e = absurd (never e)
+read-is-code-tree (x₁ ∷ []) j b e = absurd (never e)
+read-is-code-tree (x₁ ∷ x₂ ∷ []) j b e = absurd (never e)
+read-is-code-tree (x₁ ∷ x₂ ∷ x₃ ∷ []) j b e = absurd (never e)
+read-is-code-tree (x₁ ∷ x₂ ∷ x₃ ∷ x₄ ∷ []) j b e = absurd (never e)
+read-is-code-tree (x₁ ∷ x₂ ∷ x₃ ∷ x₄ ∷ x₅ ∷ rest) j b e = sound-long x₁ x₂ x₃ x₄ x₅ rest j b e
+
+-- what is not too long either is read by both
+pub read-short : (bs : List ℕ) (j : Job) → readCode bs ≡ done j → (readCodeTree bs ≡ done j) × (longestNodes (j .tree) ≤ 200)
 unfolding readCode
-read-is-code [] j b e = absurd (never e)
-read-is-code (x₁ ∷ []) j b e = absurd (never e)
-read-is-code (x₁ ∷ x₂ ∷ []) j b e = absurd (never e)
-read-is-code (x₁ ∷ x₂ ∷ x₃ ∷ []) j b e = absurd (never e)
-read-is-code (x₁ ∷ x₂ ∷ x₃ ∷ x₄ ∷ []) j b e = absurd (never e)
-read-is-code (x₁ ∷ x₂ ∷ x₃ ∷ x₄ ∷ x₅ ∷ rest) j b e = sound-long x₁ x₂ x₃ x₄ x₅ rest j b e
+read-short bs j e =
+    let w = onward-from shortOnly (readCodeTree bs) j e in
+    let t = passed (ltb 200 (longestNodes (w .before .tree))) 11 0 (done (w .before)) (w .becomes) in
+    let k : w .before ≡ j = same (t .1) in
+    (w .was ∙ ap done k, subst (λ (l : Job). longestNodes (l .tree) ≤ 200) k (ltb-false 200 (longestNodes (w .before .tree)) (t .0)))
+
+-- so it is within all limits
+pub read-is-code : (bs : List ℕ) (j : Job) → Bytes bs → readCode bs ≡ done j → IsCode bs j
+read-is-code bs j b e =
+    let r = read-short bs j e in
+    let i = read-is-code-tree bs j b (r .0) in
+    record { version = i .version; within = record { sized = i .sized; short = r .1 }; text = i .text }

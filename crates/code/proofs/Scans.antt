@@ -1,4 +1,4 @@
--- The scan of code, which keeps of each finished part only its kind and its depth, is the reading of code: it refuses the same code, and
+-- The scan of code, which keeps of each finished part only its kind and its depth, is `readCodeTree`, the reading of code by document 01's limits: it refuses the same code, and
 -- counts the nodes and the bytes of the job that is read. Assumes nothing.
 use Prim.Native.Nat.{ℕ, zero, suc, _+_, _≤_}
 use mathlib.Core.Path.{_≡_, refl, sym, subst, _∙_}
@@ -9,9 +9,9 @@ use lib.Dec.{eqb, leb, ltb, eqb·suc-zero}
 use lib.ListN.{length, drop}
 use borrow.Author.Tests.{le-leb, leb-true}
 use Rattle.code.specs.Ops.{Op, opAt, sizeOf}
-use Rattle.code.specs.Reader.{Item, proc, tran, begun, forked, Done, doOp, endsAfter, OpenParts, ended, readOps, within, codeMarked, readCode}
+use Rattle.code.specs.Reader.{Item, proc, tran, begun, forked, Done, doOp, endsAfter, OpenParts, ended, readOps, sized, codeMarked, readCodeTree}
 use Rattle.code.specs.InnerScan.{ListScan, scanStart, scanOp, movedPast, finished, scanOps, Summary, summary, scanCode}
-use Rattle.code.proofs.ReadBack.{within-yes, within-back}
+use Rattle.code.proofs.ReadBack.{sized-yes, sized-back}
 use Rattle.code.proofs.Foreign.{Eleven, ops-eleven}
 use Rattle.code.specs.InnerParts.{jobText, nodesI, forksI}
 use Rattle.code.proofs.Texts.{topmost, peak, stackOf, stateOf, Step, Both, fails, goes, op-both, Closing, stops, keeps, closing-both, readsOn, readsNext, ops-grown}
@@ -65,15 +65,15 @@ module _ (version : ℕ) where
   told s = record { version = version; nodes = s .nodes; size = s .size }
 
   abbrev judged : Proc → Outcome Summary
-  judged p = mapped summary (refuse (not (within p)) 11 0 (done (record { version = version; tree = p })))
+  judged p = mapped summary (refuse (not (sized p)) 11 0 (done (record { version = version; tree = p })))
 
   -- a stack beyond the limits comes to no tree within them
   module _ (fuel : ℕ) (inside : Bool) (s : List Item) (es : List ℕ) (q : ℕ) (bs : List ℕ) (over : fit (topmost s) (nodesI s) (forksI s) ≡ false) where
-    too-large : (p : Proc) (b : Bool) → readOps fuel inside s es q bs ≡ done p → within p ≡ b → judged p ≡ refused 11 0
+    too-large : (p : Proc) (b : Bool) → readOps fuel inside s es q bs ≡ done p → sized p ≡ b → judged p ≡ refused 11 0
     unfolding peak nodesI forksI
     too-large p true d w =
         let g = ops-grown fuel inside s es q bs p d in
-        let l = within-back p w in
+        let l = sized-back p w in
         let t = top-peak s in
         let yes = fit-yes (topmost s) (nodesI s) (forksI s) (omega arith) (omega arith) (omega arith) in
         let z : _≡_ {A = ℕ} 0 1 = cc in
@@ -84,7 +84,7 @@ module _ (version : ℕ) where
     none-fits (refused n p) d =
         let h : (n ≡ 11) × (p ≡ 0) = subst Eleven d (ops-eleven fuel inside s es q bs) in
         rw (h .0, h .1)
-    none-fits (done p) d = too-large p (within p) d refl
+    none-fits (done p) d = too-large p (sized p) d refl
 
   last-same : (inside : Bool) (s : List Item) (es : List ℕ) (q : ℕ) → WithinLimits s → mapped told (finished (stateOf inside s es q)) ≡ onward (ended (record { ends = es; items = s })) judged
   unfolding finished stackOf peak nodesI forksI jobText summary
@@ -94,7 +94,7 @@ module _ (version : ℕ) where
       let few : 0 + nodesP p ≤ 1000 = h .few in
       let narrow : 0 + forks p ≤ 15 = h .narrow in
       let e : 0 + nodesP p ≡ nodesP p = omega arith in
-      rw (within-yes p (omega arith) (omega arith) (omega arith), job-length version p, e)
+      rw (sized-yes p (omega arith) (omega arith) (omega arith), job-length version p, e)
   last-same inside (proc p ∷ x ∷ s) [] q h = rw (eqb·suc-zero (length (stackOf s)))
   last-same inside (tran t ∷ s) [] q h = refl
   last-same inside (begun ∷ s) [] q h = refl
@@ -146,9 +146,9 @@ start-small : WithinLimits []
 unfolding peak nodesI forksI
 start-small = omega arith
 
--- the scan refuses the code that the reading refuses, and else tells the version, the nodes and the bytes of the job that is read
-pub scan-is-read : (bs : List ℕ) → scanCode bs ≡ mapped summary (readCode bs)
-unfolding scanCode readCode scanStart stackOf nodesI forksI jobText
+-- the scan refuses the code that `readCodeTree` refuses, and else tells the version, the nodes and the bytes of the job that is read
+pub scan-is-read : (bs : List ℕ) → scanCode bs ≡ mapped summary (readCodeTree bs)
+unfolding scanCode readCodeTree scanStart stackOf nodesI forksI jobText
 scan-is-read bs =
     let v = number16 bs 3 in
     refuse-mapped

@@ -1,5 +1,5 @@
--- For the proof of `scan_code` only: reading code back without building its tree, of each finished part only what the limits need.
--- `scan-is-read` (proofs/Scans.antt): it is `readCode`, and what it counts is what the tree has.
+-- For the proof of `scan_code` only: reading code back without building its tree, of each finished part only what document 01's limits need.
+-- `scan-is-read` (proofs/Scans.antt): it is `readCodeTree`, and what it counts is what the tree has.
 use Prim.Native.Nat.{ℕ, zero, suc, _+_, max}
 use mathlib.Core.Bool.{Bool, true, false, cond, not, _&&_}
 use mathlib.Core.List.{List, [], _∷_}

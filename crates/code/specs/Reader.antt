@@ -8,8 +8,8 @@ use lib.IntN.{ℤ}
 use lib.ListN.{length, drop, getD}
 use Rattle.code.specs.Ops.{foreign, Op, push, add, read, write, begin, commit, fork, opAt, sizeOf}
 use Rattle.script.specs.Tree.{Tran, ValT, AddT, Read, Write, Proc, ValP, AddP, Atomic, Fork}
-use Rattle.script.specs.Count.{nodesP, depthP, forks}
-use Rattle.script.specs.Limits.{mostNodes, mostDepth, mostForks}
+use Rattle.script.specs.Count.{nodesP, depthP, forks, longestNodes}
+use Rattle.script.specs.Limits.{mostNodes, mostDepth, mostForks, mostTransaction}
 use Rattle.script.specs.Jobs.{Job, number16}
 use Rattle.script.specs.Outcome.{Outcome, done, refuse, onward}
 use Rattle.script.specs.Reader.{taken}
@@ -164,16 +164,16 @@ readOps (suc fuel) inside items ends place bs =
     ])
 
 -- "Node count 1 to 1,000; depth at most 64, the root having depth 1; at most 15 FORKs"
-unfoldable pub within : Proc → Bool
-within p = leb (nodesP p) mostNodes && (leb (depthP p) mostDepth && leb (forks p) mostForks)
+unfoldable pub sized : Proc → Bool
+sized p = leb (nodesP p) mostNodes && (leb (depthP p) mostDepth && leb (forks p) mostForks)
 
 -- the mark `WSC`
 unfoldable pub codeMarked : List ℕ → Bool
 codeMarked bs = eqb (getD bs 0 0) 0x57 && (eqb (getD bs 1 0) 0x53 && eqb (getD bs 2 0) 0x43)
 
--- the job that compiles to this code, or 11 at 0
-unfoldable pub readCode : List ℕ → Outcome Job
-readCode bs =
+-- the job within document 01's limits that compiles to this code, or 11 at 0
+unfoldable pub readCodeTree : List ℕ → Outcome Job
+readCodeTree bs =
     refuse
     (ltb (length bs) 5)
     11
@@ -188,4 +188,12 @@ readCode bs =
     0
     (onward
     (readOps (suc (length bs)) false [] [] 5 (drop 5 bs))
-    (λ p. refuse (not (within p)) 11 0 (done (record { version = number16 bs 3; tree = p }))))))
+    (λ p. refuse (not (sized p)) 11 0 (done (record { version = number16 bs 3; tree = p }))))))
+
+-- document 02 No. 3: "Code of a longer one is foreign code from now on"
+abbrev pub shortOnly : Job → Outcome Job
+shortOnly j = refuse (ltb mostTransaction (longestNodes (j .tree))) 11 0 (done j)
+
+-- the job that compiles to this code, or 11 at 0
+unfoldable pub readCode : List ℕ → Outcome Job
+readCode bs = onward (readCodeTree bs) shortOnly

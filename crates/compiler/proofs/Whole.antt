@@ -73,7 +73,7 @@ module _ (bs : List ℕ) where
         size = z;
         there = h;
         least = omega arith;
-        ready = λ ys m. record { sort = process; tree = a .job .tree; there = h; flat = i .within .flat; room = omega (arith, rest-length 5 ys) };
+        ready = λ ys m. record { sort = process; tree = a .job .tree; there = h; flat = i .within .sized .flat; room = omega (arith, rest-length 5 ys) };
       }
 
   -- the three ends of compiling

@@ -6,6 +6,6 @@ use Rattle.delivery.specs.Delivered.{Delivered, delivered}
 use Rattle.script.specs.Outcome.{mapped}
 use Rattle.script.specs.Reader.{readJob}
 
--- the job's refusals, 1 to 9, "Then 10"; else the code stands at the output's start
+-- the job's refusals, 1 to 9 and 14, "Then 10"; else the code stands at the output's start
 unfoldable pub compileTo : (job before : List ℕ) → Delivered
 compileTo job before = delivered (mapped compiled (readJob job)) before

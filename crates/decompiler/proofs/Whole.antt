@@ -14,9 +14,9 @@ use Rattle.decompiler.specs.InnerWalk.{Walk, Restorable}
 use Rattle.delivery.proofs.Places.{onto-length, onto-onto}
 use Rattle.decompiler.proofs.Next.{text-at-end}
 use Rattle.decompiler.proofs.Follow.{small, out-length}
-use Rattle.code.specs.Reader.{readOps, within, codeMarked, readCode}
+use Rattle.code.specs.Reader.{readOps, sized, codeMarked, readCodeTree, readCode}
 use Rattle.code.proofs.Flat.{code-length}
-use Rattle.code.proofs.ReadBack.{onward-from, same, within-back, read-is-code}
+use Rattle.code.proofs.ReadBack.{onward-from, same, sized-back, read-short, read-is-code}
 use Rattle.code.specs.InnerParts.{jobText, forksI}
 use Rattle.script.specs.Tree.{Tran, ValT, AddT, Read, Write, Proc, ValP, AddP, Atomic, Fork}
 use Rattle.script.specs.Count.{nodesT, nodesP, depthP, forks, codeT, codeP, codeLength}
@@ -51,15 +51,15 @@ pub record Reads (code : List ℕ) (j : Job) : Type 0 where
   pub narrow : forks (j .tree) ≤ 15
 
 pub code-reads : (code : List ℕ) (j : Job) → readCode code ≡ done j → Reads code j
-unfolding readCode
+unfolding readCodeTree
 code-reads code j e =
-    let t₁ = passed (ltb (length code) 5) 11 0 _ e in
+    let t₁ = passed (ltb (length code) 5) 11 0 _ (read-short code j e .0) in
     let t₂ = passed (not (codeMarked code)) 11 0 _ (t₁ .1) in
     let t₃ = passed (not (taken (number16 code 3))) 11 0 _ (t₂ .1) in
     let w = onward-from _ (readOps (suc (length code)) false [] [] 5 (drop 5 code)) j (t₃ .1) in
     let p = w .before in
-    let t₄ = passed (not (within p)) 11 0 _ (w .becomes) in
-    let l = within-back p (not-false _ (t₄ .0)) in
+    let t₄ = passed (not (sized p)) 11 0 _ (w .becomes) in
+    let l = sized-back p (not-false _ (t₄ .0)) in
     subst
     (Reads code)
     (same (t₄ .1))

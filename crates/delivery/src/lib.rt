@@ -3,6 +3,6 @@
 pub enum Answer {
     // so many bytes of the output, counted from its start, are the result
     Done(usize),
-    // document 01's number, and the place
+    // the papers' number, and the place
     Refused(u8, usize),
 }

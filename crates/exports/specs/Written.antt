@@ -6,7 +6,7 @@ use Rattle.delivery.specs.declared.Answer.{Answer}
 use Rattle.delivery.specs.declared.Answer.the-variants.{Done, Refused}
 use Rattle.exports.specs.declared.Written as numbers
 
--- document 01's number and place, or the length of the result
+-- the papers' number and place, or the length of the result
 unfoldable pub writing : Answer → numbers.Written
 writing (Done length) = record { refusal = 0; place = 0; length = length }
 writing (Refused number place) = record { refusal = number; place = place; length = 0 }

@@ -12,7 +12,7 @@ ghost use Rattle.script.specs.Reader.{readJob};
 use delivery::Answer;
 use forecast::ForecastReply;
 
-// The answer: document 01's number of the refusal, 0 if there is none, and the place; the length of the result, 0 if it was refused.
+// The answer: the papers' number of the refusal, 0 if there is none, and the place; the length of the result, 0 if it was refused.
 #[repr(C)]
 pub struct Written {
     pub refusal: usize,

@@ -7,7 +7,7 @@ use Rattle.forecast.specs.declared.ForecastReply.{ForecastReply}
 use Rattle.forecast.specs.Figures.{figures}
 use Rattle.forecast.specs.InnerWalk.{Accepts, Totals}
 use Rattle.forecast.proofs.Fold.{Told}
-use Rattle.job.specs.declared.Reading.the-variants.{Accepted, Refused}
+use Rattle.job.specs.declared.Reading.the-variants.{Accepted}
 use Rattle.job.specs.Answer.{answer}
 use Rattle.script.specs.Tree.{Proc}
 use Rattle.script.specs.Count.{threads, bound as boundOf, codeLength}
@@ -44,7 +44,3 @@ figures-told tree t long bound d l b =
 pub was-accepted : (o : Outcome Job) (version long : ℕ) → answer o ≡ Accepted version long → (bs : List ℕ) → readJob bs ≡ o → Accepts bs long
 was-accepted (refused n p) version long e bs r = absurd (let z : _≡_ {A = ℕ} 0 1 = cc in omega arith)
 was-accepted (done j) version long e bs r = record { job = j; read = r; long = cc }
-
-pub was-refused : (o : Outcome Job) (number place : ℕ) → answer o ≡ Refused number place → o ≡ refused number place
-was-refused (refused n p) number place e = cc
-was-refused (done j) number place e = absurd (let z : _≡_ {A = ℕ} 0 1 = cc in omega arith)

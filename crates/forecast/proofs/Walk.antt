@@ -95,13 +95,13 @@ inv-start job version tree e w =
         height = refl;
         held = (refl, tt);
         long = refl;
-        fine = (record { shallow = omega (arith, w .flat); low = omega arith; known = omega arith; stair = omega arith }, tt);
+        fine = (record { shallow = omega (arith, w .sized .flat); low = omega arith; known = omega arith; stair = omega arith }, tt);
         bounds = record {
-          early = omega (arith, w .few);
-          few = omega (arith, w .narrow);
-          transactions = omega (arith, w .few);
-          instructions = omega (arith, w .few);
-          current = omega (arith, w .few);
+          early = omega (arith, w .sized .few);
+          few = omega (arith, w .sized .narrow);
+          transactions = omega (arith, w .sized .few);
+          instructions = omega (arith, w .sized .few);
+          current = omega (arith, w .sized .few);
           longest = omega arith;
         };
         text = ap (drop 7) e ∙ sym (append-nil (bytesP tree));

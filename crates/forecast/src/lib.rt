@@ -7,7 +7,7 @@ ghost use Rattle.forecast.specs.Figures.{forecastOf, refusedWith};
 ghost use Rattle.forecast.specs.InnerWalk.{Accepts, CanCount, Small, advanced, begun, behind, counted, firstCursor, forked, inside, raised, stateOf, totalsOf, withRead, withTotals, withWrite};
 ghost use Rattle.script.specs.Reader.{readJob};
 
-// The forecast: document 01's number of the refusal, 0 if there is none, and the place; then the figures, 0 throughout if the job was refused.
+// The forecast: the papers' number of the refusal, 0 if there is none, and the place; then the figures, 0 throughout if the job was refused.
 #[repr(C)]
 pub struct ForecastReply {
     pub refusal: usize,

@@ -103,8 +103,8 @@ module _ (job : List ℕ) (j : Job) (b : Bytes job) (accepted : readJob job ≡ 
         length = length-is;
         instructions = count-proc (j .tree);
         longest = longest-proc (j .tree);
-        reads = λ v. (λ e. anywhere-occurs (read-stands (j .tree) v e), λ o. stands-read (j .tree) v (its-code .within .valued) (occurs-anywhere 5 o));
-        writes = λ v. (λ e. anywhere-occurs (write-stands (j .tree) v e), λ o. stands-write (j .tree) v (its-code .within .valued) (occurs-anywhere 5 o));
+        reads = λ v. (λ e. anywhere-occurs (read-stands (j .tree) v e), λ o. stands-read (j .tree) v (its-code .within .sized .valued) (occurs-anywhere 5 o));
+        writes = λ v. (λ e. anywhere-occurs (write-stands (j .tree) v e), λ o. stands-write (j .tree) v (its-code .within .sized .valued) (occurs-anywhere 5 o));
         own-codes = λ k l. part-ready its-code (part-of k l) .stands;
         ascending = λ k l. codes-ascend (j .tree) k (few k l);
       }

@@ -14,7 +14,7 @@ use Rattle.guarantee.specs.Histories.{Call, step, run, codeOf, stateOf, 
 use Rattle.guarantee.proofs.RoundTrip.{mapped-done}
 use Rattle.code.specs.Compile.{Code, ε, _⨾_, compileP}
 use Rattle.code.specs.Bytes.{compiled, IsCode}
-use Rattle.code.specs.Reader.{readCode}
+use Rattle.code.specs.Reader.{readCodeTree, readCode}
 use Rattle.code.proofs.Foreign.{there-and-back, code-bytes}
 use Rattle.thread.specs.declared.Thread.{Thread}
 use Rattle.machine.specs.Steps as steps
@@ -191,7 +191,7 @@ module _ (job : List ℕ) (j : Job) (b : Bytes job) (accepted : readJob job ≡ 
   is-code = record { version = is-job .version; within = is-job .within; text = refl }
 
   outer : Outside (compileP (j .tree) ε) 0
-  outer = outside-proc (j .tree) (is-job .within .valued)
+  outer = outside-proc (j .tree) (is-job .within .sized .valued)
 
   read : readCode (compiled j) ≡ done j
   read = there-and-back is-job
@@ -251,7 +251,7 @@ module _ (job : List ℕ) (j : Job) (b : Bytes job) (accepted : readJob job ≡ 
       linked : Linked registerCells (sumOf j) sys (turns (sumOf j) (initial (j .tree)) (order events))
       linked =
           subst (λ (es : List Happened). Linked registerCells (sumOf j) sys (turns (sumOf j) (initial (j .tree)) (order es))) (sym (k .its-events))
-          (run-linked registerCells (sumOf j) (k .picks) (start registerCells (compileP (j .tree) ε)) (initial (j .tree)) (start-linked registerCells (sumOf j) (j .tree) (is-job .within .valued)) .linked)
+          (run-linked registerCells (sumOf j) (k .picks) (start registerCells (compileP (j .tree) ε)) (initial (j .tree)) (start-linked registerCells (sumOf j) (j .tree) (is-job .within .sized .valued)) .linked)
 
       registers′ : now .state .registers ≡ turns (sumOf j) (initial (j .tree)) (order events) .registers
       registers′ = k .mirrors .table ∙ (sym (values-same (sys .table)) ∙ sym (linked .registers))
@@ -283,7 +283,7 @@ module _ (job : List ℕ) (j : Job) (b : Bytes job) (accepted : readJob job ≡ 
   order-taken h =
       let k = behind h in
       subst (λ (es : List Happened). CanTake (sumOf j) (initial (j .tree)) (order es)) (sym (k .its-events))
-      (run-linked registerCells (sumOf j) (k .picks) (start registerCells (compileP (j .tree) ε)) (initial (j .tree)) (start-linked registerCells (sumOf j) (j .tree) (is-job .within .valued)) .can)
+      (run-linked registerCells (sumOf j) (k .picks) (start registerCells (compileP (j .tree) ε)) (initial (j .tree)) (start-linked registerCells (sumOf j) (j .tree) (is-job .within .sized .valued)) .can)
 
   -- the sums that the list tells of are those of the script's turns
   pub told-overs : {now : Session} {events : List Happened} → History (compiled j) now events → countsOf events .over ≡ overflowsTurns (sumOf j) (initial (j .tree)) (order events)
@@ -291,14 +291,14 @@ module _ (job : List ℕ) (j : Job) (b : Bytes job) (accepted : readJob job ≡ 
       let k = behind h in
       over-counted events
       ∙ subst (λ (es : List Happened). overs es ≡ overflowsTurns (sumOf j) (initial (j .tree)) (order es)) (sym (k .its-events))
-      (run-linked registerCells (sumOf j) (k .picks) (start registerCells (compileP (j .tree) ε)) (initial (j .tree)) (start-linked registerCells (sumOf j) (j .tree) (is-job .within .valued)) .over)
+      (run-linked registerCells (sumOf j) (k .picks) (start registerCells (compileP (j .tree) ε)) (initial (j .tree)) (start-linked registerCells (sumOf j) (j .tree) (is-job .within .sized .valued)) .over)
 
   -- the steps of the list, idle picks uncounted, are no more than the bound: "L + (K−1)×(T−1)×M steps, or L if K is 0"
   pub bounded : {now : Session} {events : List Happened} → History (compiled j) now events → countsOf events .steps ≤ bound (j .tree)
   bounded {now} {events} h =
       let k = behind h in
       subst (λ (n : ℕ). n ≤ bound (j .tree)) (sym (steps-counted events))
-      (subst (λ (es : List Happened). counted (λ e. not (isIdle e)) es ≤ bound (j .tree)) (sym (k .its-events)) (steps-bound registerCells (sumOf j) (j .tree) (is-job .within .valued) (k .picks)))
+      (subst (λ (es : List Happened). counted (λ e. not (isIdle e)) es ≤ bound (j .tree)) (sym (k .its-events)) (steps-bound registerCells (sumOf j) (j .tree) (is-job .within .sized .valued) (k .picks)))
 
   -- "no thread is sent back twice between neighbouring commits or after the last, nor at all before the first"
   pub sent-back : {now : Session} {events : List Happened} → History (compiled j) now events → SentBack events
@@ -339,7 +339,7 @@ module _ (job : List ℕ) (j : Job) (b : Bytes job) (accepted : readJob job ≡ 
         subst (λ (es : List Happened). History (compiled j) (on (steps.run (sumOf j) (compiled j) (pick (sumOf j) (compiled j) s i .state) is .state)) es) (append-assoc events (record { thread = i; event = pick (sumOf j) (compiled j) s i .event; over = pick (sumOf j) (compiled j) s i .over } ∷ []) (steps.run (sumOf j) (compiled j) (pick (sumOf j) (compiled j) s i .state) is .events)) rest
       where
         lent : (i : ℕ) → i < small → (s : State) → Typed s → Ranged s → Lent (step (compiled j) s i)
-        lent i l s y z = record { code = code-bytes j (is-job .within .valued); state = y; ranges = z; picks = record { small = one-byte i (omega arith) } }
+        lent i l s y z = record { code = code-bytes j (is-job .within .sized .valued); state = y; ranges = z; picks = record { small = one-byte i (omega arith) } }
 
         comes : (i : ℕ) (s : State) → Fits (compiled j) s → Typed s → comesTo (step (compiled j) s i) ≡ done (alone i (pick (sumOf j) (compiled j) s i))
         comes i s f y = step-accepted j (compiled j) s i read (fits-exactly (compiled j) s y .1 f)
@@ -350,7 +350,7 @@ module _ (job : List ℕ) (j : Job) (b : Bytes job) (accepted : readJob job ≡ 
   every-order is can = record { now = on (ran .state); events = ran .events; history = history′; its-order = order′; calm = calm′; ends = ends′ }
     where
       real : Realised registerCells (sumOf j) (start registerCells (compileP (j .tree) ε)) (initial (j .tree)) is
-      real = complete registerCells (sumOf j) is (start registerCells (compileP (j .tree) ε)) (initial (j .tree)) (start-linked registerCells (sumOf j) (j .tree) (is-job .within .valued)) (start-outside registerCells (j .tree)) can
+      real = complete registerCells (sumOf j) is (start registerCells (compileP (j .tree) ε)) (initial (j .tree)) (start-linked registerCells (sumOf j) (j .tree) (is-job .within .sized .valued)) (start-outside registerCells (j .tree)) can
 
       ran : Ran
       ran = steps.run (sumOf j) (compiled j) (fresh (compiled j)) (real .picks)
@@ -359,7 +359,7 @@ module _ (job : List ℕ) (j : Job) (b : Bytes job) (accepted : readJob job ≡ 
       k = run-keeps is-code outer (sumOf j) (real .picks) (fresh (compiled j)) (start registerCells (compileP (j .tree) ε)) (fresh-fits (compiled j)) (fresh-typed (compiled j)) (fresh-mirrors (compiled j) is-code outer)
 
       count : length (endOf registerCells (sumOf j) (start registerCells (compileP (j .tree) ε)) (real .picks) .tasks) ≤ 256
-      count = few (j .tree) (thread-count registerCells (sumOf j) (j .tree) (is-job .within .valued) (real .picks)) (is-job .within .narrow)
+      count = few (j .tree) (thread-count registerCells (sumOf j) (j .tree) (is-job .within .sized .valued) (real .picks)) (is-job .within .sized .narrow)
 
       history′ : History (compiled j) (on (ran .state)) (ran .events)
       history′ = steps-history (length (endOf registerCells (sumOf j) (start registerCells (compileP (j .tree) ε)) (real .picks) .tasks)) count (real .picks) (real .exist) (fresh (compiled j)) [] none
@@ -376,7 +376,7 @@ module _ (job : List ℕ) (j : Job) (b : Bytes job) (accepted : readJob job ≡ 
       linked : Linked registerCells (sumOf j) sys (turns (sumOf j) (initial (j .tree)) is)
       linked =
           subst (λ (os : List ℕ). Linked registerCells (sumOf j) sys (turns (sumOf j) (initial (j .tree)) os)) (real .taken)
-          (run-linked registerCells (sumOf j) (real .picks) (start registerCells (compileP (j .tree) ε)) (initial (j .tree)) (start-linked registerCells (sumOf j) (j .tree) (is-job .within .valued)) .linked)
+          (run-linked registerCells (sumOf j) (real .picks) (start registerCells (compileP (j .tree) ε)) (initial (j .tree)) (start-linked registerCells (sumOf j) (j .tree) (is-job .within .sized .valued)) .linked)
 
       number : length (sys .tasks) ≡ length (turns (sumOf j) (initial (j .tree)) is .threads)
       number = sym (meant-length registerCells (sys .tasks)) ∙ sym (ap length (linked .threads))
@@ -445,7 +445,7 @@ module _ (job : List ℕ) (j : Job) (b : Bytes job) (accepted : readJob job ≡ 
   ran-long is l = rw (read job j b accepted, ready, lt-ltb 32768 (length is) l)
 
   foreign : comesTo (step [] (fresh (compiled j)) 0) ≡ refused 11 0
-  unfolding stepOf readCode
+  unfolding stepOf readCode readCodeTree
   foreign = refl
 
   -- a list with a refused step first, a refused run in between, and a run of any length that is taken
@@ -454,7 +454,7 @@ module _ (job : List ℕ) (j : Job) (b : Bytes job) (accepted : readJob job ≡ 
   mixed′ is js x y l m = (_, (_, (followed (turned-down (turned-down none (step [] (fresh (compiled j)) 0) foreign-lent foreign) (run (compiled j) (fresh (compiled j)) js) (lent js y) (ran-long js m)) (run (compiled j) (fresh (compiled j)) is) (lent is x) refl refl (ran-short is l), refl)))
     where
       lent : (is : List ℕ) → Bytes is → Lent (run (compiled j) (fresh (compiled j)) is)
-      lent is x = record { code = code-bytes j (is-job job j b accepted .within .valued); state = fresh-typed (compiled j); ranges = fresh-ranged (is-code job j b accepted); picks = x }
+      lent is x = record { code = code-bytes j (is-job job j b accepted .within .sized .valued); state = fresh-typed (compiled j); ranges = fresh-ranged (is-code job j b accepted); picks = x }
 
       foreign-lent : Lent (step [] (fresh (compiled j)) 0)
       foreign-lent = record { code = no-bytes; state = fresh-typed (compiled j); ranges = fresh-ranged (is-code job j b accepted); picks = record { small = one-byte 0 (omega arith) } }

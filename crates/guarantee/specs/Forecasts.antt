@@ -104,7 +104,7 @@ pub record ComesTrue (j : Job) (f : ForecastReply) : Type 0 where
 
 -- `forecast::forecast` answers `forecastOf (readJob job)`
 pub record Forecasts : Type 0 where
-  -- "A refused job gets the job reader's number and place": those of document 01's table
+  -- "A refused job gets the job reader's number and place": those of `Refused`, document 01's table with document 02 No. 3's row
   pub refused : (job : List ℕ) → Bytes job → (number place : ℕ) → Refused job number place ↔ (forecastOf (readJob job) ≡ refusedWith number place)
   pub told : (number place : ℕ) → (refusedWith number place .refusal ≡ number) × (refusedWith number place .place ≡ place)
   -- every accepted job's comes true

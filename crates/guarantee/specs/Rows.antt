@@ -1,5 +1,5 @@
 -- Document 01, "Turning a job down", for the calls that take a job or write an output: what each returns, a constructor for each row.
--- (Rows 1 to 9 are `Refused`, script; rows 11 to 13 of the calls that run are `FreshAnswer`, `StepAnswer`, `RunAnswer`, machine.)
+-- (Rows 1 to 9 and 14 are `Refused`, script; rows 11 to 13 of the calls that run are `FreshAnswer`, `StepAnswer`, `RunAnswer`, machine.)
 use Prim.Native.Nat.{ℕ, _<_, _≤_}
 use mathlib.Core.List.{List}
 use lib.ListN.{length}
@@ -12,12 +12,12 @@ use Rattle.job.specs.declared.Reading.the-variants as reading
 use Rattle.script.specs.Jobs.{Job}
 use Rattle.script.specs.Refusal.{IsJob, Refused}
 
--- the job reader: 1 to 9, or the job's version and its code's length
+-- the job reader: 1 to 9, 14, or the job's version and its code's length
 pub data JobAnswer (job : List ℕ) : Reading → Type 0 where
   refused : {number place : ℕ} → Refused job number place → JobAnswer job (reading.Refused number place)
   accepted : {j : Job} → IsJob job j → JobAnswer job (reading.Accepted (j .version) (length (compiled j)))
 
--- compiling: 1 to 9, then 10, "output shorter than the result"; else the code stands at the output's start
+-- compiling: 1 to 9, 14, then 10, "output shorter than the result"; else the code stands at the output's start
 pub data CompileAnswer (job before : List ℕ) : Delivered → Type 0 where
   refused :
       {number place : ℕ} → Refused job number place →

@@ -2,12 +2,12 @@
 use Prim.Native.Nat.{ℕ, zero, suc, _+_, _*_, _-_, _%_, _≤_, _<_}
 use mathlib.Core.Path.{_≡_, refl, sym, ap, subst, _∙_}
 use mathlib.Core.Bool.{Bool, true, false, _||_}
-use mathlib.Core.List.{List, [], _∷_}
+use mathlib.Core.List.{List, [], _∷_, _++_}
 use native.Mathlib.Decide.{decLt}
 use native.Mathlib.Omega.{arith}
 use lib.Dec.{ltb}
 use lib.ListN.{length, drop, getD, set, replicate, length-set, length-drop, length-append}
-use lib.Seq.{getD-set-same, getD-set-other, drop-drop}
+use lib.Seq.{getD-set-same, getD-set-other, drop-drop, getD-drop}
 use borrow.Author.Tests.{le-leb, lt-leb, eq-eqb, ne-eqb, le-ltb, ltb-false}
 use Rattle.job.specs.declared.Tested.the-variants.{Kind, Refused}
 use Rattle.job.specs.declared.Reading.{Reading}
@@ -137,7 +137,7 @@ module _ (s : Reader) (some : 1 ≤ s .height) (room : s .height ≤ 64) (long :
       one-due (s .due) (s .height) (partDepth s + 128) some (omega (arith, long, room))
       ∙ ap (λ (d : Due). d ∷ dueOf (s .due) (s .height - 1)) (part-transaction (level s) shallow)
 
-size : {t : Sort} (node : Node t) → length (nodeBytes node) ≡ suc (operand (kindByte node))
+pub size : {t : Sort} (node : Node t) → length (nodeBytes node) ≡ suc (operand (kindByte node))
 unfolding nodeBytes bytes32 operand kindByte
 size (VALP z) = refl
 size ADDP = refl
@@ -284,11 +284,24 @@ module _ (job : List ℕ) (s : Reader) (some : 1 ≤ s .height) (f : ReaderFits 
 abbrev pub due-node : (job : List ℕ) (s : Reader) → Outcome (Node (heldPart (getD (s .due) (s .height - 1) 0) .sort))
 due-node job s = nodeAt (heldPart (getD (s .due) (s .height - 1) 0)) (s .forks) (s .place) (drop (s .place) job)
 
+-- a node's first byte is its kind
+pub kind-first : {t : Sort} (node : Node t) (rest : List ℕ) → getD (nodeBytes node ++ rest) 0 0 ≡ kindByte node
+unfolding nodeBytes kindByte
+kind-first (VALP z) rest = refl
+kind-first ADDP rest = refl
+kind-first ATOMIC rest = refl
+kind-first FORK rest = refl
+kind-first (VALT z) rest = refl
+kind-first ADDT rest = refl
+kind-first (READ v) rest = refl
+kind-first (WRITE v) rest = refl
+
 -- a node that passed its tests
 record PassedTests {t : Sort} (n f : ℕ) (bs : List ℕ) (node : Node t) : Type 0 where
   flat : n ≤ 64
   few : f + forkOf node ≤ 15
   fits : length (nodeBytes node) ≤ length bs
+  first : getD bs 0 0 ≡ kindByte node
 
 passed : (t : Sort) (n f p : ℕ) (bs : List ℕ) (node : Node t) → Bytes bs → f ≤ 15 → nodeAt (record { sort = t; depth = n }) f p bs ≡ done node → PassedTests n f bs node
 passed t n f p bs node b l e = let w = seen n f p t bs b l in go (w .outcome) (w .sees) (sym (node-sees (w .sees)) ∙ e)
@@ -299,7 +312,7 @@ passed t n f p bs node b l e = let w = seen n f p t bs b l in go (w .outcome) (w
         subst
         (PassedTests n f bs)
         (cc)
-        (record { flat = h; few = g; fits = rw (text, length-append (nodeBytes node′) rest) (omega arith) })
+        (record { flat = h; few = g; fits = rw (text, length-append (nodeBytes node′) rest) (omega arith); first = ap (λ (l : List ℕ). getD l 0 0) text ∙ kind-first node′ rest })
 
 comes-on : (version before left forks place : ℕ) (d : Due) (ds : List Due) (bs : List ℕ) (node : Node (d .sort)) → nodeAt d forks place bs ≡ done node → comes version before (suc left) forks place (d ∷ ds) bs ≡ comes version (before + codeOfKind (kindByte node)) left (forks + forkOf node) (place + length (nodeBytes node)) (partsThen node (d .depth) ds) (drop (length (nodeBytes node)) bs)
 unfolding comes readNodes
@@ -338,7 +351,7 @@ found-refused : {t : Sort} (o : Outcome (Node t)) (number at′ : ℕ) → teste
 found-refused (refused n p) number at′ e = cc
 found-refused (done node) number at′ e = absurd (let z : _≡_ {A = ℕ} 0 1 = cc in omega arith)
 
-neither : (a b : Bool) → (a || b) ≡ false → (a ≡ false) × (b ≡ false)
+pub neither : (a b : Bool) → (a || b) ≡ false → (a ≡ false) × (b ≡ false)
 neither true b e = absurd (let z : _≡_ {A = ℕ} 0 1 = cc in omega arith)
 neither false b e = (refl, e)
 
@@ -436,6 +449,18 @@ module _ (job : List ℕ) (version count : ℕ) (s : Reader) (b : Bytes job) (in
 
         code : Reader → ℕ
         code r = r .code
+
+    -- its kind stands in the job, and the next node behind its operand
+    pub node-stands : (kind : ℕ) → tested (due-node job s) ≡ Kind kind → (s .place < length job) × (getD job (s .place) 0 ≡ kind) × (advanced s kind (partDepth s) .place ≡ s .place + (1 + operand kind))
+    node-stands kind e =
+        let k = found-kind (due-node job s) kind e in
+        let p = facts (k .0) (k .1) in
+        let z : s .place + 0 ≡ s .place = omega arith in
+        let n : length (nodeBytes (k .0)) ≡ 1 + operand kind = omega (arith, size (k .0), ap operand (k .2)) in (
+          omega (arith, p .fits, length-drop (s .place) job),
+          ap (λ (i : ℕ). getD job i 0) (sym z) ∙ (sym (getD-drop (s .place) job 0 0) ∙ (p .first ∙ k .2)),
+          subst (λ (m : ℕ). advanced s m (partDepth s) .place ≡ s .place + (1 + operand kind)) (k .2) (advance-counts s (k .0) .place ∙ ap (λ (m : ℕ). s .place + m) n),
+        )
 
     pub node-read : 1 ≤ s .left → (kind : ℕ) → tested (due-node job s) ≡ Kind kind → ReaderInv job version count (advanced s kind (partDepth s))
     node-read l kind e =

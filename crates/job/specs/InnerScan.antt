@@ -1,12 +1,13 @@
 -- For the proof of `read_job` only: what its functions do, a step of `readNodes` on a small array of what is due.
 use Prim.Native.Nat.{ℕ, zero, suc, _+_, _-_, _%_, _≤_, _<_}
-use mathlib.Core.Bool.{Bool, true, false, cond, _||_}
+use mathlib.Core.Bool.{Bool, true, false, cond, _&&_, _||_}
 use mathlib.Core.List.{List, [], _∷_}
-use lib.Dec.{eqb, leb}
+use lib.Dec.{eqb, leb, ltb}
 use lib.ListN.{getD, set}
 use Rattle.job.specs.declared.Tested.{Tested}
 use Rattle.job.specs.declared.Tested.the-variants.{Kind, Refused}
 use Rattle.job.specs.declared.Cursor.{Cursor}
+use Rattle.job.specs.declared.Transactions.{Transactions}
 use Rattle.script.specs.Tree.{Sort, process, transaction}
 use Rattle.script.specs.Bytes.{Node, VALP, ADDP, ATOMIC, FORK, VALT, ADDT, READ, WRITE}
 use Rattle.script.specs.Outcome.{Outcome, refused, done}
@@ -135,3 +136,20 @@ heldPart n = record { sort = sortOf (leb 128 n); depth = n % 128 }
 unfoldable pub dueOf : List ℕ → ℕ → List Due
 dueOf a zero = []
 dueOf a (suc n) = heldPart (getD a n 0) ∷ dueOf a n
+
+-- ---- the transactions
+
+-- the first long one, if the one at hand, which stands there, has so many nodes
+unfoldable pub longWith : (long nodes atomic : ℕ) → ℕ
+longWith long nodes atomic = cond (ltb 0 long) long (cond (ltb 200 nodes) atomic 0)
+
+-- the transactions with a node of this kind more
+unfoldable pub withKind : Transactions → (kind place : ℕ) → Transactions
+withKind t kind place =
+    cond
+    (eqb kind 3)
+    (record { atomic = place; nodes = 0; long = t .long })
+    (cond
+    (leb 5 kind && leb kind 8)
+    (record { atomic = t .atomic; nodes = t .nodes + 1; long = longWith (t .long) (t .nodes + 1) (t .atomic) })
+    t)

@@ -6,15 +6,16 @@ ghost use mathlib.Core.Bool.{_&&_, _||_};
 ghost use mathlib.Core.List.{List};
 ghost use mathlib.Core.Path.{_≡_};
 ghost use Rattle.job.specs.Answer.{answer};
-ghost use Rattle.job.specs.InnerScan.{CanAdvance, CanRead, advanced, firstCursor, joined, sortOf, tested, withNone, withOne, withTwo};
+ghost use Rattle.job.specs.InnerScan.{CanAdvance, CanRead, advanced, firstCursor, joined, longWith, sortOf, tested, withKind, withNone, withOne, withTwo};
 ghost use Rattle.script.specs.Jobs.{root, operand as size};
-ghost use Rattle.script.specs.Reader.{nodeAt, readJob, readNodes, whole, permitted as may};
+ghost use Rattle.script.specs.Outcome.{onward};
+ghost use Rattle.script.specs.Reader.{nodeAt, readJob, readNodes, shortOnly, whole, permitted as may};
 
 // What reading a job comes to.
 pub enum Reading {
     // the job's version, and its code's length in bytes
     Accepted(u16, usize),
-    // document 01's number, and the place in the job
+    // the papers' number, and the place in the job
     Refused(u8, usize),
 }
 
@@ -33,6 +34,14 @@ struct Cursor {
     forks: usize,
     place: usize,
     code: usize,
+}
+
+// The transactions so far: where the ATOMIC of the one at hand stands, how many nodes that one has, and where the first ATOMIC stands whose
+// transaction has more than 200, 0 if there is none.
+struct Transactions {
+    atomic: usize,
+    nodes: usize,
+    long: usize,
 }
 
 // Whether a kind may stand where a process or a transaction is due.
@@ -169,6 +178,41 @@ impl Cursor {
     }
 }
 
+// Where the first ATOMIC with more than 200 nodes below it stands, 0 if there is none: `long` if one is known, else `atomic` if that one has more.
+fn first_long(long: usize, nodes: usize, atomic: usize) -> usize
+    ensures { λ r. ⌜ r ≡ longWith long nodes atomic ⌝ }
+{
+    if long > 0 {
+        return long;
+    }
+    if nodes > 200 {
+        return atomic;
+    }
+    0
+}
+
+impl Transactions {
+    // The transactions with a node of this kind more, which stands at `place`.
+    fn with(self, kind: u8, place: usize) -> Transactions
+        requires { ⌜ self .nodes < 18446744073709551615 ⌝ }
+        ensures { λ r. ⌜ r ≡ withKind self kind place ⌝ }
+    {
+        match kind {
+            3 => Transactions {
+                atomic: place,
+                nodes: 0,
+                long: self.long,
+            },
+            5..=8 => Transactions {
+                atomic: self.atomic,
+                nodes: self.nodes + 1,
+                long: first_long(self.long, self.nodes + 1, self.atomic),
+            },
+            _ => self,
+        }
+    }
+}
+
 // Whether nodes of the count or bytes of the job are left over where the tree ended.
 fn left_over(left: usize, end: usize, length: usize) -> bool
     ensures { λ r. ⌜ r ≡ ltb 0 left || ltb end length ⌝ }
@@ -182,11 +226,16 @@ fn left_over(left: usize, end: usize, length: usize) -> bool
 // The nodes of a job, as many as its count.
 fn nodes(job: &[u8], version: u16, count: usize) -> Reading
     requires { ⌜ (7 ≤ length (now job)) × (count ≤ 1000) ⌝ }
-    ensures { λ r. ⌜ r ≡ answer (whole version (readNodes count root 0 7 (drop 7 (now (job .entry))))) ⌝ }
+    ensures { λ r. ⌜ r ≡ answer (onward (whole version (readNodes count root 0 7 (drop 7 (now (job .entry))))) shortOnly) ⌝ }
 {
     let mut due = [0u8; 65];
     due[0] = 1;
     let mut s = Cursor::start(count);
+    let mut t = Transactions {
+        atomic: 0,
+        nodes: 0,
+        long: 0,
+    };
     while s.height > 0 {
         let place = s.place;
         if s.left == 0 {
@@ -197,6 +246,7 @@ fn nodes(job: &[u8], version: u16, count: usize) -> Reading
         let found = node(job, place, part >= 128, part % 128, s.forks);
         match found {
             Tested::Kind(kind) => {
+                t = t.with(kind, place);
                 s = s.advance(&mut due, kind, part % 128 + 1);
             }
             Tested::Refused(number, at) => {
@@ -207,6 +257,10 @@ fn nodes(job: &[u8], version: u16, count: usize) -> Reading
     let end = s.place;
     if left_over(s.left, end, job.len()) {
         return Reading::Refused(9, end);
+    }
+    let long = t.long;
+    if long > 0 {
+        return Reading::Refused(14, long);
     }
     let code = s.code;
     Reading::Accepted(version, code)

@@ -57,7 +57,7 @@ module _ (bytes before : List ℕ) (small : Bytes bytes) (room : length before �
     own = there-and-back (accepted-is-job bytes j small accepted)
 
     fits : length (compiled j) ≤ 5005
-    fits = short (compiled j) j (code-bytes j (accepted-is-job bytes j small accepted .within .valued)) own
+    fits = short (compiled j) j (code-bytes j (accepted-is-job bytes j small accepted .within .sized .valued)) own
 
     written : settles (done j) ≡ record { answer = answer.Done (length (compiled j)); output = onto (compiled j) before }
     written = rw (le-ltb (length before) (length (compiled j)) (omega (arith, fits, room))) refl

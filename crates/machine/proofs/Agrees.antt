@@ -43,7 +43,7 @@ use Rattle.word.specs.Sum.{Rule}
 module _ {code : List ℕ} {j : Job} (c : IsCode code j) where
   -- a job's code runs from an empty stack
   pub outer : Outside (compileP (j .tree) ε) 0
-  outer = outside-proc (j .tree) (c .within .valued)
+  outer = outside-proc (j .tree) (c .within .sized .valued)
 
   -- "each step leaves a state that fits as one that fits, what it frees being 0"
   pub step-fits : (sum : Rule) (s : State) → Fits code s → Typed s → (i : ℕ) → Fits code (pick sum code s i .state) × Typed (pick sum code s i .state)

@@ -181,6 +181,6 @@ code-ready {bytes} {j} i =
         until = let l : length bytes ≡ 5 + length c = ap length (i .text) ∙ omega arith in omega arith;
       };
       runs = runs-in-64 (i .within);
-      valued = valued-proc p ε (i .within .valued) (i .within .few) tt;
+      valued = valued-proc p ε (i .within .sized .valued) (i .within .sized .few) tt;
       low = omega arith;
     }

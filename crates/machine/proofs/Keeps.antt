@@ -100,7 +100,7 @@ module _ {bytes : List ℕ} {j : Job} (c : IsCode bytes j) (o : Outside (compile
   room x k =
       let a = no-more n (row x) links apart in
       let b = forks-proc (j .tree) in
-      let d = c .within .narrow in
+      let d = c .within .sized .narrow in
       omega arith
     where
       links : (m : ℕ) → m < n → Parent (row x m)

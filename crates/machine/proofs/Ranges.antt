@@ -292,7 +292,7 @@ module _ {code : List ℕ} {j : Job} (c : IsCode code j) where
   code-short =
       let a : length code ≡ codeLength (j .tree) = ap length (c .text) ∙ code-length j in
       let b = code-small (j .tree) .1 in
-      let d = c .within .few in
+      let d = c .within .sized .few in
       omega arith
 
   pub low-fits : (s : State) → Fits code s → Typed s → (i : ℕ) → Low (threadAt s i)

@@ -46,7 +46,7 @@ pub short-job : (job : List ℕ) (j : Job) → Bytes job → readJob job ≡ don
 short-job job j b e =
     let i = accepted-is-job job j b e in
     let l : length job ≡ 7 + length (bytesP (j .tree)) = ap length (i .text) ∙ job-length (j .version) (j .tree) in
-    omega (arith, l, short-proc (j .tree), i .within .few)
+    omega (arith, l, short-proc (j .tree), i .within .sized .few)
 
 -- more than 32,768 picks are refused, whatever they are
 pub refused-13 : (job picks : List ℕ) (j : Job) → Bytes job → readJob job ≡ done j → 32768 < length picks → runOf (compiled j) (fresh (compiled j)) picks ≡ refused 13 0

@@ -259,7 +259,7 @@ module _ (job picks : List ℕ) (j : Job) (bytes : Bytes job) (small : Bytes pic
       lent : Lent (call.run (compiled j) (fresh (compiled j)) picks)
       lent =
           record {
-            code = code-bytes j (accepted-is-job job j bytes accepted .within .valued);
+            code = code-bytes j (accepted-is-job job j bytes accepted .within .sized .valued);
             state = fresh-typed (compiled j);
             ranges = fresh-ranged (is-code job j bytes accepted);
             picks = small;

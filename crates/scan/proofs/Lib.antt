@@ -5,3 +5,4 @@ pub mod Views
 pub mod Fits
 pub mod Loops
 pub mod Whole
+pub mod Long

@@ -2,17 +2,17 @@
 use Prim.Native.Nat.{ℕ, zero, suc, _+_, _-_, _≤_, _<_}
 use mathlib.Core.Path.{_≡_, refl, sym, ap, ap₂, subst, fun-ext, _∙_}
 use mathlib.Core.Bool.{Bool, true, false, not, _&&_}
-use mathlib.Core.List.{List, [], _∷_}
+use mathlib.Core.List.{List, [], _∷_, _++_}
 use native.Mathlib.Decide.{decLt, ℕ-discrete}
 use native.Mathlib.Omega.{arith}
 use lib.Dec.{eqb}
 use lib.ListN.{length, drop, getD, set, length-drop, length-append}
-use lib.Seq.{drop-drop}
+use lib.Seq.{drop-drop, getD-drop}
 use borrow.Author.Tests.{eq-eqb, ne-eqb, eqb-false}
 use Rattle.ops.specs.declared.Op.{Op as Instruction}
 use Rattle.scan.specs.InnerView.{ScanState, stackOf, endsOf, view, ifGood, viewed, GoodScan, emptyScan, joined, closeTo, ShortFork, stepTo, finishTo, kindAt, reachAt, Settled}
 use Rattle.ops.specs.Shown.{showOp, shownOp}
-use Rattle.code.specs.Ops.{foreign, Op, push, add, read, write, begin, commit, fork, opAt, sizeOf}
+use Rattle.code.specs.Ops.{foreign, Op, push, add, read, write, begin, commit, fork, opcodeOperand, opAt, sizeOf}
 use Rattle.code.specs.InnerScan.{ScanItem, twoTop, oneTop, scanOp, movedPast, closes, finished, scanOps}
 use Rattle.code.specs.InnerScan as list
 use Rattle.code.proofs.Ops.{opBytes, ValuedO, op-length, op-reads, Sees, good, bad, seen}
@@ -20,6 +20,7 @@ use Rattle.code.proofs.Foreign.{Eleven, op-eleven}
 use Rattle.script.proofs.Numbers.{bytes-drop}
 use Rattle.script.specs.Bytes.{Bytes}
 use Rattle.script.specs.Outcome.{Outcome, refused, done, refuse, onward, mapped}
+use Rattle.scan.proofs.Long.{first-byte, text-length}
 use Rattle.scan.proofs.Branches.{close-done, finish-open, finish-more, finish-other, finish-done}
 use Rattle.scan.proofs.Views.{good-viewed, stack-push, stack-length, two-top, two-low, one-top, one-low, at-index, both-bad, fails, passes, both-true, left-false, right-false, step-viewed}
 use Rattle.scan.proofs.Fits.{good-of, closing, step-fit, step-place, foreign-bad}
@@ -216,6 +217,20 @@ op-fits bs b o e = go (seen bs b)
         omega (arith, op-length op, ap sizeOf g)
     go (bad f) = absurd (let z : _≡_ {A = ℕ} 0 1 = cc in omega arith)
 
+-- an instruction's bytes are its opcode and that one's operand
+own-size : (op : Op) (rest : List ℕ) → sizeOf op ≡ 1 + opcodeOperand (getD (opBytes op ++ rest) 0 0)
+own-size op rest = sym (op-length op) ∙ (text-length op ∙ ap (λ (k : ℕ). 1 + opcodeOperand k) (sym (first-byte op rest)))
+
+op-size : (bs : List ℕ) → Bytes bs → (o : Op) → opAt bs ≡ done o → sizeOf o ≡ 1 + opcodeOperand (getD bs 0 0)
+op-size bs b o e = go (seen bs b)
+  where
+    go : Sees bs → sizeOf o ≡ 1 + opcodeOperand (getD bs 0 0)
+    go (good op rest v t) =
+        let f : opAt bs ≡ done op = rw t (op-reads op rest v) in
+        let g : op ≡ o = cc in
+        subst (λ (u : Op). sizeOf u ≡ 1 + opcodeOperand (getD bs 0 0)) g (subst (λ (l : List ℕ). sizeOf op ≡ 1 + opcodeOperand (getD l 0 0)) (sym t) (own-size op rest))
+    go (bad f) = absurd (let z : _≡_ {A = ℕ} 0 1 = cc in omega arith)
+
 -- what the scan still comes to
 unfoldable pub ahead : List ℕ → list.ListScan → Outcome list.ListScan
 ahead bs v = scanOps (suc (length bs)) v bs
@@ -336,17 +351,24 @@ module _ (code : List ℕ) (bytes : Bytes code) (small : length code ≤ 5005) {
           go (refused n p) a = absurd (foreign-bad r (subst (λ (j : Instruction). stepTo r j .good ≡ true) (e′ ∙ ap shownOp a) b))
           go (done o) a = subst (λ (j : Instruction). Loop code (stepTo r j)) (sym (e′ ∙ ap shownOp a)) (goes-on o a (subst (λ (j : Instruction). stepTo r j .good ≡ true) (e′ ∙ ap shownOp a) b))
 
-      pub further : (i : Instruction) → i ≡ shownOp (opAt (drop (r .place) code)) → stepTo r i .good ≡ true → s .place < stepTo r i .place
-      further i e b = go (opAt bs) refl
+      -- and stands behind the instruction
+      pub onward-by : (i : Instruction) → i ≡ shownOp (opAt (drop (r .place) code)) → stepTo r i .good ≡ true → stepTo r i .place ≡ r .place + (1 + opcodeOperand (getD code (r .place) 0))
+      onward-by i e b = go (opAt bs) refl
         where
           e′ : i ≡ shownOp (opAt bs)
           e′ = e ∙ ap (λ (l : List ℕ). shownOp (opAt l)) same-bytes
 
-          go : (o : Outcome Op) → opAt bs ≡ o → s .place < stepTo r i .place
+          go : (o : Outcome Op) → opAt bs ≡ o → stepTo r i .place ≡ r .place + (1 + opcodeOperand (getD code (r .place) 0))
           go (refused n p) a = absurd (foreign-bad r (subst (λ (j : Instruction). stepTo r j .good ≡ true) (e′ ∙ ap shownOp a) b))
           go (done o) a =
               let k : i ≡ showOp o = e′ ∙ ap shownOp a in
-              subst (λ (j : Instruction). s .place < stepTo r j .place) (sym k) (omega (arith, step-place r o (subst (λ (j : Instruction). stepTo r j .good ≡ true) k b), size-some o, done-s .place))
+              let n : sizeOf o ≡ 1 + opcodeOperand (getD bs 0 0) = op-size bs (bytes-drop (s .place) bytes) o a in
+              let z : s .place + 0 ≡ r .place = omega (arith, done-s .place) in
+              let f : getD bs 0 0 ≡ getD code (r .place) 0 = getD-drop (s .place) code 0 0 ∙ ap (λ (m : ℕ). getD code m 0) z in
+              subst (λ (j : Instruction). stepTo r j .place ≡ r .place + (1 + opcodeOperand (getD code (r .place) 0))) (sym k) (step-place r o (subst (λ (j : Instruction). stepTo r j .good ≡ true) k b) ∙ ap (λ (m : ℕ). r .place + m) (n ∙ ap (λ (m : ℕ). 1 + opcodeOperand m) f))
+
+      pub further : (i : Instruction) → i ≡ shownOp (opAt (drop (r .place) code)) → stepTo r i .good ≡ true → s .place < stepTo r i .place
+      further i e b = omega (arith, onward-by i e b, done-s .place)
 
 -- a FORK's length is one of 16 bits
 pub op-small : (bs : List ℕ) → Bytes bs → ShortFork (shownOp (opAt bs))

@@ -10,10 +10,10 @@ use Rattle.scan.specs.declared.Scan.{Scan}
 use Rattle.scan.specs.declared.Scanned.{Scanned}
 use Rattle.scan.specs.declared.Scanned.the-variants as scanned
 use Rattle.scan.specs.Answer.{told}
-use Rattle.scan.specs.InnerView.{ScanState, state, view, ifGood, viewed, Followed}
+use Rattle.scan.specs.InnerView.{ScanState, state, view, ifGood, viewed, Followed, short, long as too-long-code}
 use Rattle.code.specs.Bytes.{IsCode}
 use Rattle.code.specs.Ops.{foreign}
-use Rattle.code.specs.Reader.{codeMarked, readCode}
+use Rattle.code.specs.Reader.{codeMarked, readCodeTree, shortOnly, readCode}
 use Rattle.code.specs.InnerScan.{scanStart, scanOps, Summary, summary, scanCode}
 use Rattle.code.specs.InnerScan as list
 use Rattle.code.proofs.Flat.{code-length}
@@ -22,7 +22,7 @@ use Rattle.code.proofs.ReadBack.{read-is-code, code-small}
 use Rattle.code.proofs.Scans.{scan-is-read}
 use Rattle.script.specs.Bytes.{Bytes}
 use Rattle.script.specs.Count.{codeLength, nodesP}
-use Rattle.script.specs.Outcome.{Outcome, refused, done, mapped}
+use Rattle.script.specs.Outcome.{Outcome, refused, done, onward, mapped}
 use Rattle.script.specs.Jobs.{Job, number16}
 use Rattle.script.specs.Reader.{taken}
 use Rattle.scan.proofs.Loops.{scan-fuel}
@@ -45,12 +45,20 @@ told-determines (refused n p) (done j) e = absurd (let z : _≡_ {A = ℕ} 0 1 =
 told-determines (done i) (refused m q) e = absurd (let z : _≡_ {A = ℕ} 0 1 = cc in omega arith)
 told-determines (done i) (done j) e = cc
 
-told-is : (code : List ℕ) → summed (scanCode code) ≡ told (readCode code)
-told-is code = ap summed (scan-is-read code) ∙ told-summed (readCode code)
+told-is : (code : List ℕ) → summed (scanCode code) ≡ told (readCodeTree code)
+told-is code = ap summed (scan-is-read code) ∙ told-summed (readCodeTree code)
+
+was-foreign : (o : Outcome Job) → scanned.Refused 11 0 ≡ told o → o ≡ refused 11 0
+was-foreign (refused n p) e = cc
+was-foreign (done j) e = absurd (let z : _≡_ {A = ℕ} 0 1 = cc in omega arith)
+
+was-read : (o : Outcome Job) (version nodes size : ℕ) → scanned.Job version nodes size ≡ told o → (j : Job) × (o ≡ done j)
+was-read (refused n p) version nodes size e = absurd (let z : _≡_ {A = ℕ} 0 1 = cc in omega arith)
+was-read (done j) version nodes size e = (j, refl)
 
 module _ (code : List ℕ) (bytes : Bytes code) where
   pub too-short : length code < 5 → scanned.Refused 11 0 ≡ told (readCode code)
-  unfolding readCode
+  unfolding readCode readCodeTree
   too-short h = rw (lt-ltb (length code) 5 h)
 
   -- the code of a job within the limits is at most 5,005 bytes long
@@ -63,37 +71,60 @@ module _ (code : List ℕ) (bytes : Bytes code) where
       go (done j) e =
           let c : IsCode code j = read-is-code code j bytes e in
           let l : length code ≡ codeLength (j .tree) = ap length (c .text) ∙ code-length j in
-          absurd (far j (c .within .few) (rw l at h))
+          absurd (far j (c .within .sized .few) (rw l at h))
         where
           far : (j : Job) → nodesP (j .tree) ≤ 1000 → 5005 < codeLength (j .tree) → ⊥
           far j few m = omega (arith, code-small (j .tree))
 
   module _ (long : 5 ≤ length code) where
     pub bad-mark : codeMarked code ≡ false → scanned.Refused 11 0 ≡ told (readCode code)
-    unfolding readCode
+    unfolding readCode readCodeTree
     bad-mark e = rw (le-ltb (length code) 5 long, e)
 
     module _ (mark : codeMarked code ≡ true) where
       pub bad-version : (number16 code 3 ≡ 1 → ⊥) → scanned.Refused 11 0 ≡ told (readCode code)
-      unfolding readCode taken
+      unfolding readCode readCodeTree taken
       bad-version n = rw (le-ltb (length code) 5 long, mark, ne-eqb (number16 code 3) 1 n)
 
-      module _ (version : number16 code 3 ≡ 1) (s : Scan) (v : Followed (drop 5 code) s) where
-        abbrev full : ScanState
-        full = state s (v .items) (v .ends)
+      module _ (version : number16 code 3 ≡ 1) (s : Scan) where
+        -- what the lists come to is what a job within document 01's limits comes to
+        module _ (items ends : List ℕ) (same : viewed (state s items ends) ≡ scanOps (suc (length (drop 5 code))) scanStart (drop 5 code)) where
+          abbrev full : ScanState
+          full = state s items ends
 
-        whole : mapped (λ (t : list.ListScan). record { version = number16 code 3; nodes = t .nodes; size = t .size }) (viewed full) ≡ scanCode code
-        unfolding scanCode taken
-        whole =
-            let f : scanOps (suc (length (drop 5 code))) scanStart (drop 5 code) ≡ scanOps (suc (length code)) scanStart (drop 5 code) = scan-fuel (suc (length (drop 5 code))) (suc (length code)) scanStart (drop 5 code) (omega arith) (omega (arith, length-drop 5 code)) in
-            rw (le-ltb (length code) 5 long, mark, eq-eqb (number16 code 3) 1 version) (ap (mapped (λ (t : list.ListScan). record { version = number16 code 3; nodes = t .nodes; size = t .size })) (v .same ∙ f))
+          whole : mapped (λ (t : list.ListScan). record { version = number16 code 3; nodes = t .nodes; size = t .size }) (viewed full) ≡ scanCode code
+          unfolding scanCode taken
+          whole =
+              let f : scanOps (suc (length (drop 5 code))) scanStart (drop 5 code) ≡ scanOps (suc (length code)) scanStart (drop 5 code) = scan-fuel (suc (length (drop 5 code))) (suc (length code)) scanStart (drop 5 code) (omega arith) (omega (arith, length-drop 5 code)) in
+              rw (le-ltb (length code) 5 long, mark, eq-eqb (number16 code 3) 1 version) (ap (mapped (λ (t : list.ListScan). record { version = number16 code 3; nodes = t .nodes; size = t .size })) (same ∙ f))
 
-        pub is-foreign : s .good ≡ false → scanned.Refused 11 0 ≡ told (readCode code)
-        is-foreign b =
-            let w : viewed full ≡ foreign = ap (λ (t : Bool). ifGood t (view full)) b in
-            ap (λ (o : Outcome list.ListScan). summed (mapped (λ (t : list.ListScan). record { version = number16 code 3; nodes = t .nodes; size = t .size }) o)) (sym w) ∙ (ap summed whole ∙ told-is code)
+          no-parts : s .good ≡ false → scanned.Refused 11 0 ≡ told (readCodeTree code)
+          no-parts b =
+              let w : viewed full ≡ foreign = ap (λ (t : Bool). ifGood t (view full)) b in
+              ap (λ (o : Outcome list.ListScan). summed (mapped (λ (t : list.ListScan). record { version = number16 code 3; nodes = t .nodes; size = t .size }) o)) (sym w) ∙ (ap summed whole ∙ told-is code)
 
-        pub is-job : s .good ≡ true → scanned.Job (number16 code 3) (s .nodes) (s .size) ≡ told (readCode code)
-        is-job b =
-            let w : viewed full ≡ done (view full) = ap (λ (t : Bool). ifGood t (view full)) b in
-            ap (λ (o : Outcome list.ListScan). summed (mapped (λ (t : list.ListScan). record { version = number16 code 3; nodes = t .nodes; size = t .size }) o)) (sym w) ∙ (ap summed whole ∙ told-is code)
+          is-parts : s .good ≡ true → scanned.Job (number16 code 3) (s .nodes) (s .size) ≡ told (readCodeTree code)
+          is-parts b =
+              let w : viewed full ≡ done (view full) = ap (λ (t : Bool). ifGood t (view full)) b in
+              ap (λ (o : Outcome list.ListScan). summed (mapped (λ (t : list.ListScan). record { version = number16 code 3; nodes = t .nodes; size = t .size }) o)) (sym w) ∙ (ap summed whole ∙ told-is code)
+
+        pub is-foreign : Followed code s → s .good ≡ false → scanned.Refused 11 0 ≡ told (readCode code)
+        unfolding readCode
+        is-foreign (short items ends same fine) b = rw (was-foreign (readCodeTree code) (no-parts items ends same b))
+        is-foreign (too-long-code b over) c = go (readCodeTree code) refl
+          where
+            go : (o : Outcome Job) → readCodeTree code ≡ o → scanned.Refused 11 0 ≡ told (onward o shortOnly)
+            go (refused n p) e =
+                let f : readCode code ≡ refused n p = ap (λ (o : Outcome Job). onward o shortOnly) e in
+                let h = only-foreign code n p f in
+                ap₂ scanned.Refused (sym (h .0)) (sym (h .1))
+            go (done j) e = rw (over j e)
+
+        pub is-job : Followed code s → s .good ≡ true → scanned.Job (number16 code 3) (s .nodes) (s .size) ≡ told (readCode code)
+        unfolding readCode
+        is-job (short items ends same fine) g =
+            let p = is-parts items ends same g in
+            let w = was-read (readCodeTree code) (number16 code 3) (s .nodes) (s .size) p in
+            let e : scanned.Job (number16 code 3) (s .nodes) (s .size) ≡ told (done (w .0)) = rw (w .1) at p in
+            rw (w .1, fine g (w .0) (w .1)) e
+        is-job (too-long-code b over) g = absurd (let e : true ≡ false = sym g ∙ b in let z : _≡_ {A = ℕ} 0 1 = cc in omega arith)

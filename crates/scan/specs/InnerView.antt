@@ -1,16 +1,20 @@
 -- For the proof of `scan_code` only: what its functions do, the arrays standing for the lists of code/specs/InnerScan.antt.
 use Prim.Native.Nat.{ℕ, zero, suc, _+_, _*_, _-_, _≤_, _<_, max}
-use mathlib.Core.Bool.{Bool, true, false, cond, not}
+use mathlib.Core.Bool.{Bool, true, false, cond, not, _&&_}
 use mathlib.Core.Path.{_≡_}
 use mathlib.Core.List.{List, [], _∷_}
 use lib.Dec.{eqb, ltb}
-use lib.ListN.{length, getD, set, replicate}
+use lib.ListN.{length, drop, getD, set, replicate}
 use Rattle.ops.specs.declared.Op.{Op}
 use Rattle.ops.specs.declared.Op.the-variants as op
 use Rattle.scan.specs.declared.Scan.{Scan}
 use Rattle.code.specs.Ops.{foreign}
 use Rattle.code.specs.InnerScan.{ScanItem}
 use Rattle.code.specs.InnerScan as list
+use Rattle.code.specs.Reader.{readCodeTree}
+use Rattle.script.specs.Count.{longestNodes}
+use Rattle.script.specs.Jobs.{Job}
+use Rattle.script.specs.Limits.{mostTransaction}
 use Rattle.script.specs.Outcome.{Outcome, done}
 
 -- the whole scan: the numbers that the code's `Scan` has, and the two arrays beside them
@@ -291,8 +295,25 @@ pub record Settled (s r : ScanState) : Type 0 where
   pub fit : r .good ≡ true → GoodScan r
   pub place : r .place ≡ s .place
 
--- the scan's numbers, with some arrays beside them, are what the lists come to
-pub record Followed (bs : List ℕ) (s : Scan) : Type 0 where
-  pub items : List ℕ
-  pub ends : List ℕ
-  pub same : viewed (state s items ends) ≡ list.scanOps (suc (length bs)) list.scanStart bs
+-- ---- the nodes of a transaction
+
+-- the COMMIT of a transaction that is too long, so many instructions being behind its BEGIN
+unfoldable pub endsLong : (opcode since : ℕ) → Bool
+endsLong opcode since = eqb opcode 6 && ltb 200 since
+
+-- the instructions behind the last BEGIN, with one more
+unfoldable pub countedTo : (opcode since : ℕ) → ℕ
+countedTo opcode since = cond (eqb opcode 5) 0 (since + 1)
+
+-- the job's longest transaction is too long, or is not, if the code is that of a job within document 01's limits
+abbrev pub IfRead : (code : List ℕ) (long : Bool) → Type 0
+IfRead code long = (j : Job) → readCodeTree code ≡ done j → ltb mostTransaction (longestNodes (j .tree)) ≡ long
+
+-- what `instructions` makes of code: its numbers, with some arrays beside them, are what the lists come to, and if it is good no transaction is
+-- too long; or one is too long, and it is not good
+pub data Followed (code : List ℕ) (s : Scan) : Type 0 where
+  short : (items ends : List ℕ) →
+      viewed (state s items ends) ≡ list.scanOps (suc (length (drop 5 code))) list.scanStart (drop 5 code) →
+      (s .good ≡ true → IfRead code false) →
+      Followed code s
+  long : s .good ≡ false → IfRead code true → Followed code s

@@ -1,13 +1,13 @@
 // Whether code is foreign, and what is known of the job that compiles to it: one pass over the code, with a stack of 64 items.
 ghost use Prim.Native.Nat.{ℕ, _+_, _<_, _≤_, max};
 ghost use lib.Dec.{eqb};
-ghost use lib.ListN.{drop, length, replicate};
+ghost use lib.ListN.{length, replicate};
 ghost use mathlib.Core.Bool.{_&&_, cond, true};
 ghost use mathlib.Core.List.{List};
 ghost use mathlib.Core.Path.{_≡_};
 ghost use Rattle.code.specs.Reader.{readCode};
 ghost use Rattle.scan.specs.Answer.{told};
-ghost use Rattle.scan.specs.InnerView.{Followed, GoodScan, ItemRoom, Limits, Settled, ShortFork, addTo, bad, closeTo, commitTo, finishTo, forkTo, leafTo, movedTo, enterTo, setTo, emptyScan, state, stepTo, topTo, writeTo};
+ghost use Rattle.scan.specs.InnerView.{Followed, GoodScan, ItemRoom, Limits, Settled, ShortFork, addTo, bad, closeTo, commitTo, countedTo, endsLong, finishTo, forkTo, leafTo, movedTo, enterTo, setTo, emptyScan, state, stepTo, topTo, writeTo};
 
 // What scanning code comes to.
 pub enum Scanned {
@@ -336,14 +336,36 @@ impl Scan {
     }
 }
 
+// Whether this is the COMMIT of a transaction of more than 200 nodes, `since` being the instructions behind its BEGIN.
+fn ends_long(opcode: u8, since: usize) -> bool
+    ensures { λ r. ⌜ r ≡ endsLong opcode since ⌝ }
+{
+    if opcode != 6 {
+        return false;
+    }
+    since > 200
+}
+
+// The instructions behind the last BEGIN, which inside a transaction are its nodes so far, with one more.
+fn counted(opcode: u8, since: usize) -> usize
+    requires { ⌜ since < 18446744073709551615 ⌝ }
+    ensures { λ r. ⌜ r ≡ countedTo opcode since ⌝ }
+{
+    if opcode == 5 {
+        return 0;
+    }
+    since + 1
+}
+
 // The instructions behind the header.
 fn instructions(code: &[u8]) -> Scan
     requires { ⌜ (5 ≤ length (now code)) × (length (now code) ≤ 5005) ⌝ }
-    ensures { λ r. ⌜ Followed (drop 5 (now (code .entry))) r ⌝ }
+    ensures { λ r. ⌜ Followed (now (code .entry)) r ⌝ }
 {
     let mut items = [0u8; 128];
     let mut ends = [0usize; 15];
     let mut s = Scan::start();
+    let mut since = 0;
     loop {
         s = s.settle(&mut items, &ends);
         if !s.good {
@@ -353,6 +375,11 @@ fn instructions(code: &[u8]) -> Scan
         if place >= code.len() {
             return s.finish(&items);
         }
+        let opcode = code[place];
+        if ends_long(opcode, since) {
+            return s.foreign();
+        }
+        since = counted(opcode, since);
         let op = ops::op_at(code, place);
         s = s.step(&mut items, &mut ends, op);
         if !s.good {

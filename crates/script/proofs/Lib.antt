@@ -2,6 +2,7 @@
 pub mod Numbers
 pub mod Nodes
 pub mod Reading
+pub mod Long
 pub mod Accepts
 pub mod Refuses
 pub mod Transactions

@@ -1,4 +1,4 @@
--- The job reader accepts exactly the bytes of trees within the limits, and gives that tree. Assumes nothing.
+-- The job reader's tests of the nodes pass exactly the bytes of trees within document 01's limits, and give that tree. Assumes nothing.
 use Prim.Native.Nat.{ℕ, zero, suc, _+_, _≤_}
 use mathlib.Core.Path.{_≡_, refl, sym, ap, subst, _∙_}
 use mathlib.Core.List.{List, [], _∷_, _++_, append-assoc}
@@ -54,10 +54,10 @@ module _ (ds : List Due) (n : ℕ) where
 regrouped : (x a b rest : List ℕ) → x ++ (a ++ b) ++ rest ≡ x ++ (a ++ (b ++ rest))
 regrouped x a b rest = append-assoc x (a ++ b) rest ∙ ap (λ (l : List ℕ). x ++ l) (append-assoc a b rest)
 
-both-ends : (p : ℕ) (x a b : List ℕ) → p + length x + length a + length b ≡ p + length (x ++ (a ++ b))
+pub both-ends : (p : ℕ) (x a b : List ℕ) → p + length x + length a + length b ≡ p + length (x ++ (a ++ b))
 both-ends p x a b = simp length-append (omega arith)
 
-one-ends : (p : ℕ) (x a : List ℕ) → p + length x + length a ≡ p + length (x ++ a)
+pub one-ends : (p : ℕ) (x a : List ℕ) → p + length x + length a ≡ p + length (x ++ a)
 one-ends p x a = simp length-append (omega arith)
 
 -- a transaction's bytes are read: what is due behind it comes next

@@ -1,4 +1,4 @@
--- The job reader refuses n at p exactly if document 01's table does. Assumes nothing.
+-- The job reader refuses n at p exactly if document 01's table, with document 02 No. 3's row, does. Assumes nothing.
 use Prim.Native.Nat.{ℕ, zero, suc, _+_, _≤_, _<_}
 use mathlib.Core.Path.{_≡_, refl, sym, ap, subst, subst₂, _∙_}
 use mathlib.Core.Bool.{Bool, true, false}
@@ -11,19 +11,20 @@ use lib.ListN.{length, drop, take, length-append, length-drop}
 use borrow.Author.Tests.{lt-ltb, le-ltb, le-leb, lt-leb, eq-eqb, ne-eqb, eqb-true}
 use Rattle.script.specs.Tree.{Sort}
 use Rattle.script.specs.Bytes.{Bytes, Node, nodeBytes, jobMark}
-use Rattle.script.specs.Outcome.{Outcome, refused, done, mapped}
-use Rattle.script.specs.Jobs.{Due, number16, partsThen, forkOf, root}
-use Rattle.script.specs.Reader.{Forest, grown, readNodes, jobMarked, taken, readJob}
-use Rattle.script.specs.Refusal.{Permitted, DueNode, Long, Marked, Versioned, Counted, Reaches, start, next, Refused, cut-header, cut-node, cut-operand, mark, version, count, kind, register, depth, forks, used-up, nodes-over, bytes-over}
+use Rattle.script.specs.Outcome.{Outcome, refused, done, onward, mapped}
+use Rattle.script.specs.Jobs.{Due, number16, partsThen, forkOf, root, Job}
+use Rattle.script.specs.Reader.{Forest, grown, readNodes, jobMarked, taken, readTree, shortFrom, shortOnly, readJob}
+use Rattle.script.specs.Refusal.{Permitted, DueNode, Headed, Marked, Versioned, Counted, Reaches, start, next, Refused, cut-header, cut-node, cut-operand, mark, version, count, kind, register, depth, forks, used-up, nodes-over, bytes-over, long}
 use Rattle.script.proofs.Numbers.{bytes-drop}
 use Rattle.script.proofs.Nodes.{Sees, no-byte, bad-kind, too-deep, cut, bad-register, many-forks, good, node-sees, seen}
 use Rattle.script.proofs.Reading.{read-one, bytes-behind}
-use Rattle.script.proofs.Accepts.{both}
+use Rattle.script.proofs.Long.{Judged, short, long as too-long, judged, long-fails}
+use Rattle.script.proofs.Accepts.{both, read-is-tree, tree-is-read}
 
 -- what holds wherever the reader has come
 module _ (bs : List ℕ) where
   place-is : {left : ℕ} {ds : List Due} {f p : ℕ} {rest : List ℕ} → Reaches bs left ds f p rest → p + length rest ≡ length bs
-  place-is (start c) = rw (length-drop 7 bs) (omega (arith, c .before .before .before .long))
+  place-is (start c) = rw (length-drop 7 bs) (omega (arith, c .before .before .before .enough))
   place-is (next {place = p} {rest = rest} node r v h g) =
       omega (arith, place-is r, length-append (nodeBytes node) rest)
 
@@ -58,11 +59,11 @@ mark-back (a ∷ b ∷ c ∷ bs) e =
     rw (eq-eqb a 87 p, eq-eqb b 83 q, eq-eqb c 74 r)
 
 -- past the header the nodes decide
-header-passed : {bs : List ℕ} → Counted bs → readJob bs ≡ mapped (λ (ts : Forest root). record { version = number16 bs 3; tree = ts .0 }) (readNodes (number16 bs 5) root 0 7 (drop 7 bs))
-unfolding readJob taken
+header-passed : {bs : List ℕ} → Counted bs → readTree bs ≡ mapped (λ (ts : Forest root). record { version = number16 bs 3; tree = ts .0 }) (readNodes (number16 bs 5) root 0 7 (drop 7 bs))
+unfolding readTree taken
 header-passed {bs} c =
     rw (
-      le-ltb (length bs) 7 (c .before .before .before .long),
+      le-ltb (length bs) 7 (c .before .before .before .enough),
       mark-back bs (c .before .before .mark),
       eq-eqb (number16 bs 3) 1 (c .before .version),
       le-leb 1 (number16 bs 5) (c .some),
@@ -70,10 +71,14 @@ header-passed {bs} c =
     )
 
 -- what the reader refuses where it has come, it refuses
+tree-reached : {bs : List ℕ} {left : ℕ} {ds : List Due} {f p n q : ℕ} {rest : List ℕ} → Reaches bs left ds f p rest → readNodes left ds f p rest ≡ refused n q → readTree bs ≡ refused n q
+tree-reached {n = n} {q = q} (start c) e = header-passed c ∙ ap (mapped _) e
+tree-reached {n = n} {q = q} (next {left = left} {d = d} {ds = ds} {forks = f} {place = p} {rest = rest} node r v h g) e =
+    tree-reached r (read-one node left (d .depth) f p ds rest v h g ∙ ap (mapped (grown node (d .depth) ds)) e)
+
 reached : {bs : List ℕ} {left : ℕ} {ds : List Due} {f p n q : ℕ} {rest : List ℕ} → Reaches bs left ds f p rest → readNodes left ds f p rest ≡ refused n q → readJob bs ≡ refused n q
-reached {n = n} {q = q} (start c) e = header-passed c ∙ ap (mapped _) e
-reached {n = n} {q = q} (next {left = left} {d = d} {ds = ds} {forks = f} {place = p} {rest = rest} node r v h g) e =
-    reached r (read-one node left (d .depth) f p ds rest v h g ∙ ap (mapped (grown node (d .depth) ds)) e)
+unfolding readJob
+reached r e = ap (λ (o : Outcome Job). onward o shortOnly) (tree-reached r e)
 
 -- a node that is refused
 stuck : {s : Sort} {n f p k q : ℕ} {bs : List ℕ} (left : ℕ) (ds : List Due) → Sees {s = s} n f p bs (refused k q) → readNodes (suc left) (record { sort = s; depth = n } ∷ ds) f p bs ≡ refused k q
@@ -85,7 +90,7 @@ stopped {left = left} {ds = ds} r sees = reached r (stuck left ds sees)
 
 -- what the table refuses, the reader refuses
 pub refused-is-read : {bs : List ℕ} {n p : ℕ} → Refused bs n p → readJob bs ≡ refused n p
-unfolding readJob readNodes taken
+unfolding readJob readTree readNodes taken
 refused-is-read {bs} (cut-header h) = rw (lt-ltb (length bs) 7 h)
 refused-is-read {bs} (cut-node {place = p} r) =
     let e : p ≡ length bs = omega (arith, place-is bs r) in
@@ -94,18 +99,18 @@ refused-is-read {bs} (cut-operand n a l) =
     let e : n .place + suc (length (n .rest)) ≡ length bs = place-is bs (n .reached) in
     stopped (n .reached) (cut (a .permitted) (a .flat) l) ∙ ap (refused 1) e
 refused-is-read {bs} (mark l n) =
-    rw (le-ltb (length bs) 7 (l .long), no-mark (jobMarked bs) refl)
+    rw (le-ltb (length bs) 7 (l .enough), no-mark (jobMarked bs) refl)
   where
     no-mark : (b : Bool) → jobMarked bs ≡ b → jobMarked bs ≡ false
-    no-mark true e = absurd (n (mark-yes bs (omega (arith, l .long)) e))
+    no-mark true e = absurd (n (mark-yes bs (omega (arith, l .enough)) e))
     no-mark false e = e
 refused-is-read {bs} (version m n) =
-    rw (le-ltb (length bs) 7 (m .before .long), mark-back bs (m .mark), ne-eqb (number16 bs 3) 1 n)
+    rw (le-ltb (length bs) 7 (m .before .enough), mark-back bs (m .mark), ne-eqb (number16 bs 3) 1 n)
 refused-is-read {bs} (count v (inl e)) =
-    rw (le-ltb (length bs) 7 (v .before .before .long), mark-back bs (v .before .mark), eq-eqb (number16 bs 3) 1 (v .version), e)
+    rw (le-ltb (length bs) 7 (v .before .before .enough), mark-back bs (v .before .mark), eq-eqb (number16 bs 3) 1 (v .version), e)
 refused-is-read {bs} (count v (inr l)) =
     rw (
-      le-ltb (length bs) 7 (v .before .before .long),
+      le-ltb (length bs) 7 (v .before .before .enough),
       mark-back bs (v .before .mark),
       eq-eqb (number16 bs 3) 1 (v .version),
       le-leb 1 (number16 bs 5) (omega arith),
@@ -121,6 +126,7 @@ refused-is-read (used-up r) = reached r refl
 refused-is-read (nodes-over r) = reached r refl
 refused-is-read (bytes-over {left = zero} {rest = rest} r) = reached r (rw (eqb·suc-zero (length rest)))
 refused-is-read (bytes-over {left = suc left} r) = reached r refl
+refused-is-read {bs} (long {j = j} {i = i} t f) = rw (tree-is-read bs j t, long-fails 7 (j .tree) i f)
 
 -- the header is turned down, or passes all its tests
 data Header (bs : List ℕ) : Type 0 where
@@ -139,13 +145,13 @@ header bs = long (decLt (length bs) 7)
     versioned m (yes e) = counted (record { before = m; version = e }) (decLt (number16 bs 5) 1) (decLt 1000 (number16 bs 5))
     versioned m (no n) = turned-down (version m n)
 
-    with-mark : Long bs → (t : Bool) → jobMarked bs ≡ t → Header bs
-    with-mark l true e = versioned (record { before = l; mark = mark-yes bs (omega (arith, l .long)) e }) (ℕ-discrete (number16 bs 3) 1)
+    with-mark : Headed bs → (t : Bool) → jobMarked bs ≡ t → Header bs
+    with-mark l true e = versioned (record { before = l; mark = mark-yes bs (omega (arith, l .enough)) e }) (ℕ-discrete (number16 bs 3) 1)
     with-mark l false e = turned-down (mark l (λ m. let f = mark-back bs m in absurd (let z : _≡_ {A = ℕ} 0 1 = cc in omega arith)))
 
     long : Dec (length bs < 7) → Header bs
     long (yes h) = turned-down (cut-header h)
-    long (no h) = with-mark (record { long = omega arith }) (jobMarked bs) refl
+    long (no h) = with-mark (record { enough = omega arith }) (jobMarked bs) refl
 
 mapped-refused : {A B : Type 0} {k q : ℕ} (g : A → B) (o : Outcome A) → mapped g o ≡ refused k q → o ≡ refused k q
 mapped-refused g (refused n p) e = cc
@@ -191,10 +197,22 @@ module _ (bs : List ℕ) (b : Bytes bs) where
 
   -- what the reader refuses, the table refuses
   pub read-is-refused : (k q : ℕ) → readJob bs ≡ refused k q → Refused bs k q
+  unfolding readJob
   read-is-refused k q e = go (header bs)
     where
       go : Header bs → Refused bs k q
       go (turned-down {number = n} {place = p} r) =
           let e′ : readJob bs ≡ refused n p = refused-is-read r in
           subst₂ (Refused bs) (cc) (cc) r
-      go (all-passed c) = nodes-refused (number16 bs 5) root 0 7 (drop 7 bs) k q (start c) (mapped-refused _ _ (sym (header-passed c) ∙ e))
+      go (all-passed c) = read (readTree bs) refl
+        where
+          -- the tree is too long, or was not read
+          judge : (j : Job) → readTree bs ≡ done j → (o : Outcome (Unit {0})) → Judged 7 (j .tree) o → mapped (λ (u : Unit {0}). j) o ≡ refused k q → Refused bs k q
+          judge j t _ (short h) r = absurd (let z : _≡_ {A = ℕ} 0 1 = cc in omega arith)
+          judge j t _ (too-long {i = i} {at = at} f l) r = subst₂ (Refused bs) (cc) (cc) (long (read-is-tree bs j b t) f)
+
+          read : (o : Outcome Job) → readTree bs ≡ o → Refused bs k q
+          read (refused n p) t =
+              let r : refused n p ≡ refused k q = sym (ap (λ (o : Outcome Job). onward o shortOnly) t) ∙ e in
+              nodes-refused (number16 bs 5) root 0 7 (drop 7 bs) k q (start c) (mapped-refused _ _ (sym (header-passed c) ∙ (t ∙ r)))
+          read (done j) t = judge j t (shortFrom 7 (j .tree)) (judged 7 (j .tree)) (sym (ap (λ (o : Outcome Job). onward o shortOnly) t) ∙ e)

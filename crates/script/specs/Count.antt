@@ -59,6 +59,13 @@ longest (AddP a b) = max (longest a) (longest b)
 longest (Atomic t) = nodesT t + 2
 longest (Fork p) = longest p
 
+-- document 02 No. 3: the nodes of the longest transaction, "ATOMIC not counted"; 0 if there is none
+unfoldable pub longestNodes : Proc → ℕ
+longestNodes (ValP n) = 0
+longestNodes (AddP a b) = max (longestNodes a) (longestNodes b)
+longestNodes (Atomic t) = nodesT t
+longestNodes (Fork p) = longestNodes p
+
 -- demand 3: L + (K−1)×(T−1)×M, "or L if K is 0"
 unfoldable pub bound : Proc → ℕ
 bound p = instructions p + (atomics p - 1) * (threads p - 1) * longest p

@@ -1,7 +1,7 @@
--- Document 01: which trees are scripts, and the limits of a job.
+-- Which trees are scripts, and the limits of a job: document 01's, and document 02 No. 3's.
 use Prim.Native.Nat.{ℕ, _≤_, _<_}
 use Rattle.script.specs.Tree.{Tran, ValT, AddT, Read, Write, Proc, ValP, AddP, Atomic, Fork, Sort, process, transaction, Tree}
-use Rattle.script.specs.Count.{nodesP, depthP, forks}
+use Rattle.script.specs.Count.{nodesP, depthP, forks, longestNodes}
 use Rattle.word.specs.Sum.{InRange}
 
 -- "n is a signed 32-bit number and v a register, 0 to 63"
@@ -31,8 +31,16 @@ mostDepth = 64
 abbrev pub mostForks : ℕ
 mostForks = 15
 
-pub record Within (p : Proc) : Type 0 where
+pub record Sized (p : Proc) : Type 0 where
   pub valued : ValuedP p
   pub few : nodesP p ≤ mostNodes
   pub flat : depthP p ≤ mostDepth
   pub narrow : forks p ≤ mostForks
+
+-- document 02 No. 3: "A transaction may hold at most 200 nodes, ATOMIC not counted"
+abbrev pub mostTransaction : ℕ
+mostTransaction = 200
+
+pub record Within (p : Proc) : Type 0 where
+  pub sized : Sized p
+  pub short : longestNodes p ≤ mostTransaction

@@ -1,4 +1,4 @@
--- What a call comes to: a refusal, with document 01's number and place, or its result.
+-- What a call comes to: a refusal, with the papers' number and place, or its result.
 use Prim.Native.Nat.{ℕ}
 use mathlib.Core.Bool.{Bool, true, false}
 use mathlib.Core.List.{List, [], _∷_}

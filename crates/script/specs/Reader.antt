@@ -1,13 +1,14 @@
--- The job reader: document 01, "Turning a job down", test by test in its order. Nobody has to believe it: `accepted-is-job` and
+-- The job reader: document 01, "Turning a job down", test by test in its order, and document 02 No. 3. Nobody has to believe it: `accepted-is-job` and
 -- `job-is-accepted` (proofs/Accepts), `refused-is-read` and `read-is-refused` (proofs/Refuses) determine it.
 use Prim.Native.Nat.{ℕ, zero, suc, _+_}
 use mathlib.Core.Bool.{Bool, cond, not, _&&_}
 use mathlib.Core.List.{List, [], _∷_}
 use lib.Dec.{eqb, leb, ltb}
 use lib.ListN.{length, drop, getD}
-use Rattle.script.specs.Tree.{ValP, AddP, Atomic, Fork, ValT, AddT, Read, Write, Sort, process, transaction, Tree}
-use Rattle.script.specs.Limits.{mostNodes, mostDepth, mostForks}
-use Rattle.script.specs.Bytes.{Node, VALP, ADDP, ATOMIC, FORK, VALT, ADDT, READ, WRITE, nodeBytes}
+use Rattle.script.specs.Tree.{Proc, ValP, AddP, Atomic, Fork, ValT, AddT, Read, Write, Sort, process, transaction, Tree}
+use Rattle.script.specs.Count.{nodesT}
+use Rattle.script.specs.Limits.{mostNodes, mostDepth, mostForks, mostTransaction}
+use Rattle.script.specs.Bytes.{Node, VALP, ADDP, ATOMIC, FORK, VALT, ADDT, READ, WRITE, nodeBytes, bytesP}
 use Rattle.script.specs.Jobs.{number16, number32, operand, Due, root, partsThen, forkOf, Job}
 use Rattle.script.specs.Outcome.{Outcome, refused, done, refuse, test, tests, onward, mapped}
 use Rattle.word.specs.Sum.{signed}
@@ -87,9 +88,9 @@ taken version = eqb version 1
 abbrev pub whole : ℕ → Outcome (Forest root) → Outcome Job
 whole version = mapped (λ ts. record { version = version; tree = ts .0 })
 
--- "Job order: fewer than 7 bytes is 1; then 2, 3, 4", then the nodes
-unfoldable pub readJob : List ℕ → Outcome Job
-readJob bs =
+-- document 01's tests. "Job order: fewer than 7 bytes is 1; then 2, 3, 4", then the nodes
+unfoldable pub readTree : List ℕ → Outcome Job
+readTree bs =
     tests
     (test (ltb (length bs) 7) 1 (length bs)
     ∷ test (not (jobMarked bs)) 2 0
@@ -97,3 +98,18 @@ readJob bs =
     ∷ test (not (leb 1 (number16 bs 5) && leb (number16 bs 5) mostNodes)) 4 5
     ∷ [])
     (whole (number16 bs 3) (readNodes (number16 bs 5) root 0 7 (drop 7 bs)))
+
+-- document 02 No. 3's test: 14 at "the kind byte of the first ATOMIC concerned", left to right, p's own kind byte standing at `place`
+unfoldable pub shortFrom : (place : ℕ) → Proc → Outcome (Unit {0})
+shortFrom place (ValP n) = done tt
+shortFrom place (AddP a b) = onward (shortFrom (suc place) a) (λ _. shortFrom (suc place + length (bytesP a)) b)
+shortFrom place (Atomic t) = refuse (ltb mostTransaction (nodesT t)) 14 place (done tt)
+shortFrom place (Fork p) = shortFrom (suc place) p
+
+-- it comes "after the last test for 9 and before 10"; the root stands behind the header of 7 bytes
+abbrev pub shortOnly : Job → Outcome Job
+shortOnly j = mapped (λ _. j) (shortFrom 7 (j .tree))
+
+-- document 01's tests, then document 02 No. 3's
+unfoldable pub readJob : List ℕ → Outcome Job
+readJob bs = onward (readTree bs) shortOnly

@@ -1,13 +1,14 @@
--- Which bytes are a job, and document 01, "Turning a job down", as a relation: a constructor for each row of the table, 1 to 9,
--- with its place.
+-- Which bytes are a job, and document 01, "Turning a job down", as a relation: a constructor for each row of the table, 1 to 9 and
+-- document 02 No. 3's 14, with its place.
 use Prim.Native.Nat.{ℕ, zero, suc, _+_, _≤_, _<_}
 use mathlib.Core.Path.{_≡_}
 use mathlib.Core.Logic.{_⊎_}
 use mathlib.Core.List.{List, [], _∷_, _++_}
 use lib.ListN.{length, drop, take}
-use Rattle.script.specs.Tree.{Sort, process, transaction}
-use Rattle.script.specs.Limits.{mostNodes, mostDepth, mostForks, Within}
-use Rattle.script.specs.Bytes.{Node, VALP, ADDP, ATOMIC, FORK, VALT, ADDT, READ, WRITE, nodeBytes, jobMark, jobBytes}
+use Rattle.script.specs.Tree.{Tran, Proc, AddP, Atomic, Fork, Sort, process, transaction}
+use Rattle.script.specs.Count.{nodesT}
+use Rattle.script.specs.Limits.{mostNodes, mostDepth, mostForks, mostTransaction, Sized, Within}
+use Rattle.script.specs.Bytes.{Node, VALP, ADDP, ATOMIC, FORK, VALT, ADDT, READ, WRITE, nodeBytes, bytesP, jobMark, jobBytes}
 use Rattle.script.specs.Jobs.{Due, number16, operand, partsThen, forkOf, Job, root}
 use Rattle.word.specs.Sum.{InRange}
 
@@ -26,6 +27,26 @@ pub record IsJob (bs : List ℕ) (j : Job) : Type 0 where
   pub within : Within (j .tree)
   pub text : bs ≡ jobBytes (j .version) (j .tree)
 
+-- the bytes are those of a tree within document 01's limits, in a version taken: exactly these meet no test for 1 to 9
+pub record IsTree (bs : List ℕ) (j : Job) : Type 0 where
+  pub version : Taken (j .version)
+  pub sized : Sized (j .tree)
+  pub text : bs ≡ jobBytes (j .version) (j .tree)
+
+-- ATOMIC t is a node of p, and its kind byte stands so many bytes behind p's own
+pub data AtomicAt (t : Tran) : Proc → ℕ → Type 0 where
+  itself : AtomicAt t (Atomic t) 0
+  in-left : {a b : Proc} {i : ℕ} → AtomicAt t a i → AtomicAt t (AddP a b) (1 + i)
+  in-right : {a b : Proc} {i : ℕ} → AtomicAt t b i → AtomicAt t (AddP a b) (1 + length (bytesP a) + i)
+  in-child : {p : Proc} {i : ℕ} → AtomicAt t p i → AtomicAt t (Fork p) (1 + i)
+
+-- "the first ATOMIC concerned" of p stands there: its transaction is too long, and no other such ATOMIC stands before it
+pub record FirstLong (p : Proc) (i : ℕ) : Type 0 where
+  pub body : Tran
+  pub stands : AtomicAt body p i
+  pub long : mostTransaction < nodesT body
+  pub first : (t : Tran) (k : ℕ) → AtomicAt t p k → mostTransaction < nodesT t → i ≤ k
+
 -- a node's operand is a number in range or a register below 64
 abbrev pub ValuedN : {s : Sort} → Node s → Type 0
 ValuedN (VALP n) = InRange n
@@ -38,11 +59,11 @@ ValuedN (READ v) = v < 64
 ValuedN (WRITE v) = v < 64
 
 -- the header passes its tests, up to the one named last
-pub record Long (bs : List ℕ) : Type 0 where
-  pub long : 7 ≤ length bs
+pub record Headed (bs : List ℕ) : Type 0 where
+  pub enough : 7 ≤ length bs
 
 pub record Marked (bs : List ℕ) : Type 0 where
-  pub before : Long bs
+  pub before : Headed bs
   pub mark : take 3 bs ≡ jobMark
 
 pub record Versioned (bs : List ℕ) : Type 0 where
@@ -90,7 +111,7 @@ pub data Refused (bs : List ℕ) : (number place : ℕ) → Type 0 where
       Refused bs 1 (length bs)
   cut-operand : (n : DueNode bs) → Allowed n → length (n .rest) < operand (n .kind) → Refused bs 1 (length bs)
   -- 2, "not `WSJ`", at 0
-  mark : Long bs → (take 3 bs ≡ jobMark → ⊥) → Refused bs 2 0
+  mark : Headed bs → (take 3 bs ≡ jobMark → ⊥) → Refused bs 2 0
   -- 3, "not 1", at 3
   version : Marked bs → (Taken (number16 bs 3) → ⊥) → Refused bs 3 3
   -- 4, "node count 0 or above 1,000", at 5
@@ -111,3 +132,5 @@ pub data Refused (bs : List ℕ) : (number place : ℕ) → Type 0 where
   used-up : {d : Due} {ds : List Due} {forks place : ℕ} {rest : List ℕ} → Reaches bs zero (d ∷ ds) forks place rest → Refused bs 9 place
   nodes-over : {left forks place : ℕ} {rest : List ℕ} → Reaches bs (suc left) [] forks place rest → Refused bs 9 place
   bytes-over : {left forks place b : ℕ} {rest : List ℕ} → Reaches bs left [] forks place (b ∷ rest) → Refused bs 9 place
+  -- 14, document 02 No. 3, "long transaction", at "the kind byte of the first ATOMIC concerned", behind the header of 7 bytes
+  long : {j : Job} {i : ℕ} → IsTree bs j → FirstLong (j .tree) i → Refused bs 14 (7 + i)

@@ -128,13 +128,13 @@ module _ {bytes : List ℕ} {j : Job} (c : IsCode bytes j) (sum : Rule) (is : Li
         over-shown (threadAt last i) (taskAt registerCells (endOf registerCells sum (start registerCells (compileP (j .tree) ε)) is) i) (fin i e) (keeps .mirrors .shown i l)
 
     pub commits-shown : countsOf (run sum bytes (fresh bytes) is .events) .commits ≡ atomics (j .tree)
-    commits-shown = commits-counted (run sum bytes (fresh bytes) is .events) ∙ (ap (counted isCommit) (keeps .events) ∙ all-commits registerCells sum (j .tree) (c .within .valued) is over-all)
+    commits-shown = commits-counted (run sum bytes (fresh bytes) is .events) ∙ (ap (counted isCommit) (keeps .events) ∙ all-commits registerCells sum (j .tree) (c .within .sized .valued) is over-all)
 
     pub threads-shown : (i : ℕ) → Exists (run sum bytes (fresh bytes) is .state) i ↔ (i < threads (j .tree))
     threads-shown i = (λ e. subst (λ (n : ℕ). i < n) number (exists-below last (keeps .fits .no-gap) i e), λ l. below-exists last i (subst (λ (n : ℕ). i < n) (sym number) l))
       where
         number : numberOf (run sum bytes (fresh bytes) is .state .threads) ≡ threads (j .tree)
-        number = keeps .mirrors .number ∙ all-threads registerCells sum (j .tree) (c .within .valued) is over-all
+        number = keeps .mirrors .number ∙ all-threads registerCells sum (j .tree) (c .within .sized .valued) is over-all
 
     steps-are : countsOf (run sum bytes (fresh bytes) is .events) .steps ≡ counted (λ e. not (isIdle e)) (eventsOf registerCells sum (start registerCells (compileP (j .tree) ε)) is)
     steps-are = steps-counted (run sum bytes (fresh bytes) is .events) ∙ ap (counted (λ e. not (isIdle e))) (keeps .events)
@@ -146,13 +146,13 @@ module _ {bytes : List ℕ} {j : Job} (c : IsCode bytes j) (sum : Rule) (is : Li
     least-shown =
         subst (λ (n : ℕ). instructions (j .tree) + countsOf (run sum bytes (fresh bytes) is .events) .back ≤ n) (sym steps-are)
         (subst (λ (n : ℕ). instructions (j .tree) + n ≤ counted (λ e. not (isIdle e)) (eventsOf registerCells sum (start registerCells (compileP (j .tree) ε)) is)) (sym backs-are)
-        (steps-least registerCells sum (j .tree) (c .within .valued) is over-all))
+        (steps-least registerCells sum (j .tree) (c .within .sized .valued) is over-all))
 
     pub exact-shown : countsOf (run sum bytes (fresh bytes) is .events) .back ≡ 0 → countsOf (run sum bytes (fresh bytes) is .events) .steps ≡ instructions (j .tree)
-    exact-shown z = steps-are ∙ steps-exact registerCells sum (j .tree) (c .within .valued) is over-all (sym backs-are ∙ z)
+    exact-shown z = steps-are ∙ steps-exact registerCells sum (j .tree) (c .within .sized .valued) is over-all (sym backs-are ∙ z)
 
     pub most-shown : countsOf (run sum bytes (fresh bytes) is .events) .steps ≤ bound (j .tree)
-    most-shown = subst (λ (n : ℕ). n ≤ bound (j .tree)) (sym steps-are) (steps-bound registerCells sum (j .tree) (c .within .valued) is)
+    most-shown = subst (λ (n : ℕ). n ≤ bound (j .tree)) (sym steps-are) (steps-bound registerCells sum (j .tree) (c .within .sized .valued) is)
 
     -- ---- parts
     pub part-thread : {x : Child} {k : Code} → Part bytes j x k → OneThread (run sum bytes (fresh bytes) is .state) x
@@ -221,10 +221,10 @@ module _ {bytes : List ℕ} {j : Job} (c : IsCode bytes j) (sum : Rule) (is : Li
     reads-shown v = (λ e. anywhere-done (READ v) (read-stands (j .tree) v e), λ d. back (done-stands (code.read v) d))
       where
         back : (x : Instruction) × ((opOf x ≡ code.read v) × Anywhere x (compileP (j .tree) ε) 5) → member (readSet (j .tree)) v ≡ true
-        back p = stands-read (j .tree) v (c .within .valued) (subst (λ (x : Instruction). Anywhere x (compileP (j .tree) ε) 5) (is-read (p .0) v (p .1 .0)) (p .1 .1))
+        back p = stands-read (j .tree) v (c .within .sized .valued) (subst (λ (x : Instruction). Anywhere x (compileP (j .tree) ε) 5) (is-read (p .0) v (p .1 .0)) (p .1 .1))
 
     pub writes-shown : (v : ℕ) → (member (writeSet (j .tree)) v ≡ true) ↔ PickDid sum bytes (moments sum bytes (fresh bytes) is) (code.write v)
     writes-shown v = (λ e. anywhere-done (WRITE v) (write-stands (j .tree) v e), λ d. back (done-stands (code.write v) d))
       where
         back : (x : Instruction) × ((opOf x ≡ code.write v) × Anywhere x (compileP (j .tree) ε) 5) → member (writeSet (j .tree)) v ≡ true
-        back p = stands-write (j .tree) v (c .within .valued) (subst (λ (x : Instruction). Anywhere x (compileP (j .tree) ε) 5) (is-write (p .0) v (p .1 .0)) (p .1 .1))
+        back p = stands-write (j .tree) v (c .within .sized .valued) (subst (λ (x : Instruction). Anywhere x (compileP (j .tree) ε) 5) (is-write (p .0) v (p .1 .0)) (p .1 .1))

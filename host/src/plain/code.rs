@@ -1,6 +1,6 @@
 //! Stack code: one instruction, and the test whether an accepted job compiles to it.
 
-use super::{number16, unknown_code, CODE_HEAD, DEEPEST, INSTRUCTIONS, MOST_FORKS, MOST_NODES, NODES};
+use super::{number16, unknown_code, CODE_HEAD, DEEPEST, INSTRUCTIONS, MOST_FORKS, MOST_INSIDE, MOST_NODES, NODES};
 use crate::Refusal;
 
 pub const PUSH: u8 = 1;
@@ -99,8 +99,9 @@ fn scan(code: &[u8]) -> Option<Outline> {
     let mut frames = [Frame::default(); MOST_FORKS + 1];
     let mut outer = 0;
     let mut frame = Frame { end: code.len(), base: 0 };
-    // the number of parts waiting at the open BEGIN
+    // the number of parts waiting at the open BEGIN, and the nodes since
     let mut open: Option<usize> = None;
+    let mut inside = 0;
     let mut at = INSTRUCTIONS;
     loop {
         while at == frame.end {
@@ -155,6 +156,7 @@ fn scan(code: &[u8]) -> Option<Outline> {
                     return None;
                 }
                 open = Some(parts);
+                inside = 0;
                 1
             }
             Op::Commit => {
@@ -178,6 +180,12 @@ fn scan(code: &[u8]) -> Option<Outline> {
                 1
             }
         };
+        if open.is_some() && op != Op::Begin {
+            inside += 1;
+            if inside > MOST_INSIDE {
+                return None;
+            }
+        }
         found.job_length += job_bytes;
         found.nodes += usize::from(op != Op::Commit);
         at = next;

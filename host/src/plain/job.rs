@@ -1,6 +1,6 @@
-//! The job reader: the tests in document 01's order.
+//! The job reader: the tests in the papers' order.
 
-use super::{number16, refuse, DEEPEST, MOST_FORKS, MOST_NODES, NODES};
+use super::{long_transaction, number16, refuse, DEEPEST, MOST_FORKS, MOST_INSIDE, MOST_NODES, NODES};
 use crate::Refusal;
 
 /// Which nodes may stand where one is due.
@@ -34,6 +34,11 @@ pub struct Reader<'a> {
     place: usize,
     nodes_left: usize,
     forks: usize,
+    /// The last ATOMIC's place, and the nodes of its transaction so far.
+    atomic: usize,
+    inside: usize,
+    /// The place of the first ATOMIC whose transaction has too many.
+    long: Option<usize>,
 }
 
 impl<'a> Reader<'a> {
@@ -52,7 +57,7 @@ impl<'a> Reader<'a> {
         if count == 0 || count > MOST_NODES {
             return refuse(4, 5);
         }
-        Ok(Reader { job, place: NODES, nodes_left: count, forks: 0 })
+        Ok(Reader { job, place: NODES, nodes_left: count, forks: 0, atomic: 0, inside: 0, long: None })
     }
 
     /// The node that is due, tested: its kind and its operand.
@@ -87,17 +92,35 @@ impl<'a> Reader<'a> {
             }
             self.forks += 1;
         }
+        if kind == ATOMIC {
+            (self.atomic, self.inside) = (at, 0);
+        }
+        if sort == Sort::Transaction {
+            self.inside += 1;
+            if self.inside > MOST_INSIDE {
+                self.long.get_or_insert(self.atomic);
+            }
+        }
         self.nodes_left -= 1;
         self.place = at + 1 + operand.len();
         Ok((kind, operand))
     }
 
     /// The tree is complete: nothing may be left over.
-    pub fn finish(self) -> Result<(), Refusal> {
+    pub fn end(&self) -> Result<(), Refusal> {
         if self.nodes_left > 0 || self.place < self.job.len() {
             return refuse(9, self.place);
         }
         Ok(())
+    }
+
+    /// The tree is complete: nothing may be left over, and no transaction may be long.
+    pub fn finish(self) -> Result<(), Refusal> {
+        self.end()?;
+        match self.long {
+            Some(atomic) => long_transaction(atomic),
+            None => Ok(()),
+        }
     }
 }
 

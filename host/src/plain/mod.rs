@@ -29,6 +29,8 @@ const RECORDS: usize = 16;
 const MOST_NODES: usize = 1_000;
 const DEEPEST: u8 = 64;
 const MOST_FORKS: usize = 15;
+/// Of a transaction, ATOMIC not counted.
+const MOST_INSIDE: usize = 200;
 const MOST_PICKS: usize = 32_768;
 
 /// Mark and version of a job; the node count follows.
@@ -58,6 +60,10 @@ fn unfit_state<T>() -> Result<T, Refusal> {
 
 fn too_many_picks<T>() -> Result<T, Refusal> {
     refuse(13, 0)
+}
+
+fn long_transaction<T>(atomic: usize) -> Result<T, Refusal> {
+    refuse(14, atomic)
 }
 
 fn number16(high: u8, low: u8) -> usize {

@@ -4,7 +4,8 @@ use super::code::{self, Op};
 use super::forecast::step_bound;
 use super::job::{self, Reader, Sort};
 use super::{
-    short_output, unknown_code, CODE_HEAD, DEEPEST, INSTRUCTIONS, JOB_HEAD, MOST_FORKS, MOST_NODES, NODES, RECORDS,
+    long_transaction, short_output, unknown_code, CODE_HEAD, DEEPEST, INSTRUCTIONS, JOB_HEAD, MOST_FORKS, MOST_INSIDE,
+    MOST_NODES, NODES, RECORDS,
 };
 use crate::{Forecast, Refusal, RegisterSet};
 
@@ -108,7 +109,8 @@ impl Process {
     pub fn read(job: &[u8]) -> Result<Process, Refusal> {
         let mut reader = Reader::new(job)?;
         let tree = process(&mut reader, 1)?;
-        reader.finish()?;
+        reader.end()?;
+        tree.lengths(NODES)?;
         Ok(tree)
     }
 
@@ -117,7 +119,19 @@ impl Process {
         let code = code.strip_prefix(&CODE_HEAD)?;
         let mut parser = Parser { nodes: 0, forks: 0 };
         let (tree, _) = parser.process(code)?;
+        tree.lengths(NODES).ok()?;
         Some(tree)
+    }
+
+    /// Tests the lengths of its transactions, its kind byte being at a place in the job; gives the place behind it.
+    fn lengths(&self, at: usize) -> Result<usize, Refusal> {
+        match self {
+            Process::Val(_) => Ok(at + 5),
+            Process::Add(a, b) => b.lengths(a.lengths(at + 1)?),
+            Process::Atomic(t) if t.nodes() > MOST_INSIDE => long_transaction(at),
+            Process::Atomic(t) => Ok(at + 1 + t.job_length()),
+            Process::Fork(p) => p.lengths(at + 1),
+        }
     }
 
     /// The job of a tree, also of one that has to be turned down.

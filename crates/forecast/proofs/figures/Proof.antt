@@ -61,7 +61,7 @@ bound-requires : tie.Need-bound-requires Inv-loop μ-loop
 bound-requires c κs = let b = (c .before .before .before .loop .inv (c .before .before .before .before .before .before .pre)) .walk .bounds in (omega (arith, b .transactions), omega (arith, b .few), omega (arith, b .instructions), b .longest)
 
 returns : tie.Need-returns Inv-loop μ-loop
-returns c = let a = c .before .before .before .before .before .before .before .pre in let i = accepted-is-job (c .before .before .before .before .before .before .before .args .job .now) (a .job) (bytes-of (c .before .before .before .before .before .before .before .args .job .now) (c .before .before .before .before .before .before .shared-slice-known .given)) (a .read) in let e = at-end (c .before .before .before .before .before .before .before .args .job .now) (a .job .tree) (stateOf (c .before .before .before .before .loop .s) (c .before .before .before .before .loop .due) (c .before .before .before .before .loop .heights)) (c .before .before .before .before .loop .inv a) (omega (arith, c .before .before .if1 .left)) in figures-told (a .job .tree) (stateOf (c .before .before .before .before .loop .s) (c .before .before .before .before .loop .due) (c .before .before .before .before .loop .heights) .totals) _ _ (subst (Told (a .job .tree)) (sym e) (told (a .job .tree) (i .within .narrow))) (a .long) (c .bound .ensures) ∙ ap forecastOf (sym (a .read))
+returns c = let a = c .before .before .before .before .before .before .before .pre in let i = accepted-is-job (c .before .before .before .before .before .before .before .args .job .now) (a .job) (bytes-of (c .before .before .before .before .before .before .before .args .job .now) (c .before .before .before .before .before .before .shared-slice-known .given)) (a .read) in let e = at-end (c .before .before .before .before .before .before .before .args .job .now) (a .job .tree) (stateOf (c .before .before .before .before .loop .s) (c .before .before .before .before .loop .due) (c .before .before .before .before .loop .heights)) (c .before .before .before .before .loop .inv a) (omega (arith, c .before .before .if1 .left)) in figures-told (a .job .tree) (stateOf (c .before .before .before .before .loop .s) (c .before .before .before .before .loop .due) (c .before .before .before .before .loop .heights) .totals) _ _ (subst (Told (a .job .tree)) (sym e) (told (a .job .tree) (i .within .sized .narrow))) (a .long) (c .bound .ensures) ∙ ap forecastOf (sym (a .read))
 
 pub figures-spec : {M : Type 1} → statement M
 figures-spec =

@@ -3,7 +3,8 @@ use mathlib.Core.Path.{refl, sym, ap, _∙_}
 use borrow.Author.Needs.{needs}
 use Rattle.script.specs.Reader.{readJob}
 use Rattle.forecast.specs.Figures.{forecastOf}
-use Rattle.forecast.proofs.Answers.{was-accepted, was-refused}
+use Rattle.forecast.proofs.Answers.{was-accepted}
+use Rattle.job.proofs.Header.{was-refused}
 use Rattle.forecast.proofs.forecast.Statement.{statement}
 use Rattle.forecast.proofs.forecast.Tie as tie
 
