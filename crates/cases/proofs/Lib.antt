@@ -2,3 +2,4 @@
 pub mod Cases
 pub mod Forecasts
 pub mod Overflows
+pub mod LongTransactions

@@ -1,4 +1,5 @@
--- The worked cases of document 01: "Slides for the bench", its figures, and a state that fits or does not for each sentence on fitting; those of the forecast, and of sums that leave the range.
+-- The worked cases of document 01: "Slides for the bench", its figures, and a state that fits or does not for each sentence on fitting; those of the forecast, of sums that leave the range, and of long transactions.
 pub mod Cases
 pub mod Forecasts
 pub mod Overflows
+pub mod LongTransactions
