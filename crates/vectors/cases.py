@@ -921,10 +921,9 @@ def the_overs():
     for k in range(30):
         tree, picks = showing(("outside", "counted", "dropped")[k % 3])
         report("over", an_input(job(tree), picks))
-    for count, steps, over in ((500, 999, 250), (256, 511, 128)):
-        tree = jobs.balanced(addp, valp(-2147483648), count)
-        report("over", an_input(job(tree)), picks=[0] * steps)
-        assert cases.answers[-1].endswith(": prints steps %d idle 0 commits 0 back 0 over %d / thread 0 done 0 / kept" % (steps, over))
+    tree = jobs.balanced(addp, valp(-2147483648), 500)
+    report("over", an_input(job(tree)), picks=[0] * 999)
+    assert cases.answers[-1].endswith(": prints steps 999 idle 0 commits 0 back 0 over 250 / thread 0 done 0 / kept")
 
 
 def check():

@@ -566,7 +566,6 @@ def the_overs():
         case("step %d + %d" % (a, b), addp(valp(a), valp(b)), "0*2", picks="0", says=stepped(2, 0, 1, "thread 0 done %d" % total, over=over))
     case("run a sum of a child", fork(addp(valp(most), valp(1))), picks="0 1*3", says=ran(4, 0, 0, 0, "thread 0 done 0", "thread 1 done -2147483648", over=1))
     case("run 500 least numbers", jobs.balanced(addp, valp(least), 500), picks="0*999", says=ran(999, 0, 0, 0, "thread 0 done 0", over=250))
-    case("run 64 least numbers", jobs.balanced(addp, valp(least), 64), picks="0*127", says=ran(127, 0, 0, 0, "thread 0 done 0", over=32))
     section("sums in transactions that leave the range: counted when the attempt takes effect")
     one = atomic(addt(valt(most), valt(1)))
     two = atomic(addt(addt(valt(most), valt(1)), valt(-1)))

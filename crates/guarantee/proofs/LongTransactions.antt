@@ -1,5 +1,5 @@
 -- Document 02 No. 3 holds. Assumes nothing.
-use Prim.Native.Nat.{ℕ, _+_, _≤_, max}
+use Prim.Native.Nat.{ℕ, _+_, _≤_}
 use mathlib.Core.Logic.{_⊎_, inl, inr}
 use mathlib.Core.Path.{_≡_, refl, sym, ap, subst, _∙_}
 use mathlib.Core.List.{List, _∷_, _++_}
@@ -11,7 +11,7 @@ use Rattle.guarantee.proofs.Forecasts.{forecasts}
 use Rattle.guarantee.proofs.Rows.{compile-rows}
 use Rattle.guarantee.specs.LongTransactions.{AllShort, OfTree, LongTransactions}
 use Rattle.script.specs.Bytes.{Bytes, nodeBytes, bytes16, bytesT, bytesP, jobMark, jobBytes}
-use Rattle.script.specs.Count.{nodesT, nodesP, longest, longestNodes}
+use Rattle.script.specs.Count.{nodesP, longest, longestNodes}
 use Rattle.script.specs.Jobs.{Job}
 use Rattle.script.specs.Outcome.{Outcome, refused, done, onward, mapped}
 use Rattle.script.specs.Reader.{readTree, shortFrom, shortOnly, readJob}

@@ -1,5 +1,5 @@
 -- Document 02 No. 3's test: which trees it turns down, and where. Assumes nothing.
-use Prim.Native.Nat.{ℕ, suc, _+_, _≤_, _<_, max}
+use Prim.Native.Nat.{ℕ, suc, _+_, _≤_, _<_}
 use mathlib.Core.Path.{_≡_, refl, sym, ap, subst, _∙_}
 use mathlib.Core.List.{List, [], _∷_, _++_, append-assoc, append-nil}
 use native.Mathlib.Decide.{decLt}
@@ -122,7 +122,8 @@ judged place (Fork p) = fork-judged place p (shortFrom (suc place) p) (judged (s
 pub not-both : {p : Proc} {i : ℕ} → FirstLong p i → longestNodes p ≤ 200 → ⊥
 not-both f h = absurd (omega (arith, atomic-most (f .stands), f .long))
 
-first-same : {p : Proc} {i k : ℕ} → FirstLong p i → FirstLong p k → i ≡ k
+-- and there is one first
+pub first-same : {p : Proc} {i k : ℕ} → FirstLong p i → FirstLong p k → i ≡ k
 first-same {i = i} {k = k} f g = omega (arith, f .first (g .body) k (g .stands) (g .long), g .first (f .body) i (f .stands) (f .long))
 
 -- the test passes exactly the trees within the limit
