@@ -56,6 +56,11 @@ typedef struct kuspigo_thread {
     int32_t readlog[64];  /* and their values */
     uint64_t writes;      /* the write log, likewise */
     int32_t writelog[64];
+    size_t rule;          /* the last rule that moved the thread, 0 if none has; idle picks leave it: 1 to 9 an enum
+                             kuspigo_event, KUSPIGO_SENT_BACK + v if it was sent back with the lowest stale register v. Any number
+                             fits in a thread's record; in a record of no thread both of these are 0 */
+    size_t backs;         /* how often it was sent back: at most as often as all threads together have passed COMMITs, and
+                             less often while a value in its read log is not the register's; else the state does not fit */
 } kuspigo_thread;
 
 typedef struct kuspigo_written {
@@ -69,7 +74,7 @@ typedef struct kuspigo_fresh_reply {
     size_t place;
 } kuspigo_fresh_reply;
 
-/* What a pick did. */
+/* What a pick did: the rule that it used. */
 enum kuspigo_event {
     KUSPIGO_IDLE = 0, /* the thread does not exist or has ended */
     KUSPIGO_PUSH = 1,
@@ -80,15 +85,15 @@ enum kuspigo_event {
     KUSPIGO_READ_READ_LOG = 6,
     KUSPIGO_READ_TABLE = 7,
     KUSPIGO_WRITE = 8,
-    KUSPIGO_COMMIT = 9,
-    KUSPIGO_SENT_BACK = 10
+    KUSPIGO_COMMIT = 9, /* one that took effect */
+    KUSPIGO_SENT_BACK = 10 /* a COMMIT that found a stale register */
 };
 
 typedef struct kuspigo_step_reply {
     size_t refusal;
     size_t place;
     size_t event;          /* an enum kuspigo_event */
-    size_t stale_register; /* the first one, if the thread was sent back, else 0 */
+    size_t stale_register; /* the lowest one, if the thread was sent back, else 0 */
     size_t turn;           /* 1 if it took a turn (a sum outside a transaction, a FORK, a commit), else 0 */
     size_t over;           /* 1 for a sum outside a transaction that left the 32-bit range; of a commit the note, how
                               many sums of its attempt did; else 0 */

@@ -133,6 +133,22 @@ def busy():
     return accepted(lambda: joined([part() for _ in range(rng.randint(2, 4))]))
 
 
+def contested():
+    """Threads of several transactions that all read and write the same two registers."""
+    def several():
+        def tran():
+            return write(0, write(40, addt(valt(1), machine.some_tran(rng, rng.randint(2, 4), (0, 40)))))
+
+        return joined([atomic(tran()) for _ in range(rng.randint(1, 2))])
+
+    def parts():
+        out = [several(), fork(several()), rng.choice((several, lambda: fork(several())))()]
+        rng.shuffle(out)
+        return out
+
+    return accepted(lambda: joined(parts()))
+
+
 def joined(parts):
     """The processes in sums of some shape."""
     if len(parts) == 1:
@@ -408,7 +424,8 @@ def state(kind, command, what, setup, changes, picks):
 
 def calls(kind, tree, setup, lists):
     """Calls one after the other, each on what the one before left."""
-    code, memory, said = whole(tree), begun(tree, setup), []
+    code, memory, said = whole(tree), begun(tree, []), []
+    back = machine.counts(machine.call_run(code, memory, setup)[1])[3]
     for picks in lists:
         before = memory.numbers()
         number, events = machine.call_run(code, memory, picks)
@@ -419,6 +436,9 @@ def calls(kind, tree, setup, lists):
             said.append(machine.COUNTS % machine.counts(events))
         seen["calls"]["refused" if number else "taken"] += 1
         seen["calls"]["sent back"] += any(event == 10 for event, *_ in events)
+        seen["calls"]["sent back in an earlier call"] += back > 0
+        back += [event for event, *_ in events].count(10)
+        assert sum(record.backs for record in memory.threads[:16]) == back
         seen["calls"]["left open"] += any(record.begin for record in memory.threads[:16])
     seen["calls"]["of %d" % len(lists)] += 1
     _, text = machine.given(tree, words(setup).strip(), "", " | ".join(words(picks).strip() for picks in lists))
@@ -540,14 +560,21 @@ def note_of(kind, code, record):
 
 def a_note(kind):
     """A case of a state with another note in one record, by `note_of`. If it fits, register 0 is another one now and then."""
-    fit, note = kind in ("lower", "higher"), None
-    while note is None:
+    fit = kind in ("lower", "higher")
+    another = ", register 0 7" * (fit and rng.random() < 0.4)
+    while True:
         tree = off_scale()
         picks, _ = schedule(tree, 60)
         setup = picks[: rng.randint(0, len(picks))]
         memory, i = begun(tree, setup), rng.randrange(16)
         note = note_of(kind, whole(tree), memory.threads[i])
-    changes = "thread %d over %d" % (i, note) + (", register 0 7" if fit and rng.random() < 0.4 else "")
+        if note is None:
+            continue
+        changes = "thread %d over %d" % (i, note) + another
+        for text in changes.split(", "):
+            machine.change(bytearray(), memory, text)
+        if machine.fits(whole(tree), memory) == fit:
+            break
     command = rng.choice(("run", "run", "step"))
     rest = [i] * (20 if command == "run" else 1)
     said = state("over", command, tree, setup, changes, rest)
@@ -555,12 +582,119 @@ def a_note(kind):
     seen["note"][kind] += 1
     if fit:
         # what becomes of the lent note
-        for text in changes.split(", "):
-            machine.change(bytearray(), memory, text)
         events = [machine.pick(whole(tree), memory, i)[0] for i in rest]
         first = [event for event in events if event in (9, 10)][:1]
         seen["note"]["counted"] += note > 0 and first == [9]
         seen["note"]["dropped"] += note > 0 and first == [10]
+
+
+# ---- last rules and send-backs
+
+
+def existing(memory):
+    return [i for i in range(16) if memory.threads[i].start]
+
+
+def other_value(memory, i):
+    """A change of a register that thread i has read, or None if it has read none."""
+    marked = [v for v in range(64) if memory.threads[i].reads >> v & 1]
+    if not marked:
+        return None
+    v = rng.choice(marked)
+    return "register %d %d" % (v, machine.wrap(memory.threads[i].readlog[v] + rng.choice((1, -1, 1000))))
+
+
+def some_rule():
+    return rng.choice((0, rng.randint(1, 9), rng.randint(10, 73), 74, 255, rng.randrange(2**64), 2**64 - 1))
+
+
+def backs_of(kind, code, memory):
+    """Changes of this kind, as far as there are such, the last of which matters:
+    `above`: a thread's send-backs above the COMMITs passed; `equal`: equal to them, none of its reads being stale; `equal stale`: one being stale;
+    `below stale`: another number below them, one being stale; `none passed`: no COMMIT is passed, and a read gets stale;
+    `rule`: another rule of a thread; `blank backs`, `blank rule`: in a record of no thread."""
+    threads = existing(memory)
+    n = machine.commits_passed(code, [memory.threads[i] for i in threads])
+    i = rng.choice(threads)
+    thread, value = memory.threads[i], other_value(memory, i)
+    if kind == "above":
+        return ["thread %d backs %d" % (i, rng.choice((n + 1, n + 1, n + 1, n + 2, n + rng.randint(3, 300), 2**64 - 1)))]
+    if kind == "equal" and n > thread.backs and not machine.has_stale(thread, memory.registers):
+        return ["thread %d backs %d" % (i, n)]
+    if kind in ("equal stale", "below stale") and n > 0 and value:
+        changes = [] if machine.has_stale(thread, memory.registers) else [value]
+        if kind == "equal stale":
+            return changes + ["thread %d backs %d" % (i, n)]
+        if n > 1:
+            return changes + ["thread %d backs %d" % (i, rng.choice([k for k in range(n) if k != thread.backs]))]
+    if kind == "none passed" and n == 0 and value:
+        return [value]
+    if kind == "rule":
+        return ["thread %d rule %d" % (i, some_rule())]
+    if kind.startswith("blank") and len(threads) < 16 and n > 0:
+        i = rng.choice((len(threads), 15, rng.randrange(len(threads), 16)))
+        return ["thread %d backs %d" % (i, rng.choice((1, 1, n, 2**64 - 1))) if kind == "blank backs" else "thread %d rule %d" % (i, some_rule() or 1)]
+    return []
+
+
+def all_backs(memory, code):
+    """Changes of the last rule and the send-backs of every thread, and perhaps of a register."""
+    threads = existing(memory)
+    n = machine.commits_passed(code, [memory.threads[i] for i in threads])
+    changes = []
+    for i in threads:
+        changes += ["thread %d rule %d" % (i, some_rule())] if rng.random() < 0.5 else []
+        changes.append("thread %d backs %d" % (i, rng.choice((n, n, rng.randint(0, n), rng.randint(0, n), rng.randint(0, n + 1)))))
+    value = other_value(memory, rng.choice(threads))
+    return changes + ([value] if value and rng.random() < 0.7 else [])
+
+
+def a_backs(kind, fit):
+    """A case of a state with such changes, which fits or does not, and without the last one of `backs_of` would fit."""
+    while True:
+        tree = rng.choice((busy, contested, any_tree))()
+        picks, _ = schedule(tree, 60)
+        setup = picks[: rng.randint(0, len(picks))]
+        code, memory = whole(tree), begun(tree, setup)
+        changes = all_backs(memory, code) if kind == "mixed" else backs_of(kind, code, memory)
+        if not changes:
+            continue
+        for change in changes:
+            fitted, before = machine.fits(code, memory), memory.numbers()
+            machine.change(bytearray(), memory, change)
+        if before != memory.numbers() and machine.fits(code, memory) == fit and (fitted or kind == "mixed"):
+            break
+    # the thread concerned, or all that have not ended in turns
+    i = int(changes[-1].split()[1]) if changes[-1].startswith("thread") else 0
+    live = [i for i in existing(memory) if memory.threads[i].place != memory.threads[i].end]
+    command = rng.choice(("run", "run", "step"))
+    rest = [i] if command == "step" else [i] * 20 if i in live and kind != "mixed" else live * 5
+    said = state("backs", command, tree, setup, ", ".join(changes), rest)
+    assert (said == "refused 12 at 0 kept") != fit
+    seen["backs"][kind + (" fits" if fit else " foreign")] += 1
+    if fit:
+        for i in rest:
+            lent = i < 16 and memory.threads[i].backs > 0
+            event = machine.pick(code, memory, i)[0]
+            seen["backs"]["lent, commit"] += lent and event == 9
+            seen["backs"]["lent, sent back"] += lent and event == 10
+
+
+def rule_in_a_step(wanted):
+    """A tree, the picks before a step and the step's pick, the step having this event, its thread having been sent back before, and if it is
+    sent back again, with two stale registers or more."""
+    while True:
+        tree = contested()
+        picks, events = schedule(tree, 60)
+        code, memory, found = whole(tree), begun(tree, []), []
+        for k, i in enumerate(picks):
+            if events[k] == wanted and i < 16 and memory.threads[i].backs > 0:
+                if wanted != 10 or sum(machine.is_stale(memory.threads[i], v, memory.registers) for v in range(64)) > 1:
+                    found.append(k)
+            machine.pick(code, memory, i)
+        if found:
+            k = rng.choice(found)
+            return tree, picks[:k], picks[k : k + 1]
 
 
 # ---- the cases
@@ -621,6 +755,7 @@ def compare_run(tree, answer):
     assert (set(reads), set(writes)) == (named[3], named[4])
     assert heights == [highest[start] for start in [5] + [at + 3 for at in op_places(code) if code[at] == 7]]
     assert l < steps <= bound if back else steps == l
+    assert back == sum(memory.threads[i].backs for i in range(16))
     note = seen["forecast"]
     note["sent back"] += back > 0
     for name, n in (("no transaction", k == 0), ("several transactions", k > 1), ("several threads", t > 1), ("a greater bound", bound > l)):
@@ -715,7 +850,7 @@ def the_states():
         state("run", "run", tree, [], "", picks)
     cases.section("one field altered: states that do not fit")
     for field in FIELDS:
-        if field != "over":  # in the_overs
+        if field not in ("over", "rule", "backs"):  # in the_overs and the_rules
             for _ in range(26):
                 one_field(False, field)
     cases.section("one field altered: states that fit")
@@ -879,7 +1014,7 @@ def the_long():
 def the_overs():
     cases.section("a note that crosses two calls")
     calls("over", atomic(addt(valt(2147483647), valt(1))), [], [[0] * 4, [0]])
-    assert " over 0 | steps 1 idle 0 commits 1 back 0 over 1, thread 0 done -2147483648, sum " in cases.answers[-1]
+    assert " over 0 | steps 1 idle 0 commits 1 back 0 over 1, thread 0 done -2147483648 rule 9 backs 0, sum " in cases.answers[-1]
     cases.section("one step: sums that leave the range, commits and send-backs with a note")
     for word in ("outside", "noted", "counted", "dropped"):
         for _ in range(15):
@@ -926,6 +1061,51 @@ def the_overs():
     assert cases.answers[-1].endswith(": prints steps 999 idle 0 commits 0 back 0 over 250 / thread 0 done 0 / kept")
 
 
+def the_rules():
+    cases.section("the whole case in five calls: a COMMIT of an earlier call, a send-back in another one than the commit")
+    calls("backs", jobs.WHOLE, [], [[0, 0, 0, 1, 1], [2] * 6, [1, 1, 1], [1], [1] * 6])
+    assert cases.answers[-1].partition(": ")[2].startswith(
+        "steps 5 idle 0 commits 0 back 0 over 0 | steps 6 idle 0 commits 1 back 0 over 0 | steps 3 idle 0 commits 0 back 0 over 0 | steps 1 idle 0 commits 0 back 1 over 0 | "
+        "steps 6 idle 0 commits 1 back 0 over 0, thread 0 done 0 rule 2 backs 0, thread 1 done 2 rule 9 backs 1, thread 2 done 1 rule 9 backs 0, register 0 2, sum "
+    )
+    cases.section("one step of a thread that was sent back before")
+    for event in range(11):
+        for _ in range(3):
+            tree, setup, pick = rule_in_a_step(event)
+            said = state("rule", "step", tree, setup, "", pick)
+            assert said.startswith("event %d " % event)
+            seen["rule in a step"][event] += 1
+    cases.section("runs in several calls with send-backs in two of them or more")
+    for _ in range(24):
+        while True:
+            tree = rng.choice((busy, contested))()
+            picks, events = schedule(tree, 80)
+            cuts = sorted(rng.randint(0, len(picks)) for _ in range(rng.choice((1, 2, 3))))
+            edges = [0, *cuts, len(picks)]
+            if sum(10 in events[a:b] for a, b in zip(edges, edges[1:])) > 1:
+                break
+        lists = [picks[a:b] for a, b in zip(edges, edges[1:])]
+        calls("backs", tree, [], lists)
+        backs = [record.backs for record in begun(tree, picks).threads[:16]]
+        seen["backs in calls"]["several threads"] += sum(n > 0 for n in backs) > 1
+        seen["backs in calls"]["a thread twice"] += max(backs) > 1
+    cases.section("another last rule or number of send-backs: states that do not fit")
+    for field in ("rule", "backs"):
+        for _ in range(6):
+            one_field(False, field)
+    for kind in ("above", "equal stale", "none passed", "blank backs", "blank rule"):
+        for _ in range(11):
+            a_backs(kind, False)
+    cases.section("another last rule or number of send-backs: states that fit")
+    for kind in ("equal", "below stale", "rule"):
+        for _ in range(11):
+            a_backs(kind, True)
+    cases.section("other last rules and numbers of send-backs of every thread")
+    for _ in range(20):
+        a_backs("mixed", True)
+        a_backs("mixed", False)
+
+
 def check():
     """All that the cases are to have."""
     for kind in ("job", "damaged job", "code", "damaged code", "in calls", "foreign state", "input", "forecast"):
@@ -941,7 +1121,7 @@ def check():
     assert set(seen["event"]) == set(seen["event in a run"]) == set(range(11))
     assert set(seen["foreign state"]) == set(FIELDS)
     assert set(seen["fresh"]) == {"laid", "refused 12 at 0 kept"}
-    for name in ("refused", "taken", "sent back", "left open", "of 2", "of 3", "of 4", "of 5"):
+    for name in ("refused", "taken", "sent back", "sent back in an earlier call", "left open", "of 2", "of 3", "of 4", "of 5"):
         assert seen["calls"][name] >= 10, (name, seen["calls"])
     for name in ("no transaction", "several transactions", "several threads", "a greater bound", "sent back", *("refused %d" % n for n in JOB_DAMAGE)):
         assert seen["forecast"][name] >= 10, (name, seen["forecast"])
@@ -950,6 +1130,14 @@ def check():
             assert seen["over in " + part][word] >= 5, (part, word, seen["over in " + part])
     for kind in ("high", "outside", "blank", "lower", "higher", "counted", "dropped"):
         assert seen["note"][kind] >= 3, (kind, seen["note"])
+    assert set(seen["rule in a step"]) == set(range(11))
+    for kind in ("above foreign", "equal stale foreign", "none passed foreign", "blank backs foreign", "blank rule foreign", "equal fits", "below stale fits",
+                 "rule fits", "mixed fits", "mixed foreign", "lent, commit"):
+        assert seen["backs"][kind] >= 10, (kind, seen["backs"])
+    assert seen["backs"]["lent, sent back"] >= 3, seen["backs"]
+    for name in ("several threads", "a thread twice"):
+        assert seen["backs in calls"][name] >= 3, (name, seen["backs in calls"])
+    assert kinds["backs"] + kinds["rule"] >= 180
     for name in ("short", "longer", "steps", "idle", "commits", "back", "over", "thread open", "thread negative", "thread least", "thread of two digits",
                  "register negative", "register least", "register of two digits", *("refused %d" % n for n in (1, 2, 3, 4, 5, 6, 7, 8, 9, 13, 14))):
         assert seen["report"][name] >= 1, (name, seen["report"])
@@ -962,7 +1150,7 @@ def main(seed=SEED, folder=HERE):
         cases.lines += stated.cases.lines + [""]
         cases.answers += stated.cases.answers
     cases.lines.append("# Random cases of every call.")
-    for part in (the_jobs, the_damaged_jobs, the_codes, the_damaged_codes, the_states, the_calls, the_inputs, the_large, the_forecasts, the_overs, the_long):
+    for part in (the_jobs, the_damaged_jobs, the_codes, the_damaged_codes, the_states, the_calls, the_inputs, the_large, the_forecasts, the_overs, the_long, the_rules):
         part()
     check()
     cases.save(folder, ROOM)

@@ -5,13 +5,14 @@ second implementation in jobs.py. Where a case states its answer by hand, the tw
 """
 import copy
 import random
+import re
 
 import jobs
 from jobs import addp, addt, atomic, chain, fork, job, job_of, nodes, read, valp, valt, whole, write
 
 # ---- the machine
 
-SCALARS = ("start", "end", "place", "height", "begin", "base", "over", "reads", "writes")
+SCALARS = ("start", "end", "place", "height", "begin", "base", "over", "reads", "writes", "rule", "backs")
 ARRAYS = ("cell", "readlog", "writelog")
 
 
@@ -69,10 +70,10 @@ def instruction(code, place):
 
 def walk(code, start, end):
     """The places of the thread that owns this code: place, stack height, the open transaction's BEGIN, the height there and the ADDs
-    passed since, or None, and the child code of the FORKs passed. The last one is the end."""
-    points, height, note, passed, at = [], 0, None, [], start
+    passed since, or None, the child code of the FORKs passed, and the COMMITs passed. The last one is the end."""
+    points, height, note, passed, commits, at = [], 0, None, [], 0, start
     while True:
-        points.append((at, height, note, list(passed)))
+        points.append((at, height, note, list(passed), commits))
         if at == end:
             return points
         op, operand, behind = instruction(code, at)
@@ -86,11 +87,26 @@ def walk(code, start, end):
             note = (at, height, 0)
         elif op == 6:
             note = None
+            commits += 1
         elif op == 7:
             height += 1
             passed.append((behind, behind + operand))
             behind += operand
         at = behind
+
+
+def is_stale(record, v, registers):
+    """Whether the register is in the read log with another value than the table's."""
+    return record.reads >> v & 1 == 1 and record.readlog[v] != registers[v]
+
+
+def has_stale(record, registers):
+    return any(is_stale(record, v, registers) for v in range(64))
+
+
+def commits_passed(code, threads):
+    """The COMMITs passed by all threads, each in its own code up to its place."""
+    return sum(point[4] for record in threads for point in walk(code, record.start, record.end) if point[0] == record.place)
 
 
 def fits(code, memory):
@@ -118,7 +134,7 @@ def fits(code, memory):
         found = [point for point in owned[piece] if point[0] == record.place]
         if not found:
             return False
-        _, height, note, passed = found[0]
+        _, height, note, passed, _ = found[0]
         asked += passed
         if record.height != height or any(record.cell[height:]):
             return False
@@ -132,7 +148,13 @@ def fits(code, memory):
                 return False
             if not record.writes >> v & 1 and record.writelog[v]:
                 return False
-    return sorted(asked) == sorted((record.start, record.end) for record in threads[1:])
+    if sorted(asked) != sorted((record.start, record.end) for record in threads[1:]):
+        return False
+    commits = commits_passed(code, threads)
+    for record in threads:
+        if record.backs > commits or record.backs == commits and has_stale(record, memory.registers):
+            return False
+    return True
 
 
 def close(record):
@@ -143,7 +165,17 @@ def close(record):
 
 
 def pick(code, memory, i):
-    """One pick: (event, register, turn, over)."""
+    """One pick: (event, register, turn, over). If it is not idle, its thread's record holds the rule, and the send-back if it is one."""
+    told = act(code, memory, i)
+    event, register, _, _ = told
+    if event:
+        memory.threads[i].rule = event + register
+        memory.threads[i].backs += event == 10
+    return told
+
+
+def act(code, memory, i):
+    """What a pick does, but for its thread's last rule and number of send-backs: (event, register, turn, over)."""
     if i >= 16 or memory.threads[i].start == 0:
         return 0, 0, 0, 0
     t = memory.threads[i]
@@ -195,7 +227,7 @@ def pick(code, memory, i):
         return 4, 0, 0, 0
     if op == 6:
         for v in range(64):
-            if t.reads >> v & 1 and t.readlog[v] != memory.registers[v]:
+            if is_stale(t, v, memory.registers):
                 t.place, t.height = t.begin, t.base
                 t.cell[t.height :] = [0] * (64 - t.height)
                 close(t)
@@ -253,6 +285,7 @@ def counts(events):
 
 COUNTS = "steps %d idle %d commits %d back %d over %d"
 EVENT = "event %d register %d turn %d over %d"
+RULE = " rule %d backs %d"
 
 
 def checksum(memory):
@@ -267,7 +300,7 @@ def show_state(memory):
     out = ""
     for i, t in enumerate(memory.threads[:16]):
         if t.start:
-            out += ", thread %d " % i + ("done %d" % t.cell[0] if t.place == t.end else "open")
+            out += ", thread %d " % i + ("done %d" % t.cell[0] if t.place == t.end else "open") + RULE % (t.rule, t.backs)
     for v, n in enumerate(memory.registers[:64]):
         if n:
             out += ", register %d %d" % (v, n)
@@ -327,6 +360,7 @@ def answer(command, code, setup, changes, picks):
     if number:
         assert before.numbers() == memory.numbers()
         return "refused %d at 0 kept" % number, memory
+    assert fits(code, memory)
     return said + show_state(memory) + ", sum %d" % checksum(memory), memory
 
 
@@ -346,11 +380,15 @@ def given(what, setup, changes, picks):
 
 
 def case(label, what, setup="", changes="", picks="", says=None):
-    """A call on a tree's code, or on code. `says` is the answer stated by hand, the checksum left out."""
+    """A call on a tree's code, or on code. `says` is the answer stated by hand, the checksum left out, and each thread's rule and send-backs
+    if it has none."""
     code, text = given(what, setup, changes, picks)
     said, _ = answer(label.split()[0], code, setup, changes, picks)
     if says is not None:
-        assert said.rpartition(", sum ")[0] == says or said == says, (label, said, says)
+        stated = said.partition(", sum ")[0]
+        if " rule " not in says:
+            stated = re.sub(RULE.replace("%d", "[0-9]+"), "", stated)
+        assert stated == says, (label, said, says)
     line(label, text, said)
 
 
@@ -385,6 +423,11 @@ EVERY = str(2**64 - 1)
 
 def last(n):
     return addp(fork(atomic(write(63, valt(n)))), atomic(read(63)))
+
+
+def after(tree):
+    """The tree behind a transaction of its thread, which three picks have passed."""
+    return addp(atomic(valt(0)), tree)
 
 
 def the_whole_case():
@@ -477,22 +520,22 @@ def the_events():
     section("READ: the write log, then the read log, then the table")
     values = ("register 0 9", "thread 0 reads 1, thread 0 readlog 0 7", "thread 0 writes 1, thread 0 writelog 0 5")
     case("step 7 of three values", LOOK, "0", values[0], "0", says=stepped(7, 0, 0, "thread 0 open", "register 0 9"))
-    case("step 6 of three values", LOOK, "0", ", ".join(values[:2]), "0", says=stepped(6, 0, 0, "thread 0 open", "register 0 9"))
-    case("step 5 of three values", LOOK, "0", ", ".join(values), "0", says=stepped(5, 0, 0, "thread 0 open", "register 0 9"))
+    case("step 6 of three values", after(LOOK), "0*4", ", ".join(values[:2]), "0", says=stepped(6, 0, 0, "thread 0 open", "register 0 9"))
+    case("step 5 of three values", after(LOOK), "0*4", ", ".join(values), "0", says=stepped(5, 0, 0, "thread 0 open", "register 0 9"))
     case("step 5 of two values", LOOK, "0", values[0] + ", " + values[2], "0", says=stepped(5, 0, 0, "thread 0 open", "register 0 9"))
-    case("run three values to the end", LOOK, "0", ", ".join(values), "0*2", says=ran(2, 0, 0, 1, "thread 0 open", "register 0 9"))
+    case("run three values to the end", after(LOOK), "0*4", ", ".join(values), "0*2", says=ran(2, 0, 0, 1, "thread 0 open", "register 0 9"))
     case("run two values to the end", LOOK, "0", values[0] + ", " + values[2], "0*2", says=ran(2, 0, 1, 0, "thread 0 done 5", "register 0 5"))
     case("run all registers marked", LOOK, "0", "thread 0 writes %s, thread 0 writelog 0 5, thread 0 writelog 63 -6" % EVERY, "0*2", says=ran(2, 0, 1, 0, "thread 0 done 5", "register 0 5", "register 63 -6"))
     case("step 9 own write, the register changed since", OWN, "0*5", "register 0 99", "0", says=stepped(9, 0, 1, "thread 0 done 10", "register 0 5"))
-    case("step 10 read and written, the register changed since", WHOLE, "0*2 1*5", "register 0 99", "1", says=stepped(10, 0, 0, "thread 0 open", "thread 1 open", "thread 2 open", "register 0 99"))
-    case("run read before the change, written after it", WHOLE, "0*2 1*2", "register 0 99", "1*4", says=ran(4, 0, 0, 1, "thread 0 open", "thread 1 open", "thread 2 open", "register 0 99"))
+    case("step 10 read and written, the register changed since", WHOLE, "0*2 2*6 1*5", "register 0 99", "1", says=stepped(10, 0, 0, "thread 0 open", "thread 1 open", "thread 2 done 1", "register 0 99"))
+    case("run read before the change, written after it", WHOLE, "0*2 2*6 1*2", "register 0 99", "1*4", says=ran(4, 0, 0, 1, "thread 0 open", "thread 1 open", "thread 2 done 1", "register 0 99"))
     section("COMMIT: the first stale register")
     case("step 10 the lowest of two", STALE, "0*5 1*5", picks="0", says=stepped(10, 1, 0, "thread 0 open", "thread 1 done 1", "register 1 1", "register 2 1"))
     case("step 10 register 63", last(1), "0*3 1*4", picks="0", says=stepped(10, 63, 0, "thread 0 open", "thread 1 done 1", "register 63 1"))
     case("step 9 the same value written", last(0), "0*3 1*4", picks="0", says=stepped(9, 0, 1, "thread 0 open", "thread 1 done 0"))
     case("step 9 written and set back", last(1), "0*3 1*4", "register 63 0", "0", says=stepped(9, 0, 1, "thread 0 open", "thread 1 done 1"))
-    case("step 10 a marked register never named", LOOK, "0*2", "thread 0 reads %d, thread 0 readlog 5 1" % (2**5 + 1), "0", says=stepped(10, 5, 0, "thread 0 open"))
-    case("step 10 sent back, a write log dropped", OWN, "0*5", "thread 0 reads 2, thread 0 readlog 1 4", "0", says=stepped(10, 1, 0, "thread 0 open"))
+    case("step 10 a marked register never named", after(LOOK), "0*5", "thread 0 reads %d, thread 0 readlog 5 1" % (2**5 + 1), "0", says=stepped(10, 5, 0, "thread 0 open"))
+    case("step 10 sent back, a write log dropped", after(OWN), "0*8", "thread 0 reads 2, thread 0 readlog 1 4", "0", says=stepped(10, 1, 0, "thread 0 open"))
     case("step 10 two numbers below", HIGH, "0*4 1*4", picks="0", says=stepped(10, 0, 0, "thread 0 open", "thread 1 done 1", "register 0 1"))
     case("run two numbers below, to the end", HIGH, "0*4 1*4", picks="0*6", says=ran(6, 0, 1, 1, "thread 0 done 6", "thread 1 done 1", "register 0 1"))
 
@@ -514,7 +557,9 @@ def the_sizes():
     case("run a stack of 64 to the end", deep, picks="0*130", says=ran(127, 3, 0, 0, "thread 0 done 192"))
     inside = atomic(jobs.right_comb(addt, read(1), 63))
     case("run a stack of 63 in a transaction", inside, "0", "register 1 -5", "0*126", says=ran(126, 0, 1, 0, "thread 0 done -315", "register 1 -5"))
-    case("run a stack of 63 sent back", inside, "0*64", "register 1 -5", "0*63", says=ran(63, 0, 0, 1, "thread 0 open", "register 1 -5"))
+    one_less = after(atomic(jobs.right_comb(addt, read(1), 62)))
+    assert answer("run", whole(one_less), "", "", "0*66")[1].threads[0].height == 63
+    case("run a stack of 63 sent back", one_less, "0*66", "register 1 -5", "0*62", says=ran(62, 0, 0, 1, "thread 0 open", "register 1 -5"))
     comb = atomic(jobs.left_comb(addt, write(7, read(7)), 32))
     case("run many writes of one register", comb, "0", "register 7 3", "0*200", says=None)
     case("run 62 WRITEs in each other", atomic(chain(lambda t: write(9, t), 62, valt(4))), picks="0*65", says=ran(65, 0, 1, 0, "thread 0 done 4", "register 9 4"))
@@ -529,7 +574,7 @@ def the_transactions():
     case("run 200 nodes, register 5 being 3", full, "0", "register 5 3", "0*202", says=ran(201, 1, 1, 0, *end))
     case("run 200 nodes up to COMMIT", full, picks="0*201", says=ran(201, 0, 0, 0, "thread 0 open"))
     case("step 200 nodes, COMMIT", full, "0*201", picks="0", says=stepped(9, 0, 1, "thread 0 done 0"))
-    case("run 200 nodes, sent back once", full, "0*201", "register 5 3", "0*203", says=ran(203, 0, 1, 1, *end))
+    case("run 200 nodes, sent back once", after(full), "0*204", "register 5 3", "0*204", says=ran(204, 0, 1, 1, *end))
     other = addp(fork(atomic(write(5, valt(3)))), full)
     case("run 200 nodes, sent back by another thread", other, picks="0*202 1*4 0*204", says=ran(410, 0, 2, 1, end[0], "thread 1 done 3", *end[1:]))
     case("run 200 nodes in a FORK's child", fork(full), picks="0 1*202", says=ran(203, 0, 1, 0, "thread 0 done 0", "thread 1 done 0"))
@@ -605,7 +650,7 @@ def the_overs():
     case("run a lent note and a sum that leaves the range", twice, "0*4", "thread 0 over 1", "0*3", says=ran(3, 0, 1, 0, "thread 0 done -2147483646", over=2))
     case("run a lent note that is left open", twice, "0*4", "thread 0 over 1", "0*2", says=ran(2, 0, 0, 0, "thread 0 open"))
     assert answer("run", whole(twice), "0*4", "thread 0 over 1", "0*2")[1].threads[0].over == 2
-    case("step a lent note that is sent back", atomic(addt(read(0), valt(1))), "0*4", "thread 0 over 1, register 0 3", "0", says=stepped(10, 0, 0, "thread 0 open", "register 0 3"))
+    case("step a lent note that is sent back", after(atomic(addt(read(0), valt(1)))), "0*7", "thread 0 over 1, register 0 3", "0", says=stepped(10, 0, 0, "thread 0 open", "register 0 3"))
     # one ADD behind the BEGIN, others before it
     outside_first = addp(addp(valp(1), valp(2)), SMALL)
     inside_first = addp(SMALL, SMALL)
@@ -615,10 +660,142 @@ def the_overs():
     case("run a lent note of 2, an ADD of the transaction before", inside_first, "0*9", "thread 0 over 2", "0", says="refused 12 at 0 kept")
 
 
+def the_rules():
+    def record(i, left, rule, backs=0):
+        return "thread %d %s" % (i, left) + RULE % (rule, backs)
+
+    def fit(label, tree, setup, changes, pick, said):
+        """A step on a state, its answer, or 12."""
+        case(label, tree, setup, changes, pick, says="refused 12 at 0 kept" if said == 12 else said)
+
+    section("the whole case, pick by pick: the rule, and the last rule and the send-backs of each thread")
+    none, forked, ended = record(0, "open", 0), record(0, "open", 3), record(0, "done 0", 2)
+    rows = (
+        (0, 3, 0, 1, (forked, record(1, "open", 0))),
+        (0, 3, 0, 1, (forked, record(1, "open", 0), record(2, "open", 0))),
+        (0, 2, 0, 1, (ended, record(1, "open", 0), record(2, "open", 0))),
+        (1, 4, 0, 0, (ended, record(1, "open", 4), record(2, "open", 0))),
+        (1, 7, 0, 0, (ended, record(1, "open", 7), record(2, "open", 0))),
+        (2, 4, 0, 0, (ended, record(1, "open", 7), record(2, "open", 4))),
+        (2, 7, 0, 0, (ended, record(1, "open", 7), record(2, "open", 7))),
+        (2, 1, 0, 0, (ended, record(1, "open", 7), record(2, "open", 1))),
+        (2, 2, 0, 0, (ended, record(1, "open", 7), record(2, "open", 2))),
+        (2, 8, 0, 0, (ended, record(1, "open", 7), record(2, "open", 8))),
+        (2, 9, 0, 1, (ended, record(1, "open", 7), record(2, "done 1", 9), "register 0 1")),
+        (1, 1, 0, 0, (ended, record(1, "open", 1), record(2, "done 1", 9), "register 0 1")),
+        (1, 2, 0, 0, (ended, record(1, "open", 2), record(2, "done 1", 9), "register 0 1")),
+        (1, 8, 0, 0, (ended, record(1, "open", 8), record(2, "done 1", 9), "register 0 1")),
+        (1, 10, 0, 0, (ended, record(1, "open", 10, 1), record(2, "done 1", 9), "register 0 1")),
+        (1, 4, 0, 0, (ended, record(1, "open", 4, 1), record(2, "done 1", 9), "register 0 1")),
+        (1, 7, 0, 0, (ended, record(1, "open", 7, 1), record(2, "done 1", 9), "register 0 1")),
+        (1, 1, 0, 0, (ended, record(1, "open", 1, 1), record(2, "done 1", 9), "register 0 1")),
+        (1, 2, 0, 0, (ended, record(1, "open", 2, 1), record(2, "done 1", 9), "register 0 1")),
+        (1, 8, 0, 0, (ended, record(1, "open", 8, 1), record(2, "done 1", 9), "register 0 1")),
+        (1, 9, 0, 1, (ended, record(1, "done 2", 9, 1), record(2, "done 1", 9), "register 0 2")),
+    )
+    assert [row[0] for row in rows] == listed(PICKS)
+    before = ""
+    for k, (i, event, register, turn, left) in enumerate(rows):
+        case("step the whole case, pick %d" % (k + 1), WHOLE, before, picks=str(i), says=stepped(event, register, turn, *left))
+        before = (before + " %d" % i).strip()
+    end = rows[-1][4]
+    case("fresh the whole case, no rule", WHOLE, says="laid, " + none)
+    case("run the whole case, its rules", WHOLE, picks=PICKS, says=ran(21, 0, 2, 1, *end))
+    case("run the whole case, its rules, from the fourteenth pick", WHOLE, "0*3 1*2 2*6 1*2", picks="1*8", says=ran(8, 0, 1, 1, *end))
+    case("run the whole case, its rules, the send-back in another call", WHOLE, "0*3 1*2 2*6 1*4", picks="1*6", says=ran(6, 0, 1, 0, *end))
+    section("an idle pick leaves the rules")
+    case("step idle, a thread that has ended", WHOLE, PICKS, picks="1", says=stepped(0, 0, 0, *end))
+    for i in (0, 2, 3, 15, 16, 255):
+        case("step idle, pick %d behind the whole case" % i, WHOLE, PICKS, picks=str(i), says=stepped(0, 0, 0, *end))
+    case("run idle picks only", WHOLE, PICKS, picks="0*3 1 2 7 255*4", says=ran(0, 10, 0, 0, *end))
+    case("run idle picks behind a send-back", WHOLE, "0*3 1*2 2*6 1*4", picks="0 2 3 255", says=ran(0, 4, 0, 0, *rows[14][4]))
+    case("step idle, no rule yet", SEVEN, picks="1", says=stepped(0, 0, 0, none))
+    case("step idle, a lent rule", SEVEN, "0", "thread 0 rule 66", "0", says=stepped(0, 0, 0, record(0, "done 7", 66)))
+    section("reads from the logs, a child's first rule")
+    case("step a read from the write log", OWN, "0*3", picks="0", says=stepped(5, 0, 0, record(0, "open", 5)))
+    case("step a read from the read log", TWICE, "0*2", picks="0", says=stepped(6, 0, 0, record(0, "open", 6)))
+    case("run a child of a child", NEST, picks="0 1", says=ran(2, 0, 0, 0, record(0, "done 0", 3), record(1, "done 0", 3), record(2, "open", 0)))
+    sent = addp(fork(atomic(write(0, valt(5)))), addp(LOOK, fork(SEVEN)))
+    case("run a child of a thread that was sent back", sent, picks="0*3 1*4 0*5", says=ran(12, 0, 2, 1, record(0, "open", 3, 1), record(1, "done 5", 9), record(2, "open", 0), "register 0 5"))
+    section("the lowest stale register is named")
+    lowest = (record(1, "done 1", 9), "register 1 1", "register 2 1")
+    case("step two stale registers, read the higher one first", STALE, "0*5 1*5", picks="0", says=stepped(10, 1, 0, record(0, "open", 11, 1), *lowest))
+    other = addp(fork(atomic(write(40, write(41, valt(1))))), atomic(addt(read(40), read(41))))
+    case("step two stale registers, read the lower one first", other, "0*5 1*5", picks="0", says=stepped(10, 40, 0, record(0, "open", 50, 1), record(1, "done 1", 9), "register 40 1", "register 41 1"))
+    case("step register 63 stale", last(1), "0*3 1*4", picks="0", says=stepped(10, 63, 0, record(0, "open", 73, 1), record(1, "done 1", 9), "register 63 1"))
+    section("no COMMIT passed and a stale read: 12")
+    for command, pick in (("run", "0"), ("run", ""), ("step", "0"), ("step", "200")):
+        case("%s a stale read, no COMMIT passed, pick %s" % (command, pick or "none"), LOOK, "0*2", "register 0 3", pick, says="refused 12 at 0 kept")
+    values = "register 0 9, thread 0 reads 1, thread 0 readlog 0 7"
+    for label, tree, setup, changes, pick in (
+        ("of two values", LOOK, "0", values, "0"),
+        ("of three values", LOOK, "0", values + ", thread 0 writes 1, thread 0 writelog 0 5", "0"),
+        ("read and written", WHOLE, "0*2 1*5", "register 0 99", "1"),
+        ("not written yet", WHOLE, "0*2 1*2", "register 0 99", "1*4"),
+        ("of a register never named", LOOK, "0*2", "thread 0 reads %d, thread 0 readlog 5 1" % (2**5 + 1), "0"),
+        ("beside a write log", OWN, "0*5", "thread 0 reads 2, thread 0 readlog 1 4", "0"),
+        ("of 63", atomic(jobs.right_comb(addt, read(1), 63)), "0*64", "register 1 -5", "0*63"),
+        ("of 100", atomic(jobs.FULL), "0*201", "register 5 3", "0*203"),
+        ("beside a note", atomic(addt(read(0), valt(1))), "0*4", "thread 0 over 1, register 0 3", "0"),
+        ("of a thread that is not picked", WHOLE, "0*2 1*2", "register 0 99", "2"),
+    ):
+        case("run a stale read %s, no COMMIT passed" % label, tree, setup, changes, pick, says="refused 12 at 0 kept")
+    case("run another value in log and table", LOOK, "0*2", "register 0 3, thread 0 readlog 0 3", "0", says=ran(1, 0, 1, 0, record(0, "done 0", 9), "register 0 3"))
+    section("lent send-backs: equal to the COMMITs passed, or above; with a stale read below them only")
+    look = after(LOOK)  # one COMMIT passed by the thread itself; at its second COMMIT from 0*5 on
+    for n, stale, said in (
+        (0, False, stepped(9, 0, 1, record(0, "open", 9))),
+        (1, False, stepped(9, 0, 1, record(0, "open", 9, 1))),
+        (2, False, 12),
+        (0, True, stepped(10, 0, 0, record(0, "open", 10, 1), "register 0 3")),
+        (1, True, 12),
+        (2, True, 12),
+    ):
+        fit("step %d send-backs, one COMMIT passed%s" % (n, ", a stale read" if stale else ""), look, "0*5", "thread 0 backs %d" % n + ", register 0 3" * stale, "0", said)
+    for n, said in ((0, stepped(9, 0, 1, record(0, "done 0", 9))), (1, 12)):
+        fit("step %d send-backs at the first COMMIT" % n, LOOK, "0*2", "thread 0 backs %d" % n, "0", said)
+    for n, said in ((1, stepped(0, 0, 0, record(0, "done 0", 9, 1))), (2, 12)):
+        fit("step %d send-backs, the COMMIT of a thread that has ended" % n, LOOK, "0*3", "thread 0 backs %d" % n, "0", said)
+    # thread 0 passes the code of both children, thread 2 commits, thread 1 has read before
+    stale, ahead = "0*3 1*2 2*6", "0*3 2*6 1*2"
+    here = (record(2, "done 1", 9), "register 0 1")
+    for label, setup, changes, said in (
+        ("a COMMIT in passed child code does not count", "0*3", "thread 0 backs 1", 12),
+        ("an ended thread's COMMIT counts, one", "0*3 2*6", "thread 1 backs 1", stepped(4, 0, 0, ended, record(1, "open", 4, 1), *here)),
+        ("an ended thread's COMMIT counts, two", "0*3 2*6", "thread 1 backs 2", 12),
+        ("each thread by itself", "0*3 2*6", "thread 0 backs 1, thread 1 backs 1, thread 2 backs 1", stepped(4, 0, 0, record(0, "done 0", 2, 1), record(1, "open", 4, 1), record(2, "done 1", 9, 1), "register 0 1")),
+        ("a stale read, none", stale, "", stepped(1, 0, 0, ended, record(1, "open", 1), *here)),
+        ("a stale read, one", stale, "thread 1 backs 1", 12),
+        ("another thread's stale read", stale, "thread 0 backs 1, thread 2 backs 1", stepped(1, 0, 0, record(0, "done 0", 2, 1), record(1, "open", 1), record(2, "done 1", 9, 1), "register 0 1")),
+        ("a read that is not stale, one", ahead, "thread 1 backs 1", stepped(1, 0, 0, ended, record(1, "open", 1, 1), *here)),
+        ("a read that is not stale, two", ahead, "thread 1 backs 2", 12),
+        ("a written register that changed, one", "0*3 2*6 1", "thread 1 backs 1, thread 1 writes 1, thread 1 writelog 0 4, register 0 8", stepped(5, 0, 0, ended, record(1, "open", 5, 1), record(2, "done 1", 9), "register 0 8")),
+        ("a fresh read log, one", "0*3 2*6 1", "thread 1 backs 1, register 0 8", stepped(7, 0, 0, ended, record(1, "open", 7, 1), record(2, "done 1", 9), "register 0 8")),
+    ):
+        fit("step send-backs, " + label, WHOLE, setup, changes, "1", said)
+    three = addp(atomic(valt(1)), addp(atomic(valt(2)), addp(atomic(valt(3)), LOOK)))
+    for n, said in ((2, stepped(10, 0, 0, record(0, "open", 10, 3), "register 0 4")), (3, 12)):
+        fit("step %d send-backs, three COMMITs passed, a stale read" % n, three, "0*11", "thread 0 backs %d, register 0 4" % n, "0", said)
+    for n, said in ((3, stepped(9, 0, 1, record(0, "open", 9, 3))), (4, 12)):
+        fit("step %d send-backs, three COMMITs passed" % n, three, "0*11", "thread 0 backs %d" % n, "0", said)
+    case("run a lent number that goes on", three, "0*11", "thread 0 backs 2, register 0 4", "0*4", says=ran(4, 0, 1, 1, record(0, "open", 9, 3), "register 0 4"))
+    case("run four threads on one register, their send-backs", BUSY, picks=BUSY_PICKS, says=ran(66, 1, 4, 6, record(0, "done 4", 2, 3), record(1, "done 1", 9), record(2, "done 2", 9, 1), record(3, "done 3", 9, 2), "register 0 4"))
+    section("any last rule of a thread fits")
+    for rule in ("0", "10", "73", "74", "255", "1000000", EVERY):
+        case("step a lent rule %s" % rule, WHOLE, "0*2", "thread 0 rule %s, thread 1 rule %s" % (rule, rule), "1", says=stepped(4, 0, 0, record(0, "open", int(rule)), record(1, "open", 4), record(2, "open", 0)))
+    section("a rule or a send-back in a record of no thread: 12")
+    for field, value in (("rule", "1"), ("rule", "255"), ("backs", "1"), ("backs", EVERY)):
+        for i in (3, 15):
+            case("run thread %d with %s %s" % (i, field, value), WHOLE, "0*3 2*6", "thread %d %s %s" % (i, field, value), "1", says="refused 12 at 0 kept")
+    case("run a rule in record 16", WHOLE, "0*2", "thread 16 rule 9, thread 16 backs 9", "1", says=ran(1, 0, 0, 0, forked, record(1, "open", 4), record(2, "open", 0)))
+    section("fresh: no rule and no send-back")
+    case("fresh over rules and send-backs", WHOLE, changes="thread 0 rule 9, thread 0 backs 9, thread 15 rule 255, thread 15 backs " + EVERY, says="laid, " + none)
+
+
 def the_table():
     """The rows of the table of states in docs/ARCHITECTURE.md, with the same labels."""
     section("states that fit and states that do not: labels as in docs/ARCHITECTURE.md")
-    fresh, one, both, begun, inside, behind = "", "0", "0*2", "0*2 1", "0*2 1*2", "0*2 1*6"
+    fresh, one, both, begun, inside, behind, done = "", "0", "0*2", "0*2 1", "0*2 1*2", "0*2 1*6", "0*2 2*6"
     picks = "0*2 1*3 2 3"
 
     def blank(i):
@@ -735,6 +912,10 @@ def the_table():
             ("unused-begin", both, "thread 3 begin 1", False),
             ("unused-base", both, "thread 3 base 1", False),
             ("unused-noted", both, "thread 3 over 1", False),
+            ("unused-rule", both, "thread 3 rule 1", False),
+            ("unused-rule-last", both, "thread 15 rule " + EVERY, False),
+            ("unused-backs", done, "thread 3 backs 1", False),
+            ("unused-backs-last", done, "thread 15 backs 1", False),
             ("unused-read", both, "thread 3 reads 1", False),
             ("unused-read-value", both, "thread 3 readlog 63 1", False),
             ("unused-write", both, "thread 3 writes " + BIT_63, False),
@@ -744,9 +925,40 @@ def the_table():
         ("values on the stack, in registers and in logs are free; a log may mark a register which its transaction never names", WHOLE, (
             ("free-cells", both, "thread 0 cell 0 7, thread 0 cell 1 -3", True),
             ("free-registers", both, ", ".join("register %d -5" % v for v in range(64)), True),
-            ("free-read", inside, "thread 1 readlog 0 9", True),
+            ("free-read", "0*2 2*6 1*2", "thread 1 readlog 0 9", True),
             ("free-write", inside, "thread 1 writes 32, thread 1 writelog 5 9", True),
-            ("unnamed", begun, "thread 1 reads %s, thread 1 readlog 63 9" % BIT_63, True),
+            ("unnamed", "0*2 2*6 1", "thread 1 reads %s, thread 1 readlog 63 9" % BIT_63, True),
+        )),
+        ("a thread's last rule is free", WHOLE, (
+            ("free-rule", both, "thread 0 rule 7, thread 1 rule 73, thread 2 rule 0", True),
+            ("free-rule-unknown", both, "thread 0 rule 74, thread 1 rule 255, thread 2 rule " + EVERY, True),
+            ("free-rule-ended", PICKS, "thread 0 rule 10, thread 1 rule 0, thread 2 rule 255", True),
+        )),
+        ("send-backs: above the COMMITs passed by all threads the state is foreign", WHOLE, (
+            ("backs-fresh", fresh, "thread 0 backs 1", False),
+            ("backs-before-commit", "0*2 1*5", "thread 1 backs 1", False),
+            ("backs-in-child", "0*3", "thread 0 backs 1", False),
+            ("backs-equal", done, "thread 1 backs 1", True),
+            ("backs-above", done, "thread 1 backs 2", False),
+            ("backs-equal-ended", done, "thread 2 backs 1", True),
+            ("backs-above-ended", done, "thread 2 backs 2", False),
+            ("backs-equal-all", done, "thread 0 backs 1, thread 1 backs 1, thread 2 backs 1", True),
+            ("backs-equal-two", PICKS, "thread 0 backs 2, thread 1 backs 2, thread 2 backs 2", True),
+            ("backs-above-two", PICKS, "thread 0 backs 3", False),
+        )),
+        ("or equal to it while that thread's open transaction has a stale read", WHOLE, (
+            ("stale-none-passed", inside, "register 0 5", False),
+            ("stale-none-passed-log", inside, "thread 1 readlog 0 9", False),
+            ("stale-none-passed-unnamed", begun, "thread 1 reads %s, thread 1 readlog 63 9" % BIT_63, False),
+            ("stale-below", "0*2 1*2 2*6", "", True),
+            ("stale-equal", "0*2 1*2 2*6", "thread 1 backs 1", False),
+            ("stale-above", "0*2 1*2 2*6", "thread 1 backs 2", False),
+            ("stale-of-another", "0*2 1*2 2*6", "thread 0 backs 1, thread 2 backs 1", True),
+            ("unstale-equal", "0*2 2*6 1*2", "thread 1 backs 1", True),
+            ("unstale-above", "0*2 2*6 1*2", "thread 1 backs 2", False),
+            ("set-back-equal", "0*2 1*2 2*6", "thread 1 backs 1, register 0 0", True),
+            ("written-equal", "0*2 2*6 1*5", "thread 1 backs 1, thread 1 writelog 0 -9", True),
+            ("unmarked-equal", "0*2 2*6 1", "thread 1 backs 1, register 0 9", True),
         )),
     )
     for title, tree, states in rows:
@@ -766,6 +978,7 @@ def the_table():
         ("the greatest start", "", "thread 0 start " + EVERY),
         ("the greatest notes", inside, "thread 1 begin %s, thread 1 base %s" % (EVERY, EVERY)),
         ("the greatest count of sums", "0*2 1*4", "thread 1 over " + EVERY),
+        ("the greatest number of send-backs", done, "thread 1 backs " + EVERY),
         ("a height of 64", both, "thread 0 height 64"),
         ("all registers marked outside", both, "thread 2 reads " + EVERY),
         ("a place in the mark", "", "thread 0 place 4"),
@@ -803,6 +1016,8 @@ def the_lines():
         ("run a pick in setup", "%s; x; ; 0" % text),
         ("run another change", "%s; ; threads 3; 0" % text),
         ("run another field", "%s; ; thread 0 begins 3; 0" % text),
+        ("run no value of a rule", "%s; ; thread 0 rule; 0" % text),
+        ("run no value of the send-backs", "%s; ; thread 0 backs; 0" % text),
         ("run thread 17", "%s; ; thread 17 start 3; 0" % text),
         ("run cell 64", "%s; ; thread 0 cell 64 3; 0" % text),
         ("run register 65", "%s; ; register 65 3; 0" % text),
@@ -912,5 +1127,5 @@ def the_random():
 
 def make():
     lines.append("# Calls of fresh, step and run on states, written by cases.py.")
-    for part in (the_whole_case, fresh_states, the_order, the_events, the_sizes, the_transactions, the_overs, the_table, the_cuts, the_lines, the_random):
+    for part in (the_whole_case, fresh_states, the_order, the_events, the_sizes, the_transactions, the_overs, the_rules, the_table, the_cuts, the_lines, the_random):
         part()

@@ -91,11 +91,102 @@ impl Event {
     }
 }
 
+/// A rule of the machine by its name: the one that a step used, or the last one of a thread.
+#[derive(Clone, Copy, PartialEq, Eq, Hash, Debug)]
+pub enum Rule {
+    /// Nothing has moved the thread yet.
+    None,
+    /// Of a step: its thread does not exist or has ended. No record keeps it.
+    Idle,
+    Push,
+    Sum,
+    Fork,
+    Begin,
+    ReadWriteLog,
+    ReadReadLog,
+    ReadTable,
+    Write,
+    Commit,
+    /// With the lowest stale register.
+    SentBack(u8),
+    /// A number in a record that names no rule. It fits, for the last rule is free in a lent state.
+    Unnamed(usize),
+}
+
+impl Rule {
+    /// The rule that a record's number names.
+    pub fn of_record(number: usize) -> Rule {
+        match number {
+            0 => Rule::None,
+            1..=9 => Rule::of_event(Event::ALL[number], 0),
+            10..=73 => Rule::SentBack((number - 10) as u8),
+            _ => Rule::Unnamed(number),
+        }
+    }
+
+    /// The number that a record has for it; nothing for `Idle`. The inverse of `of_record`, for a register below 64 and an
+    /// unnamed number of 74 or above.
+    pub fn number(self) -> Option<usize> {
+        Some(match self {
+            Rule::None => 0,
+            Rule::Idle => return None,
+            Rule::Push => 1,
+            Rule::Sum => 2,
+            Rule::Fork => 3,
+            Rule::Begin => 4,
+            Rule::ReadWriteLog => 5,
+            Rule::ReadReadLog => 6,
+            Rule::ReadTable => 7,
+            Rule::Write => 8,
+            Rule::Commit => 9,
+            Rule::SentBack(register) => 10 + usize::from(register),
+            Rule::Unnamed(number) => number,
+        })
+    }
+
+    /// The register is that of a send-back.
+    fn of_event(event: Event, register: u8) -> Rule {
+        match event {
+            Event::Idle => Rule::Idle,
+            Event::Push => Rule::Push,
+            Event::Sum => Rule::Sum,
+            Event::Fork => Rule::Fork,
+            Event::Begin => Rule::Begin,
+            Event::ReadWriteLog => Rule::ReadWriteLog,
+            Event::ReadReadLog => Rule::ReadReadLog,
+            Event::ReadTable => Rule::ReadTable,
+            Event::Write => Rule::Write,
+            Event::Commit => Rule::Commit,
+            Event::SentBack => Rule::SentBack(register),
+        }
+    }
+}
+
+impl fmt::Display for Rule {
+    fn fmt(&self, f: &mut fmt::Formatter<'_>) -> fmt::Result {
+        f.write_str(match self {
+            Rule::None => "none",
+            Rule::Idle => "idle",
+            Rule::Push => "push",
+            Rule::Sum => "sum",
+            Rule::Fork => "fork",
+            Rule::Begin => "begin",
+            Rule::ReadWriteLog => "read from write log",
+            Rule::ReadReadLog => "read from read log",
+            Rule::ReadTable => "read from table",
+            Rule::Write => "write",
+            Rule::Commit => "commit",
+            Rule::SentBack(register) => return write!(f, "sent back with register {register}"),
+            Rule::Unnamed(number) => return write!(f, "no rule has the number {number}"),
+        })
+    }
+}
+
 /// What one pick did.
 #[derive(Clone, Copy, PartialEq, Eq, Hash, Debug)]
 pub struct Step {
     pub event: Event,
-    /// The first stale register, if the thread was sent back.
+    /// The lowest stale register, if the thread was sent back.
     pub stale: Option<u8>,
     /// Whether it took a turn: a sum outside a transaction, a FORK or a commit.
     pub turn: bool,
@@ -105,6 +196,11 @@ pub struct Step {
 }
 
 impl Step {
+    /// The rule that it used.
+    pub fn rule(self) -> Rule {
+        Rule::of_event(self.event, self.stale.unwrap_or(0))
+    }
+
     pub(crate) const IDLE: Step = Step::of(Event::Idle);
 
     /// One that took no turn, was not sent back and tells of no sum.

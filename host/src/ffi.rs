@@ -26,6 +26,13 @@ pub struct Thread {
     /// The write log, likewise.
     pub writes: u64,
     pub writelog: [i32; 64],
+    /// The last rule that moved it, 0 if none has: 1 to 9 an [`Event`](crate::Event) by its number, 10 + v sent back with
+    /// the lowest stale register v. Idle picks leave it. Any number fits in a thread's record; in a record of no thread
+    /// this and `backs` are 0.
+    pub rule: usize,
+    /// How often it was sent back: at most as often as all threads together have passed COMMITs, and less often while a
+    /// value in its read log is not the register's; else the state does not fit.
+    pub backs: usize,
 }
 
 /// The answer of compile, read back and report. `refusal` 0: none, and the first `length` bytes of the output are
@@ -54,7 +61,7 @@ pub struct StepReply {
     pub place: usize,
     /// An [`Event`](crate::Event) by its number.
     pub event: usize,
-    /// The first stale register of a send-back, else 0.
+    /// The lowest stale register of a send-back, else 0.
     pub register: usize,
     /// 1 if the pick took a turn, else 0.
     pub turn: usize,

@@ -15,7 +15,7 @@ pub mod plain;
 pub mod raw;
 pub mod samples;
 
-pub use answers::{Counts, Event, Forecast, Refusal, RegisterSet, Step};
+pub use answers::{Counts, Event, Forecast, Refusal, RegisterSet, Rule, Step};
 pub use ffi::Thread;
 
 use ffi::Written;
@@ -135,10 +135,17 @@ impl Thread {
         readlog: [0; 64],
         writes: 0,
         writelog: [0; 64],
+        rule: 0,
+        backs: 0,
     };
 
     pub fn exists(&self) -> bool {
         self.start != 0
+    }
+
+    /// The last rule that moved it; idle picks leave it.
+    pub fn last_rule(&self) -> Rule {
+        Rule::of_record(self.rule)
     }
 
     /// Its result, if it has ended.

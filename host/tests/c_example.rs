@@ -41,6 +41,22 @@ fn the_example_prints_the_whole_case() {
 }
 
 #[test]
+fn the_example_prints_the_whole_cases_rules() {
+    let Some(printed) = output_of("examples/steps.c") else { return };
+    let expected = "\
+        thread 0: fork\nthread 0: fork\nthread 0: sum\n\
+        thread 1: begin\nthread 1: read from table\n\
+        thread 2: begin\nthread 2: read from table\nthread 2: push\nthread 2: sum\nthread 2: write\nthread 2: commit\n\
+        thread 1: push\nthread 1: sum\nthread 1: write\nthread 1: sent back with register 0\n\
+        thread 1: begin\nthread 1: read from table\nthread 1: push\nthread 1: sum\nthread 1: write\nthread 1: commit\n\
+        thread 0: idle\n\
+        thread 0 last did sum, send-backs 0\n\
+        thread 1 last did commit, send-backs 1\n\
+        thread 2 last did commit, send-backs 0\n";
+    assert_eq!(printed, expected);
+}
+
+#[test]
 fn the_example_prints_the_whole_cases_forecast() {
     let Some(printed) = output_of("examples/forecast.c") else { return };
     let expected = "36 bytes of code, 2 transactions, 3 threads\n\
@@ -64,7 +80,8 @@ fn the_header_has_the_same_layout() {
     let expected = layout! {
         "kuspigo_thread" Thread {
             "start" start, "end" end, "place" place, "height" height, "cells" cells, "begin" begin, "base" base,
-            "over" over, "reads" reads, "readlog" readlog, "writes" writes, "writelog" writelog
+            "over" over, "reads" reads, "readlog" readlog, "writes" writes, "writelog" writelog, "rule" rule,
+            "backs" backs
         }
         "kuspigo_written" Written { "refusal" refusal, "place" place, "length" length }
         "kuspigo_fresh_reply" FreshReply { "refusal" refusal, "place" place }

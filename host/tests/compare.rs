@@ -1,12 +1,12 @@
 //! The library beside the plain implementation, on random cases of each call: answers and all memory must be equal. And
-//! its forecasts beside its own code and finished runs.
+//! its forecasts beside its own code and finished runs, its last rules and send-backs beside what its steps tell.
 //!
 //! KUSPIGO_SEED and KUSPIGO_CASES (for each call) choose the cases. An argument runs only the calls whose name has it.
 
 use kuspigo::ffi::{ForecastReply, FreshReply, RunReply, StepReply, Written};
 use kuspigo::plain::{self, by_value, tree};
 use kuspigo::samples::{chain, far, many_small, sum, Lean, Rng, Shape};
-use kuspigo::{raw, Counts, Event, Forecast, Refusal, RegisterSet, Step, Thread};
+use kuspigo::{raw, Counts, Event, Forecast, Refusal, RegisterSet, Rule, Step, Thread};
 use std::collections::BTreeMap;
 use std::fmt::{Debug, Write};
 use std::time::Instant;
@@ -29,7 +29,7 @@ struct Call {
     reaches: &'static [&'static str],
 }
 
-const CALLS: [Call; 8] = [
+const CALLS: [Call; 9] = [
     Call {
         name: "compile",
         case: compile,
@@ -92,6 +92,16 @@ const CALLS: [Call; 8] = [
             "state with another note: fits",
             "state with a note too high: 12",
             "state and code of a long transaction: 11",
+            "state with other rules and send-backs: fits",
+            "state with too many send-backs: 12",
+            "state with a stale read too many: 12",
+            "state with a stale read, no COMMIT passed: 12",
+            "state with a rule of no thread: 12",
+            "rule: left by an idle pick",
+            "rule: one without a name replaced",
+            "rule: the lowest of several stale registers",
+            "backs: a lent number goes on",
+            "backs: a lent number kept by a commit",
         ],
     },
     Call {
@@ -117,6 +127,16 @@ const CALLS: [Call; 8] = [
             "state with another note: fits",
             "state with a note too high: 12",
             "state and code of a long transaction: 11",
+            "state with other rules and send-backs: fits",
+            "state with too many send-backs: 12",
+            "state with a stale read too many: 12",
+            "state with a stale read, no COMMIT passed: 12",
+            "state with a rule of no thread: 12",
+            "rule: left by an idle pick",
+            "rule: one without a name replaced",
+            "rule: the lowest of several stale registers",
+            "backs: a lent number goes on",
+            "backs: a lent number kept by a commit",
         ],
     },
     Call {
@@ -196,6 +216,36 @@ const CALLS: [Call; 8] = [
             "runs: over, sent back",
         ],
     },
+    Call {
+        name: "recounted",
+        case: recounted,
+        reaches: &[
+            "calls: a step",
+            "calls: a run",
+            "calls: a run without picks",
+            "calls: refused",
+            "picks: idle",
+            "picks: steps",
+            "picks: commits",
+            "picks: back",
+            "sent back: in several calls",
+            "sent back: several threads",
+            "sent back: a thread twice",
+            "sent back: before a commit of the thread",
+            "sent back: register 63",
+            "last rule: none",
+            "last rule: push",
+            "last rule: sum",
+            "last rule: fork",
+            "last rule: begin",
+            "last rule: read from write log",
+            "last rule: read from read log",
+            "last rule: read from table",
+            "last rule: write",
+            "last rule: commit",
+            "last rule: sent back",
+        ],
+    },
 ];
 
 /// How often each thing came.
@@ -246,7 +296,7 @@ impl Tally {
             return Err(format!("a state is refused with {refusal} that was made to fit: {what}"));
         }
         let expected = match what {
-            TOO_HIGH => 12,
+            TOO_HIGH | TOO_OFTEN | STALE | STALE_AT_FIRST | OF_NO_THREAD => 12,
             TOO_LONG => 11,
             _ => refusal,
         };
@@ -280,6 +330,26 @@ impl Tally {
                 Event::SentBack if before > 0 => self.add("over: sent back", 1),
                 _ => {}
             }
+        }
+    }
+
+    /// What picks that were taken show of last rules and send-backs.
+    fn rules(&mut self, code: &[u8], state: &State, picks: &[u8]) {
+        let State { mut registers, mut threads } = *state;
+        let lent = threads.map(|thread| thread.backs);
+        for &pick in picks {
+            let before = threads.get(usize::from(pick)).copied().unwrap_or(Thread::ABSENT);
+            let stale = (0..64).filter(|&register| is_stale(&before, &registers, register)).count();
+            let step = plain::step(code, &mut registers, &mut threads, pick).expect("the picks were taken");
+            if step.event == Event::Idle {
+                self.add_if(before.rule > 0, "rule: left by an idle pick");
+                continue;
+            }
+            let lent = lent[usize::from(pick)] > 0;
+            self.add_if(before.rule > 73, "rule: one without a name replaced");
+            self.add_if(step.event == Event::SentBack && stale > 1, "rule: the lowest of several stale registers");
+            self.add_if(step.event == Event::SentBack && lent, "backs: a lent number goes on");
+            self.add_if(step.event == Event::Commit && lent, "backs: a lent number kept by a commit");
         }
     }
 }
@@ -616,6 +686,7 @@ fn step(rng: &mut Rng, tally: &mut Tally) -> Result<(), String> {
         tally.add(&format!("event {event:?}"), 1);
         tally.add_if(answer.turn == 1, &format!("turn of {event:?}"));
         tally.overs(&code, &state, &[pick]);
+        tally.rules(&code, &state, &[pick]);
     }
     Ok(())
 }
@@ -658,6 +729,7 @@ fn run(rng: &mut Rng, tally: &mut Tally) -> Result<(), String> {
         tally.add_if(count == 32_768, "lists of 32,768");
         if count < 40 {
             tally.overs(&code, &state, &picks);
+            tally.rules(&code, &state, &picks);
         }
     }
     Ok(())
@@ -1008,11 +1080,7 @@ fn is_open(thread: &Thread) -> bool {
 fn against(rng: &mut Rng, code: &[u8], state: &kuspigo::State, open: &[u8]) -> u8 {
     let (waiting, going): (Vec<u8>, Vec<u8>) =
         open.iter().partition(|&&i| code[state.threads[usize::from(i)].place] == 6);
-    let stale = |&&i: &&u8| {
-        let thread = &state.threads[usize::from(i)];
-        (0..64)
-            .any(|register| thread.reads >> register & 1 == 1 && thread.readlog[register] != state.registers[register])
-    };
+    let stale = |&&i: &&u8| has_stale(&state.threads[usize::from(i)], &state.registers);
     if let Some(&pick) = waiting.iter().find(stale) {
         return pick;
     }
@@ -1116,6 +1184,140 @@ fn tall(rng: &mut Rng) -> Process {
         };
     }
     tree
+}
+
+// Last rules and send-backs beside what single steps tell.
+
+/// Of each thread its last rule and its send-backs, as steps told them.
+#[derive(Default)]
+struct Told {
+    rules: [usize; 16],
+    backs: [usize; 16],
+    /// Whether a commit followed on a send-back of the same thread.
+    committed: bool,
+}
+
+impl Told {
+    fn add(&mut self, pick: u8, step: Step) {
+        if step.event == Event::Idle {
+            return;
+        }
+        let i = usize::from(pick);
+        self.rules[i] = step.event as usize + usize::from(step.stale.unwrap_or(0));
+        self.backs[i] += usize::from(step.event == Event::SentBack);
+        self.committed |= step.event == Event::Commit && self.backs[i] > 0;
+    }
+}
+
+/// Calls one after the other from a fresh state, steps and runs mixed, some of them refused. After each one the records'
+/// send-backs add up to `back` of all calls; and the same picks as single steps leave the same, each record having after
+/// every step what the steps told of its thread.
+fn recounted(rng: &mut Rng, tally: &mut Tally) -> Result<(), String> {
+    let tree = match rng.below(8) {
+        0 => accepted(rng, any_tree),
+        1 => contested(rng),
+        _ => tangled(rng),
+    };
+    let code = kuspigo::compile(&tree.job()).map_err(|refusal| refusal.to_string())?;
+    let mut state = kuspigo::State::fresh(&code).map_err(|refusal| refusal.to_string())?;
+    let mut single = state.clone();
+    let mut told = Told::default();
+    // sent back in all calls, and calls in which something was
+    let mut all = 0;
+    let mut calls_with_back = 0;
+    let mut lists = Vec::new();
+    for _ in 0..rng.between(1, 9) {
+        let count = rng.choose(&[0, 3, 10, 10, 20, 40, 60]);
+        let list = match rng.one_in(3) {
+            true => picks(rng, 1, tree.forks() + 1),
+            false => picks(rng, count, tree.forks() + 1),
+        };
+        lists.push(hex(&list));
+        let differs = |what: String| Err(format!("code {}\ncalls {lists:?}\n{what}", hex(&code)));
+        if rng.one_in(8) {
+            let before = state.clone();
+            let refused = match rng.one_in(2) {
+                true => state.run(&code, &[0; 32_769]),
+                false => kuspigo::run(&code, &mut state.registers, &mut state.threads[..15], &list),
+            };
+            if refused.is_ok() || state != before {
+                return differs(format!("a call that has to be refused: {refused:?}"));
+            }
+            tally.add("calls: refused", 1);
+        }
+        let earlier = all;
+        if list.len() == 1 && rng.one_in(2) {
+            let step = state.step(&code, list[0]).map_err(|refusal| refusal.to_string())?;
+            all += usize::from(step.event == Event::SentBack);
+            tally.add("calls: a step", 1);
+        } else {
+            let counts = state.run(&code, &list).map_err(|refusal| refusal.to_string())?;
+            all += counts.back;
+            tally.add("calls: a run", 1);
+            tally.add_if(list.is_empty(), "calls: a run without picks");
+            tally.add("picks: steps", counts.steps);
+            tally.add("picks: idle", counts.idle);
+            tally.add("picks: commits", counts.commits);
+            tally.add("picks: back", counts.back);
+        }
+        calls_with_back += usize::from(all > earlier);
+        for &pick in &list {
+            let step = single.step(&code, pick).map_err(|refusal| refusal.to_string())?;
+            told.add(pick, step);
+            tally.add_if(step.stale == Some(63), "sent back: register 63");
+            let (rules, backs) = (single.threads.map(|thread| thread.rule), single.threads.map(|thread| thread.backs));
+            if (rules, backs) != (told.rules, told.backs) {
+                let told = (told.rules, told.backs);
+                return differs(format!("{step:?} leaves rules and backs {:?}, told were {told:?}", (rules, backs)));
+            }
+        }
+        if state != single {
+            return differs(String::from("the calls leave another state than single steps"));
+        }
+        let backs = state.threads.map(|thread| thread.backs);
+        if backs.iter().sum::<usize>() != all {
+            return differs(format!("backs {backs:?}, {all} sent back in all calls"));
+        }
+    }
+    tally.add_if(calls_with_back > 1, "sent back: in several calls");
+    tally.add_if(told.backs.iter().filter(|&&backs| backs > 0).count() > 1, "sent back: several threads");
+    tally.add_if(told.backs.iter().any(|&backs| backs > 1), "sent back: a thread twice");
+    tally.add_if(told.committed, "sent back: before a commit of the thread");
+    for thread in state.threads.iter().filter(|thread| thread.exists()) {
+        match thread.last_rule() {
+            Rule::SentBack(_) => tally.add("last rule: sent back", 1),
+            rule => tally.add(&format!("last rule: {rule}"), 1),
+        }
+    }
+    Ok(())
+}
+
+/// Threads with several transactions that read and write the same few registers.
+fn tangled(rng: &mut Rng) -> Process {
+    let registers = rng.between(1, 3);
+    let far = rng.one_in(8);
+    let several = |rng: &mut Rng| {
+        let mut parts = Vec::new();
+        for _ in 0..rng.between(1, 3) {
+            let nodes = rng.between(2, 9);
+            let shape = Shape { nodes, room: 20, forks: 0, transaction: nodes, registers, lean: Lean::Any };
+            // register 63 alone
+            parts.push(if far {
+                let sum = Transaction::Add(Box::new(Transaction::Read(63)), Box::new(Transaction::Val(rng.number())));
+                Process::Atomic(Box::new(Transaction::Write(63, Box::new(sum))))
+            } else {
+                shape.atomic(rng)
+            });
+        }
+        sum(parts)
+    };
+    let mut parts = vec![several(rng)];
+    for _ in 0..rng.between(1, 3) {
+        let child = Process::Fork(Box::new(several(rng)));
+        let at = rng.below(parts.len() + 1);
+        parts.insert(at, child);
+    }
+    sum(parts)
 }
 
 // Jobs, codes and inputs.
@@ -1526,10 +1728,17 @@ const RENUMBERED: &str = "renumbered";
 const MADE: &str = "made up";
 const BUSY: &str = "of a busy job";
 const NOTED: &str = "with another note";
+const RULED: &str = "with other rules and send-backs";
 /// States that fit whatever the implementations say.
-const FITTING: [&str; 6] = [REACHED, FREE, RENUMBERED, MADE, BUSY, NOTED];
+const FITTING: [&str; 7] = [REACHED, FREE, RENUMBERED, MADE, BUSY, NOTED, RULED];
 /// States that do not, by the note alone.
 const TOO_HIGH: &str = "with a note too high";
+/// States that do not, by a number of send-backs above the COMMITs passed, by one equal to them and a stale read of that
+/// thread, by a stale read where no COMMIT is passed, and by a last rule or a send-back in a record of no thread.
+const TOO_OFTEN: &str = "with too many send-backs";
+const STALE: &str = "with a stale read too many";
+const STALE_AT_FIRST: &str = "with a stale read, no COMMIT passed";
+const OF_NO_THREAD: &str = "with a rule of no thread";
 /// States that would fit their code if its transactions were not too long.
 const TOO_LONG: &str = "and code of a long transaction";
 
@@ -1541,11 +1750,12 @@ fn any_scene(rng: &mut Rng) -> Scene {
     let what = if made { MADE } else { REACHED };
     let mut scene = Scene { what, code, state, lent: (64, 16) };
     let Scene { what, code, state, lent } = &mut scene;
-    match rng.below(23) {
+    match rng.below(27) {
         0..=5 => {}
         6 | 7 => {
             *what = FREE;
             free_values(rng, state);
+            free_backs(rng, code, state);
         }
         8 => {
             *what = RENUMBERED;
@@ -1587,6 +1797,21 @@ fn any_scene(rng: &mut Rng) -> Scene {
             *what = TOO_LONG;
             *code = long_tree(rng).code();
             *state = make_up(rng, code);
+        }
+        22 => {
+            *what = RULED;
+            free_backs(rng, code, state);
+        }
+        23 => {
+            *what = TOO_OFTEN;
+            let most = commits_passed(code, state);
+            let i = rng.below(state.existing());
+            state.threads[i].backs = rng.choose(&[most + 1, most + 1, most + 1, most + 2, most + 256, usize::MAX]);
+        }
+        24 | 25 => {
+            if let Some(word) = make_foreign(rng, code, state) {
+                *what = word;
+            }
         }
         _ => {
             *what = "and other code";
@@ -1685,6 +1910,7 @@ fn make_up(rng: &mut Rng, code: &[u8]) -> State {
     renumber(rng, &mut state);
     free_values(rng, &mut state);
     free_notes(rng, code, &mut state);
+    free_backs(rng, code, &mut state);
     state
 }
 
@@ -1767,6 +1993,75 @@ fn adds_passed(code: &[u8], thread: &Thread) -> usize {
     instructions(code).into_iter().filter(|&at| inside(at) && code[at] == 2).count()
 }
 
+/// Other last rules, and other numbers of send-backs, none above the COMMITs passed, below them if a read is stale. Where
+/// no COMMIT is passed, read logs get the table's values.
+fn free_backs(rng: &mut Rng, code: &[u8], state: &mut State) {
+    let commits = commits_passed(code, state);
+    for thread in state.threads.iter_mut().filter(|thread| thread.exists()) {
+        if rng.one_in(2) {
+            thread.rule = rng.choose(&[0, 1, 9, 10, 42, 73, 74, 255, usize::MAX]);
+        }
+        for register in (0..64).filter(|_| commits == 0) {
+            if is_stale(thread, &state.registers, register) {
+                thread.readlog[register] = state.registers[register];
+            }
+        }
+        let most = commits - usize::from(has_stale(thread, &state.registers));
+        thread.backs = if rng.one_in(2) { most } else { rng.below(most + 1) };
+    }
+}
+
+/// A state that fits made foreign: by a stale read in an open transaction and as many send-backs as there are COMMITs
+/// passed, or by a last rule or a send-back in a record of no thread. Which one, or nothing if there is no such record.
+fn make_foreign(rng: &mut Rng, code: &[u8], state: &mut State) -> Option<&'static str> {
+    let commits = commits_passed(code, state);
+    let open: Vec<usize> = (0..16).filter(|&i| state.threads[i].begin > 0).collect();
+    if open.is_empty() || rng.one_in(3) {
+        let i = rng.between(state.existing().min(15), 15);
+        let thread = &mut state.threads[i];
+        if thread.exists() {
+            return None;
+        }
+        match rng.one_in(2) {
+            true => thread.rule = rng.choose(&[1, 9, 10, 255, usize::MAX]),
+            false => thread.backs = rng.choose(&[1, commits.max(1), usize::MAX]),
+        }
+        return Some(OF_NO_THREAD);
+    }
+    let thread = &mut state.threads[rng.choose(&open)];
+    let marked: Vec<usize> = (0..64).filter(|register| thread.reads >> register & 1 == 1).collect();
+    let register = if marked.is_empty() { rng.below(64) } else { rng.choose(&marked) };
+    thread.reads |= 1 << register;
+    thread.readlog[register] = state.registers[register].wrapping_add(rng.choose(&[1, -1, 1 << 30]));
+    thread.backs = commits;
+    Some(if commits == 0 { STALE_AT_FIRST } else { STALE })
+}
+
+fn is_stale(thread: &Thread, registers: &[i32; 64], register: usize) -> bool {
+    thread.reads >> register & 1 == 1 && thread.readlog[register] != registers[register]
+}
+
+fn has_stale(thread: &Thread, registers: &[i32; 64]) -> bool {
+    (0..64).any(|register| is_stale(thread, registers, register))
+}
+
+/// The COMMITs that all threads have passed: those of its own code in front of each one's place.
+fn commits_passed(code: &[u8], state: &State) -> usize {
+    let places = instructions(code);
+    let mut codes = vec![(5, code.len())];
+    codes.extend(places.iter().filter(|&&at| code[at] == 7).map(|&at| {
+        let length = usize::from(u16::from_be_bytes([code[at + 1], code[at + 2]]));
+        (at + 3, at + 3 + length)
+    }));
+    // the shortest code around it
+    let owner =
+        |at: usize| codes.iter().filter(|own| own.0 <= at && at < own.1).min_by_key(|own| own.1 - own.0).unwrap();
+    let commits: Vec<(usize, &(usize, usize))> =
+        places.iter().filter(|&&at| code[at] == 6).map(|&at| (at, owner(at))).collect();
+    let threads = state.threads.iter();
+    threads.map(|t| commits.iter().filter(|&&(at, own)| *own == (t.start, t.end) && at < t.place).count()).sum()
+}
+
 /// Another value in one field of one record.
 fn alter_field(rng: &mut Rng, code: &[u8], state: &mut State) {
     let existing = state.existing();
@@ -1774,7 +2069,7 @@ fn alter_field(rng: &mut Rng, code: &[u8], state: &mut State) {
     let other = state.threads[rng.below(16)];
     let other_registers = state.registers;
     let thread = &mut state.threads[i];
-    let numbers: [fn(&mut Thread) -> &mut usize; 7] = [
+    let numbers: [fn(&mut Thread) -> &mut usize; 9] = [
         |t| &mut t.start,
         |t| &mut t.end,
         |t| &mut t.place,
@@ -1782,11 +2077,13 @@ fn alter_field(rng: &mut Rng, code: &[u8], state: &mut State) {
         |t| &mut t.begin,
         |t| &mut t.base,
         |t| &mut t.over,
+        |t| &mut t.rule,
+        |t| &mut t.backs,
     ];
-    match rng.below(15) {
-        field @ 0..=8 => {
+    match rng.below(17) {
+        field @ 0..=10 => {
             // `place` more often
-            let field = numbers[if field < 7 { field } else { 2 }];
+            let field = numbers[if field < 9 { field } else { 2 }];
             let places = instructions(code);
             let mut other = other;
             let old = *field(thread);
@@ -1802,14 +2099,14 @@ fn alter_field(rng: &mut Rng, code: &[u8], state: &mut State) {
                 _ => rng.choose(&[usize::MAX, 1 << 63, 1 << 32, 64, 65, 5, 1, old ^ 1 << 40]),
             };
         }
-        9 => {
+        11 => {
             let at = if rng.one_in(2) { thread.height.min(63) } else { rng.below(64) };
             thread.cells[at] = rng.number();
         }
-        10 => thread.reads ^= 1 << rng.below(64),
-        11 => thread.writes ^= 1 << rng.below(64),
-        12 => thread.readlog[rng.below(64)] = rng.number(),
-        13 => thread.writelog[rng.below(64)] = rng.number(),
+        12 => thread.reads ^= 1 << rng.below(64),
+        13 => thread.writes ^= 1 << rng.below(64),
+        14 => thread.readlog[rng.below(64)] = rng.number(),
+        15 => thread.writelog[rng.below(64)] = rng.number(),
         _ => {
             // a log as if its transaction were still open
             let register = rng.below(4);
@@ -1879,8 +2176,8 @@ fn wrong_counts(rng: &mut Rng) -> Lent {
 
 fn garbage(rng: &mut Rng) -> Thread {
     let mut thread = Thread::ABSENT;
-    let Thread { start, end, place, height, begin, base, over, .. } = &mut thread;
-    for number in [start, end, place, height, begin, base, over] {
+    let Thread { start, end, place, height, begin, base, over, rule, backs, .. } = &mut thread;
+    for number in [start, end, place, height, begin, base, over, rule, backs] {
         *number = rng.draw() as usize;
     }
     thread.reads = rng.draw();

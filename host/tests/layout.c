@@ -19,6 +19,8 @@ int main(void) {
     FIELD(kuspigo_thread, readlog);
     FIELD(kuspigo_thread, writes);
     FIELD(kuspigo_thread, writelog);
+    FIELD(kuspigo_thread, rule);
+    FIELD(kuspigo_thread, backs);
     SIZE(kuspigo_written);
     FIELD(kuspigo_written, refusal);
     FIELD(kuspigo_written, place);

@@ -7,7 +7,7 @@ use kuspigo::{raw, Thread};
 
 #[test]
 fn thread_record() {
-    assert_eq!((size_of::<Thread>(), align_of::<Thread>()), (840, 8));
+    assert_eq!((size_of::<Thread>(), align_of::<Thread>()), (856, 8));
     assert_eq!(offset_of!(Thread, start), 0);
     assert_eq!(offset_of!(Thread, end), 8);
     assert_eq!(offset_of!(Thread, place), 16);
@@ -20,6 +20,8 @@ fn thread_record() {
     assert_eq!(offset_of!(Thread, readlog), 320);
     assert_eq!(offset_of!(Thread, writes), 576);
     assert_eq!(offset_of!(Thread, writelog), 584);
+    assert_eq!(offset_of!(Thread, rule), 840);
+    assert_eq!(offset_of!(Thread, backs), 848);
 }
 
 #[test]
@@ -64,29 +66,31 @@ fn answers() {
     assert_eq!(offset_of!(ForecastReply, heights), 80);
 }
 
-/// ADDP (ADDP (VALP 1) (ATOMIC (ADDT (ADDT (VALT 9) (READ 2)) (WRITE 3 (READ 63))))) (FORK (VALP 7))
-const CODE: [u8; 35] = [
+/// ADDP (ADDP (ATOMIC (VALT 1)) (ATOMIC (ADDT (ADDT (VALT 9) (READ 2)) (WRITE 3 (READ 63))))) (FORK (VALP 7))
+const CODE: [u8; 37] = [
     0x57, 0x53, 0x43, 0, 1, // 0: mark and version
-    1, 0, 0, 0, 1, // 5: PUSH 1
-    5, // 10: BEGIN
-    1, 0, 0, 0, 9, // 11: PUSH 9
-    3, 2, // 16: READ 2
-    2, // 18: ADD
-    3, 63, // 19: READ 63
-    4, 3, // 21: WRITE 3
-    2, // 23: ADD
-    6, // 24: COMMIT
+    5, // 5: BEGIN
+    1, 0, 0, 0, 1, // 6: PUSH 1
+    6, // 11: COMMIT
+    5, // 12: BEGIN
+    1, 0, 0, 0, 9, // 13: PUSH 9
+    3, 2, // 18: READ 2
+    2, // 20: ADD
+    3, 63, // 21: READ 63
+    4, 3, // 23: WRITE 3
     2, // 25: ADD
-    7, 0, 5, // 26: FORK
-    1, 0, 0, 0, 7, // 29: PUSH 7
-    2, // 34: ADD
+    6, // 26: COMMIT
+    2, // 27: ADD
+    7, 0, 5, // 28: FORK
+    1, 0, 0, 0, 7, // 31: PUSH 7
+    2, // 36: ADD
 ];
 
 #[test]
 fn the_library_writes_each_field_at_its_place() {
     let mut registers = [-1; 64];
     let numbers = Thread { start: 1, end: 2, place: 3, height: 4, begin: 5, base: 6, over: 7, ..filled(9) };
-    let garbage = Thread { reads: 8, writes: 10, ..numbers };
+    let garbage = Thread { reads: 8, writes: 10, rule: 11, backs: 12, ..numbers };
     let mut threads = [garbage; 16];
 
     let reply = raw::fresh(&CODE, &mut registers, &mut threads);
@@ -94,21 +98,21 @@ fn the_library_writes_each_field_at_its_place() {
     assert_eq!(registers, [0; 64]);
     let mut expected = [filled(0); 16];
     expected[0].start = 5;
-    expected[0].end = 35;
+    expected[0].end = 37;
     expected[0].place = 5;
     assert_eq!(threads, expected);
 
-    // PUSH, BEGIN, PUSH, READ 2, ADD, which leaves the range, READ 63, WRITE 3
+    // the first transaction, BEGIN, PUSH, READ 2, ADD, which leaves the range, READ 63, WRITE 3
     registers[2] = i32::MAX;
     registers[63] = 630;
-    let reply = raw::run(&CODE, &mut registers, &mut threads, &[0, 0, 0, 0, 0, 0, 0, 99]);
-    assert_eq!(reply, RunReply { refusal: 0, place: 0, steps: 7, idle: 1, commits: 0, back: 0, over: 0 });
-    expected[0].place = 23;
+    let reply = raw::run(&CODE, &mut registers, &mut threads, &[0, 0, 0, 0, 0, 0, 0, 0, 0, 99]);
+    assert_eq!(reply, RunReply { refusal: 0, place: 0, steps: 9, idle: 1, commits: 1, back: 0, over: 0 });
+    expected[0].place = 25;
     expected[0].height = 3;
     expected[0].cells[0] = 1;
     expected[0].cells[1] = i32::MIN + 8;
     expected[0].cells[2] = 630;
-    expected[0].begin = 10;
+    expected[0].begin = 12;
     expected[0].base = 1;
     expected[0].over = 1;
     expected[0].reads = 1 << 2 | 1 << 63;
@@ -116,6 +120,7 @@ fn the_library_writes_each_field_at_its_place() {
     expected[0].readlog[63] = 630;
     expected[0].writes = 1 << 3;
     expected[0].writelog[3] = 630;
+    expected[0].rule = 8;
     assert_eq!(threads, expected);
 
     // ADD, then a COMMIT that finds register 63 stale
@@ -126,22 +131,25 @@ fn the_library_writes_each_field_at_its_place() {
     assert_eq!(reply, StepReply { refusal: 0, place: 0, event: 10, register: 63, turn: 0, over: 0 });
     expected[0] = filled(0);
     expected[0].start = 5;
-    expected[0].end = 35;
-    expected[0].place = 10;
+    expected[0].end = 37;
+    expected[0].place = 12;
     expected[0].height = 1;
     expected[0].cells[0] = 1;
+    expected[0].rule = 10 + 63;
+    expected[0].backs = 1;
     assert_eq!(threads, expected);
 
     // the transaction again, both of whose sums now leave the range; COMMIT; ADD, FORK
     let (mut registers_2, mut threads_2) = (registers, threads);
     let reply = raw::run(&CODE, &mut registers, &mut threads, &[0; 10]);
     assert_eq!(reply, RunReply { refusal: 0, place: 0, steps: 10, idle: 0, commits: 1, back: 0, over: 2 });
-    expected[0].place = 34;
+    expected[0].place = 36;
     expected[0].height = 2;
     expected[0].cells[0] = i32::MAX - 621;
-    expected[1].start = 29;
-    expected[1].end = 34;
-    expected[1].place = 29;
+    expected[0].rule = 3;
+    expected[1].start = 31;
+    expected[1].end = 36;
+    expected[1].place = 31;
     assert_eq!(threads, expected);
     assert_eq!(registers[3], -631);
 
@@ -218,11 +226,11 @@ fn the_answers_tell_refusals() {
     assert_eq!(raw::run(&CODE, &mut registers, &mut threads, &[0; 32_769]), refused);
 
     let mut out = [0xAA; 40];
-    let written = Written { refusal: 0, place: 0, length: 35 };
+    let written = Written { refusal: 0, place: 0, length: 37 };
     let mut job = [0; 40];
     let length = raw::read_back(&CODE, &mut job).length;
     assert_eq!(raw::compile(&job[..length], &mut out), written);
-    assert_eq!((&out[..35], &out[35..]), (&CODE[..], &[0xAA; 5][..]));
+    assert_eq!((&out[..37], &out[37..]), (&CODE[..], &[0xAA; 3][..]));
     let refused = Written { refusal: 2, place: 0, length: 0 };
     job[0] = 0;
     assert_eq!(raw::compile(&job[..length], &mut out), refused);

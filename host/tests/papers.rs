@@ -1,9 +1,9 @@
-//! The cases of documents 01 and 02, and forecasts, sums and the nodes of long transactions counted by hand, of the
-//! library through its wrapper and of the plain implementation.
+//! The cases of documents 01 and 02, and forecasts, sums, the nodes of long transactions and send-backs counted by hand, of
+//! the library through its wrapper and of the plain implementation.
 
 use kuspigo::plain::{self, tree};
 use kuspigo::samples::{chain, Lean, Rng, Shape};
-use kuspigo::{Counts, Event, Forecast, Refusal, State, Step, Thread};
+use kuspigo::{Counts, Event, Forecast, Refusal, Rule, State, Step, Thread};
 use tree::{Process, Transaction};
 
 /// Two threads each add 1 to register 0.
@@ -84,6 +84,8 @@ fn whole_case_runs() {
     let counts = state.run(&code, &whole_picks()).unwrap();
     assert_eq!(counts, Counts { steps: 21, idle: 0, commits: 2, back: 1, over: 0 });
     assert_eq!(state.threads.map(|thread| thread.result())[..4], [Some(0), Some(2), Some(1), None]);
+    let rules = state.threads.map(|thread| (thread.last_rule(), thread.backs));
+    assert_eq!(rules[..4], [(Rule::Sum, 0), (Rule::Commit, 1), (Rule::Commit, 0), (Rule::None, 0)]);
     assert_eq!((state.registers[0], state.registers[1..].iter().max()), (2, Some(&0)));
 
     let input = [&[0, 32][..], &job, &whole_picks()].concat();
@@ -303,13 +305,14 @@ fn code_of_long_transactions() {
         assert_eq!(plain::step(&code, &mut other.registers, &mut other.threads, 0), refused(11, 0));
         assert_eq!(ran(&mut state, &code, &[0; 32_769]), refused(11, 0));
     }
-    // one of 200 nodes is sent back once: register 1 changes before its COMMIT
-    let code = compiled(&atomic(full()).job()).unwrap();
+    // one of 200 nodes is sent back once: thread 1 sets register 1 before its COMMIT
+    let writer = fork(atomic(write(1, Transaction::Val(3))));
+    let code = compiled(&sum(writer, atomic(full())).job()).unwrap();
     let mut state = State::fresh(&code).unwrap();
-    assert_eq!(ran(&mut state, &code, &[0; 201]).unwrap().steps, 201);
-    state.registers[1] = 3;
-    let counts = ran(&mut state, &code, &[0; 204]).unwrap();
-    assert_eq!(counts, Counts { steps: 203, idle: 1, commits: 1, back: 1, over: 0 });
+    assert_eq!(ran(&mut state, &code, &[0; 202]).unwrap().steps, 202);
+    assert_eq!(ran(&mut state, &code, &[1; 4]).unwrap().commits, 1);
+    let counts = ran(&mut state, &code, &[0; 205]).unwrap();
+    assert_eq!(counts, Counts { steps: 204, idle: 1, commits: 1, back: 1, over: 0 });
     assert_eq!((state.threads[0].result(), state.registers[0]), (Some(300), 300));
 }
 
@@ -415,6 +418,191 @@ fn sums_of_attempts() {
         ran(&mut state, &code, &[0; 5][..picks]).unwrap();
         state.threads[record].over = 1;
         assert_eq!(over(ran(&mut state, &code, &[0])), refused(12, 0));
+    }
+}
+
+/// The whole case's names, pick by pick, and an idle pick.
+const NAMES: [&str; 22] = [
+    "fork",
+    "fork",
+    "sum",
+    "begin",
+    "read from table",
+    "begin",
+    "read from table",
+    "push",
+    "sum",
+    "write",
+    "commit",
+    "push",
+    "sum",
+    "write",
+    "sent back with register 0",
+    "begin",
+    "read from table",
+    "push",
+    "sum",
+    "write",
+    "commit",
+    "idle",
+];
+
+#[test]
+fn whole_case_by_rules() {
+    let code = kuspigo::compile(&whole_case()).unwrap();
+    let mut state = State::fresh(&code).unwrap();
+    assert!(state.threads.iter().all(|thread| (thread.last_rule(), thread.backs) == (Rule::None, 0)));
+    let mut picks = whole_picks();
+    picks.push(2);
+    let mut last = [Rule::None; 16];
+    let mut backs = [0; 16];
+    for (&pick, name) in picks.iter().zip(NAMES) {
+        let (mut plain, mut by_value) = (state.clone(), state.clone());
+        let step = state.step(&code, pick).unwrap();
+        assert_eq!(plain::step(&code, &mut plain.registers, &mut plain.threads, pick), Ok(step));
+        assert_eq!(plain::by_value::step(&code, &mut by_value.registers, &mut by_value.threads, pick), Ok(step));
+        assert_eq!((&plain, &by_value), (&state, &state));
+        assert_eq!(step.rule().to_string(), name);
+        if step.rule() != Rule::Idle {
+            last[usize::from(pick)] = step.rule();
+        }
+        backs[usize::from(pick)] += usize::from(matches!(step.rule(), Rule::SentBack(_)));
+        assert_eq!((state.threads.map(|thread| thread.last_rule())), last);
+        assert_eq!((state.threads.map(|thread| thread.backs)), backs);
+    }
+    assert_eq!(backs[..3], [0, 1, 0]);
+}
+
+#[test]
+fn rules_have_names_and_numbers() {
+    let names =
+        ["none", "push", "sum", "fork", "begin", "read from write log", "read from read log", "read from table"];
+    for (number, name) in names.iter().chain(&["write", "commit", "sent back with register 0"]).enumerate() {
+        assert_eq!(Rule::of_record(number).to_string(), *name);
+    }
+    assert_eq!(Rule::of_record(73).to_string(), "sent back with register 63");
+    assert_eq!((Rule::of_record(73), Rule::of_record(74)), (Rule::SentBack(63), Rule::Unnamed(74)));
+    assert_eq!(Rule::of_record(74).to_string(), "no rule has the number 74");
+    for number in (0..300).chain([usize::MAX]) {
+        assert_eq!(Rule::of_record(number).number(), Some(number));
+    }
+    assert_eq!((Rule::Idle.number(), Rule::Idle.to_string()), (None, String::from("idle")));
+    // a step's rule has the number that its thread's record gets
+    for event in Event::ALL {
+        let rule = Step { event, stale: (event == Event::SentBack).then_some(7), turn: false, over: 0 }.rule();
+        let number = event as usize + if event == Event::SentBack { 7 } else { 0 };
+        assert_eq!(rule.number(), (event != Event::Idle).then_some(number));
+    }
+}
+
+#[test]
+fn the_lowest_stale_register_is_named() {
+    // thread 1 writes registers 41 and 40 while thread 0, which has read both, is before its COMMIT
+    let child = fork(atomic(write(41, write(40, Transaction::Val(1)))));
+    for (first, second) in [(40, 41), (41, 40)] {
+        let both = atomic(sum_inside(Transaction::Read(first), Transaction::Read(second)));
+        let code = compiled(&sum(child.clone(), both).job()).unwrap();
+        let mut state = State::fresh(&code).unwrap();
+        ran(&mut state, &code, &[0, 0, 0, 0, 0, 1, 1, 1, 1, 1]).unwrap();
+        assert_eq!(state.step(&code, 0).unwrap().rule(), Rule::SentBack(40));
+        assert_eq!((state.threads[0].rule, state.threads[0].backs), (50, 1));
+    }
+}
+
+/// Whether a state is taken, by a run without picks and an idle step of each implementation.
+fn fits(state: &State, code: &[u8]) -> bool {
+    let counts = ran(&mut state.clone(), code, &[]);
+    let step = state.clone().step(code, 255);
+    let mut plain = state.clone();
+    assert_eq!(plain::step(code, &mut plain.registers, &mut plain.threads, 255), step);
+    assert!(counts == refused(12, 0) && step == refused(12, 0) || counts.is_ok() && step.is_ok());
+    counts.is_ok()
+}
+
+/// Whether the whole case's state fits behind these picks with such numbers of send-backs.
+fn whole_case_fits(picks: &[u8], backs: [usize; 3]) -> bool {
+    let code = kuspigo::compile(&whole_case()).unwrap();
+    let mut state = State::fresh(&code).unwrap();
+    ran(&mut state, &code, picks).unwrap();
+    for (thread, backs) in state.threads.iter_mut().zip(backs) {
+        thread.backs = backs;
+    }
+    fits(&state, &code)
+}
+
+#[test]
+fn send_backs_and_commits_passed() {
+    // none passed, though thread 0 is behind both children's code
+    assert!(whole_case_fits(&[0; 3], [0, 0, 0]));
+    assert!(!whole_case_fits(&[0; 3], [1, 0, 0]));
+    assert!(!whole_case_fits(&[0, 0, 1, 1, 1, 1, 1], [0, 1, 0]));
+    // thread 2 has passed one and ended; each thread is counted by itself
+    let one = [0, 0, 0, 2, 2, 2, 2, 2, 2];
+    assert!(whole_case_fits(&one, [1, 1, 1]));
+    for thread in 0..3 {
+        let mut backs = [0; 3];
+        backs[thread] = 2;
+        assert!(!whole_case_fits(&one, backs));
+        backs[thread] = usize::MAX;
+        assert!(!whole_case_fits(&one, backs));
+    }
+    // thread 1 has read register 0 before thread 2's COMMIT, or behind it
+    let stale = [0, 0, 0, 1, 1, 2, 2, 2, 2, 2, 2];
+    assert!(whole_case_fits(&stale, [1, 0, 1]));
+    assert!(!whole_case_fits(&stale, [0, 1, 0]));
+    let unstale = [0, 0, 0, 2, 2, 2, 2, 2, 2, 1, 1];
+    assert!(whole_case_fits(&unstale, [0, 1, 0]));
+    assert!(!whole_case_fits(&unstale, [0, 2, 0]));
+    // both have passed theirs
+    assert!(whole_case_fits(&whole_picks(), [2, 2, 2]));
+    assert!(!whole_case_fits(&whole_picks(), [2, 3, 2]));
+}
+
+#[test]
+fn stale_reads_and_lent_numbers() {
+    // no COMMIT passed, and the register changes: 0 equals 0
+    let code = compiled(&atomic(Transaction::Read(5)).job()).unwrap();
+    let mut state = State::fresh(&code).unwrap();
+    ran(&mut state, &code, &[0, 0]).unwrap();
+    assert!(fits(&state, &code));
+    state.registers[5] = 1;
+    assert!(!fits(&state, &code));
+    state.threads[0].readlog[5] = 1;
+    assert!(fits(&state, &code));
+
+    // three COMMITs passed: a lent number of two goes on to three, which the commit keeps
+    let three = (0..3).fold(atomic(Transaction::Read(5)), |tree, _| sum(atomic(Transaction::Val(1)), tree));
+    let code = compiled(&three.job()).unwrap();
+    let mut state = State::fresh(&code).unwrap();
+    ran(&mut state, &code, &[0; 11]).unwrap();
+    state.registers[5] = 4;
+    state.threads[0].backs = 3;
+    assert!(!fits(&state, &code));
+    state.threads[0].backs = 2;
+    assert_eq!(ran(&mut state, &code, &[0]).map(|counts| counts.back), Ok(1));
+    assert_eq!((state.threads[0].last_rule(), state.threads[0].backs), (Rule::SentBack(5), 3));
+    assert_eq!(ran(&mut state, &code, &[0; 9]).map(|counts| counts.commits), Ok(1));
+    assert_eq!((state.threads[0].result(), state.threads[0].backs), (Some(3 + 4), 3));
+
+    // any last rule of a thread fits, an idle pick leaves it, the next rule replaces it; a record of no thread has none
+    let code = kuspigo::compile(&whole_case()).unwrap();
+    let mut before = State::fresh(&code).unwrap();
+    ran(&mut before, &code, &[0, 0, 2, 2, 2, 2, 2, 2]).unwrap();
+    for rule in [0, 9, 73, 74, 255, usize::MAX] {
+        let mut state = before.clone();
+        state.threads[1].rule = rule;
+        state.threads[2].rule = rule;
+        ran(&mut state, &code, &[2, 3, 255]).unwrap();
+        assert_eq!((state.threads[1].rule, state.threads[2].rule), (rule, rule));
+        ran(&mut state, &code, &[1]).unwrap();
+        assert_eq!((state.threads[1].last_rule(), state.threads[2].rule), (Rule::Begin, rule));
+    }
+    for record in [3, 15] {
+        let mut state = before.clone();
+        state.threads[record].rule = 1;
+        assert!(!fits(&state, &code));
+        state.threads[record] = Thread { backs: 1, ..Thread::ABSENT };
+        assert!(!fits(&state, &code));
     }
 }
 

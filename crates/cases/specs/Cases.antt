@@ -90,9 +90,9 @@ highTree = AddP (ValP (pos 5)) (AddP (Fork (Atomic (Write 0 (ValT (pos 1))))) (A
 abbrev pub highCode : List ℕ
 highCode = codeFor highTree
 
--- ATOMIC (READ 0): BEGIN at 5, READ at 6, COMMIT at 8, end 9
+-- ATOMIC (VALT 0) + ATOMIC (READ 0): BEGIN at 5, PUSH at 6, COMMIT at 11, BEGIN at 12, READ at 13, COMMIT at 15, ADD at 16, end 17
 abbrev pub lookCode : List ℕ
-lookCode = codeFor (Atomic (Read 0))
+lookCode = codeFor (AddP (Atomic (ValT (pos 0))) (Atomic (Read 0)))
 
 -- ATOMIC (ADDT (READ 3) (READ 3)), which reads a register twice and writes none
 abbrev pub twiceCode : List ℕ
@@ -149,6 +149,10 @@ told event over = record { event = event; over = over }
 -- 64 numbers: n, then 0
 abbrev pub front : ℤ → List ℤ
 front n = n ∷ replicate 63 (pos 0)
+
+-- 64 numbers: 0, n, then 0
+abbrev pub second : ℤ → List ℤ
+second n = pos 0 ∷ n ∷ replicate 62 (pos 0)
 
 -- no record of a thread
 abbrev pub noThreads : State
@@ -244,11 +248,13 @@ withCode start end t =
       readlog = t .readlog;
       writes = t .writes;
       writelog = t .writelog;
+      rule = t .rule;
+      backs = t .backs;
     }
 
--- lookCode behind BEGIN with 9 in register 0, its logs being changed
+-- lookCode behind its second BEGIN with 9 in register 0, its logs being changed
 abbrev pub looking : (Thread → Thread) → State
-looking f = withRegisters (front (pos 9)) (changed (ran lookCode (times 1 0) .state) 0 f)
+looking f = withRegisters (front (pos 9)) (changed (ran lookCode (times 4 0) .state) 0 f)
 
 -- 7 in the read log; 7 in the read log and 5 in the write log
 abbrev pub readSeven : Thread → Thread
@@ -358,27 +364,27 @@ pub record Cases : Type 0 where
   pub high-readlog : threadAt (ran highCode highPicks .state) 0 .readlog ≡ replicate 64 (pos 0)
   pub high-done : Ended (ran highCode (highPicks ++ times 5 0) .state) 0 (pos 6)
   -- ---- what each instruction leaves in its thread's record. PUSH; ADD, which frees a cell
-  pub push-record : threadAt (stepCall sevenCode (fresh sevenCode) 0 .state) 0 ≡ record { start = 5; end = 10; place = 10; height = 1; cells = front (pos 7); begin = 0; base = 0; over = 0; reads = 0; readlog = zeros; writes = 0; writelog = zeros }
-  pub sum-record : threadAt (stepCall lowCode (ran lowCode (times 2 0) .state) 0 .state) 0 ≡ record { start = 5; end = 16; place = 16; height = 1; cells = front (pos 2147483647); begin = 0; base = 0; over = 0; reads = 0; readlog = zeros; writes = 0; writelog = zeros }
+  pub push-record : threadAt (stepCall sevenCode (fresh sevenCode) 0 .state) 0 ≡ record { start = 5; end = 10; place = 10; height = 1; cells = front (pos 7); begin = 0; base = 0; over = 0; reads = 0; readlog = zeros; writes = 0; writelog = zeros; rule = 1; backs = 0 }
+  pub sum-record : threadAt (stepCall lowCode (ran lowCode (times 2 0) .state) 0 .state) 0 ≡ record { start = 5; end = 16; place = 16; height = 1; cells = front (pos 2147483647); begin = 0; base = 0; over = 0; reads = 0; readlog = zeros; writes = 0; writelog = zeros; rule = 2; backs = 0 }
   -- "FORK gives 0 to its own thread and starts p as the next thread number"; "the parent goes on after it"
-  pub fork-parent : threadAt (stepCall wholeCode (fresh wholeCode) 0 .state) 0 ≡ record { start = 5; end = 36; place = 20; height = 1; cells = zeros; begin = 0; base = 0; over = 0; reads = 0; readlog = zeros; writes = 0; writelog = zeros }
-  pub fork-child : threadAt (stepCall wholeCode (fresh wholeCode) 0 .state) 1 ≡ record { start = 8; end = 20; place = 8; height = 0; cells = zeros; begin = 0; base = 0; over = 0; reads = 0; readlog = zeros; writes = 0; writelog = zeros }
-  pub fork-next : threadAt (stepCall wholeCode oneForked 0 .state) 2 ≡ record { start = 23; end = 35; place = 23; height = 0; cells = zeros; begin = 0; base = 0; over = 0; reads = 0; readlog = zeros; writes = 0; writelog = zeros }
+  pub fork-parent : threadAt (stepCall wholeCode (fresh wholeCode) 0 .state) 0 ≡ record { start = 5; end = 36; place = 20; height = 1; cells = zeros; begin = 0; base = 0; over = 0; reads = 0; readlog = zeros; writes = 0; writelog = zeros; rule = 3; backs = 0 }
+  pub fork-child : threadAt (stepCall wholeCode (fresh wholeCode) 0 .state) 1 ≡ record { start = 8; end = 20; place = 8; height = 0; cells = zeros; begin = 0; base = 0; over = 0; reads = 0; readlog = zeros; writes = 0; writelog = zeros; rule = 0; backs = 0 }
+  pub fork-next : threadAt (stepCall wholeCode oneForked 0 .state) 2 ≡ record { start = 23; end = 35; place = 23; height = 0; cells = zeros; begin = 0; base = 0; over = 0; reads = 0; readlog = zeros; writes = 0; writelog = zeros; rule = 0; backs = 0 }
   pub fork-number : numberOf (stepCall wholeCode oneForked 0 .state .threads) ≡ 3
   -- "BEGIN: notes its place and the stack height, and empties both logs"
-  pub begin-record : threadAt (stepCall highCode (ran highCode (times 2 0) .state) 0 .state) 0 ≡ record { start = 5; end = 28; place = 23; height = 2; cells = front (pos 5); begin = 22; base = 2; over = 0; reads = 0; readlog = zeros; writes = 0; writelog = zeros }
+  pub begin-record : threadAt (stepCall highCode (ran highCode (times 2 0) .state) 0 .state) 0 ≡ record { start = 5; end = 28; place = 23; height = 2; cells = front (pos 5); begin = 22; base = 2; over = 0; reads = 0; readlog = zeros; writes = 0; writelog = zeros; rule = 4; backs = 0 }
   -- "READ: the value in the write log if there, else in the read log if there, else the table's, which enters the read log"
-  pub read-from-writes : threadAt (stepCall lookCode (looking readSevenWroteFive) 0 .state) 0 ≡ record { start = 5; end = 9; place = 8; height = 1; cells = front (pos 5); begin = 5; base = 0; over = 0; reads = 1; readlog = front (pos 7); writes = 1; writelog = front (pos 5) }
-  pub read-from-reads : threadAt (stepCall lookCode (looking readSeven) 0 .state) 0 ≡ record { start = 5; end = 9; place = 8; height = 1; cells = front (pos 7); begin = 5; base = 0; over = 0; reads = 1; readlog = front (pos 7); writes = 0; writelog = zeros }
-  pub read-from-table : threadAt (stepCall lookCode (looking (λ t. t)) 0 .state) 0 ≡ record { start = 5; end = 9; place = 8; height = 1; cells = front (pos 9); begin = 5; base = 0; over = 0; reads = 1; readlog = front (pos 9); writes = 0; writelog = zeros }
+  pub read-from-writes : threadAt (stepCall lookCode (looking readSevenWroteFive) 0 .state) 0 ≡ record { start = 5; end = 17; place = 15; height = 2; cells = second (pos 5); begin = 12; base = 1; over = 0; reads = 1; readlog = front (pos 7); writes = 1; writelog = front (pos 5); rule = 5; backs = 0 }
+  pub read-from-reads : threadAt (stepCall lookCode (looking readSeven) 0 .state) 0 ≡ record { start = 5; end = 17; place = 15; height = 2; cells = second (pos 7); begin = 12; base = 1; over = 0; reads = 1; readlog = front (pos 7); writes = 0; writelog = zeros; rule = 6; backs = 0 }
+  pub read-from-table : threadAt (stepCall lookCode (looking (λ t. t)) 0 .state) 0 ≡ record { start = 5; end = 17; place = 15; height = 2; cells = second (pos 9); begin = 12; base = 1; over = 0; reads = 1; readlog = front (pos 9); writes = 0; writelog = zeros; rule = 7; backs = 0 }
   -- "WRITE: puts the top of the stack in the write log; the top stays"; the table is as it was
-  pub write-record : threadAt (stepCall wholeCode (ran wholeCode (times 2 0 ++ times 4 1) .state) 1 .state) 1 ≡ record { start = 8; end = 20; place = 19; height = 1; cells = front (pos 1); begin = 8; base = 0; over = 0; reads = 1; readlog = zeros; writes = 1; writelog = front (pos 1) }
+  pub write-record : threadAt (stepCall wholeCode (ran wholeCode (times 2 0 ++ times 4 1) .state) 1 .state) 1 ≡ record { start = 8; end = 20; place = 19; height = 1; cells = front (pos 1); begin = 8; base = 0; over = 0; reads = 1; readlog = zeros; writes = 1; writelog = front (pos 1); rule = 8; backs = 0 }
   pub write-table : stepCall wholeCode (ran wholeCode (times 2 0 ++ times 4 1) .state) 1 .state .registers ≡ zeros
   -- COMMIT: "the write log goes into the table"; behind it logs and notes are empty
-  pub commit-record : threadAt (stepCall wholeCode (ran wholeCode (times 2 0 ++ times 5 1) .state) 1 .state) 1 ≡ record { start = 8; end = 20; place = 20; height = 1; cells = front (pos 1); begin = 0; base = 0; over = 0; reads = 0; readlog = zeros; writes = 0; writelog = zeros }
+  pub commit-record : threadAt (stepCall wholeCode (ran wholeCode (times 2 0 ++ times 5 1) .state) 1 .state) 1 ≡ record { start = 8; end = 20; place = 20; height = 1; cells = front (pos 1); begin = 0; base = 0; over = 0; reads = 0; readlog = zeros; writes = 0; writelog = zeros; rule = 9; backs = 0 }
   pub commit-table : stepCall wholeCode (ran wholeCode (times 2 0 ++ times 5 1) .state) 1 .state .registers ≡ front (pos 1)
   -- "With a stale one the thread is sent back: to its BEGIN, stack height as noted, logs and notes emptied"; the table is as it was
-  pub back-record : threadAt (stepCall wholeCode (ran wholeCode staleThere .state) 1 .state) 1 ≡ record { start = 8; end = 20; place = 8; height = 0; cells = zeros; begin = 0; base = 0; over = 0; reads = 0; readlog = zeros; writes = 0; writelog = zeros }
+  pub back-record : threadAt (stepCall wholeCode (ran wholeCode staleThere .state) 1 .state) 1 ≡ record { start = 8; end = 20; place = 8; height = 0; cells = zeros; begin = 0; base = 0; over = 0; reads = 0; readlog = zeros; writes = 0; writelog = zeros; rule = 10; backs = 1 }
   pub back-table : stepCall wholeCode (ran wholeCode staleThere .state) 1 .state .registers ≡ front (pos 1)
   -- ---- the reply of `step`, an event number after the other; a turn is "an ADD outside a transaction, a FORK, or a COMMIT that takes effect"
   pub step-0-idle : stepCall sevenCode (ran sevenCode (times 1 0) .state) 0 .reply ≡ record { refusal = 0; place = 0; event = 0; register = 0; turn = 0; over = 0 }
@@ -442,7 +448,7 @@ pub record Cases : Type 0 where
   pub foreign-code : stepSays (stepCall [] noThreads 0 .reply) ≡ refused 11 0
   pub foreign-state : stepSays (stepCall sevenCode noThreads 0 .reply) ≡ refused 12 0
   -- ---- `fresh`: "thread 0 alone, at the start of the whole code, and every register 0"; its reply, and what it leaves whatever the records held
-  pub fresh-state : fresh sevenCode ≡ record { registers = zeros; threads = record { start = 5; end = 10; place = 5; height = 0; cells = zeros; begin = 0; base = 0; over = 0; reads = 0; readlog = zeros; writes = 0; writelog = zeros } ∷ replicate 15 (record { start = 0; end = 0; place = 0; height = 0; cells = zeros; begin = 0; base = 0; over = 0; reads = 0; readlog = zeros; writes = 0; writelog = zeros }) }
+  pub fresh-state : fresh sevenCode ≡ record { registers = zeros; threads = record { start = 5; end = 10; place = 5; height = 0; cells = zeros; begin = 0; base = 0; over = 0; reads = 0; readlog = zeros; writes = 0; writelog = zeros; rule = 0; backs = 0 } ∷ replicate 15 (record { start = 0; end = 0; place = 0; height = 0; cells = zeros; begin = 0; base = 0; over = 0; reads = 0; readlog = zeros; writes = 0; writelog = zeros; rule = 0; backs = 0 }) }
   pub fresh-reply : freshCall sevenCode noThreads .reply ≡ record { refusal = 0; place = 0 }
   pub fresh-left : freshCall sevenCode noThreads .state ≡ fresh sevenCode
   pub fresh-over : freshCall sevenCode wholeEnd .state ≡ fresh sevenCode
@@ -549,9 +555,10 @@ pub record Cases : Type 0 where
   pub unused-write : fits wholeCode (putAt bothForked 3 (withWrite 63 blank)) ≡ false
   pub unused-write-value : fits wholeCode (putAt bothForked 3 (withWriteValue 0 (negsuc 0) blank)) ≡ false
   pub unused-last : fits wholeCode (putAt bothForked 15 (withCell 63 (pos 1) blank)) ≡ false
-  -- values on the stack, in registers and in logs are free; a log may mark a register which its transaction never names
+  -- values on the stack and in write logs are free; those of registers and read logs as far as document 02 No. 4 lets them, a COMMIT being
+  -- passed here where a read is stale; a log may mark a register which its transaction never names
   pub free-cells : fits wholeCode (changed bothForked 0 (λ t. withCell 0 (pos 7) (withCell 1 (negsuc 2) t))) ≡ true
   pub free-registers : fits wholeCode (withRegisters (replicate 64 (negsuc 4)) bothForked) ≡ true
-  pub free-read : fits wholeCode (changed behindRead 1 (withReadValue 0 (pos 9))) ≡ true
+  pub free-read : fits wholeCode (changed (ran wholeCode (times 2 0 ++ (times 6 2 ++ times 2 1)) .state) 1 (withReadValue 0 (pos 9))) ≡ true
   pub free-write : fits wholeCode (changed behindRead 1 (λ t. withWriteValue 5 (pos 9) (withWrite 5 t))) ≡ true
-  pub unnamed : fits wholeCode (withMark (ran wholeCode (times 2 0 ++ times 1 1) .state)) ≡ true
+  pub unnamed : fits wholeCode (withMark (ran wholeCode (times 2 0 ++ (times 6 2 ++ times 1 1)) .state)) ≡ true

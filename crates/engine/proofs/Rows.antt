@@ -176,6 +176,8 @@ ranged-thread t vs p =
       begin = fields .1 .1 .1 .1 .1 .0 .1;
       base = fields .1 .1 .1 .1 .1 .1 .0 .1;
       over = fields .1 .1 .1 .1 .1 .1 .1 .0 .1;
+      rule = fields .1 .1 .1 .1 .1 .1 .1 .1 .1 .1 .1 .1 .0 .1;
+      backs = fields .1 .1 .1 .1 .1 .1 .1 .1 .1 .1 .1 .1 .1 .0 .1;
     }
 
 -- what is known of a record by its type
@@ -211,6 +213,8 @@ known-blank =
             begin = lit< tt;
             base = lit< tt;
             over = lit< tt;
+            rule = lit< tt;
+            backs = lit< tt;
           };
     }
 

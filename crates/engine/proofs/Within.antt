@@ -17,10 +17,11 @@ use Rattle.thread.specs.declared.Thread.{Thread}
 use Rattle.survey.specs.InnerRecords.{surveyOf}
 use Rattle.survey.specs.InnerWalk.{surveyFits}
 use Rattle.survey.specs.declared.Survey.{Survey}
-use Rattle.survey.proofs.Exact.{survey-fits}
 use Rattle.progress.specs.InnerProgress.{beginning, refusalOf, admittedTo}
 use Rattle.progress.specs.declared.Progress.{Progress}
+use Rattle.progress.proofs.Calls.{same-refusal}
 use Rattle.progress.proofs.Drives.{admits}
+use Rattle.script.specs.Bytes.{Bytes}
 
 -- by the refusal
 by-refusal : (cd : List ℕ) (s : State) (n c : ℕ) → Typed s → (beginning (refusalOf (readCode cd) (fits cd s) n) c n .limit ≤ n) × (0 < beginning (refusalOf (readCode cd) (fits cd s) n) c n .limit → length (s .threads) ≡ 16)
@@ -32,9 +33,9 @@ by-refusal cd s n c y = go (eqb (refusalOf (readCode cd) (fits cd s) n) 0) refl
     go false e = (omega arith, λ h. omega (arith, h))
 
 -- by the survey of the records
-pub within : (cd : List ℕ) (rs : List ℤ) (ys : List Thread) (n : ℕ) (v : Survey) → v ≡ surveyOf ys → Typed (stateFrom rs ys)
+pub within : (cd : List ℕ) (rs : List ℤ) (ys : List Thread) (n : ℕ) (v : Survey) → v ≡ surveyOf rs ys → Bytes cd → Typed (stateFrom rs ys)
     → (admittedTo (readCode cd) (surveyFits v cd (length rs)) (v .count) n .limit ≤ n) × (0 < admittedTo (readCode cd) (surveyFits v cd (length rs)) (v .count) n .limit → length ys ≡ 16)
-within cd rs ys n v e y = subst (λ (p : Progress). (p .limit ≤ n) × (0 < p .limit → length ys ≡ 16)) (sym same) (by-refusal cd (stateFrom rs ys) n (surveyOf ys .count) y)
+within cd rs ys n v e b y = subst (λ (p : Progress). (p .limit ≤ n) × (0 < p .limit → length ys ≡ 16)) (sym same) (by-refusal cd (stateFrom rs ys) n (surveyOf rs ys .count) y)
   where
-    same : admittedTo (readCode cd) (surveyFits v cd (length rs)) (v .count) n ≡ beginning (refusalOf (readCode cd) (fits cd (stateFrom rs ys)) n) (surveyOf ys .count) n
-    same = ap (λ (u : Survey). admittedTo (readCode cd) (surveyFits u cd (length rs)) (u .count) n) e ∙ ap (λ (b : Bool). beginning (refusalOf (readCode cd) b n) (surveyOf ys .count) n) (survey-fits cd (stateFrom rs ys))
+    same : admittedTo (readCode cd) (surveyFits v cd (length rs)) (v .count) n ≡ beginning (refusalOf (readCode cd) (fits cd (stateFrom rs ys)) n) (surveyOf rs ys .count) n
+    same = ap (λ (u : Survey). admittedTo (readCode cd) (surveyFits u cd (length rs)) (u .count) n) e ∙ ap (λ (r : ℕ). beginning r (surveyOf rs ys .count) n) (same-refusal cd (stateFrom rs ys) n b)

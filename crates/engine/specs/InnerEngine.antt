@@ -20,8 +20,8 @@ use Rattle.code.specs.Reader.{readCode}
 use Rattle.script.specs.Bytes.{Bytes}
 
 -- what is known of the records once they were gathered: their survey, and what each record has by its type
-pub record Gathered (ts : List Thread) (r : Survey) : Type 0 where
-  pub survey : r ≡ surveyOf ts
+pub record Gathered (table : List ℤ) (ts : List Thread) (r : Survey) : Type 0 where
+  pub survey : r ≡ surveyOf table ts
   pub typed : (i : ℕ) → TypedThread (getD ts i blank)
   pub ranged : (i : ℕ) → RangedThread (getD ts i blank)
 

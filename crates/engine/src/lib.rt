@@ -37,6 +37,8 @@ pub fn spawned(start: usize, end: usize) -> thread::Thread
         readlog: [0; 64],
         writes: 0,
         writelog: [0; 64],
+        rule: 0,
+        backs: 0,
     }
 }
 
@@ -50,15 +52,15 @@ fn record_of(i: usize, end: usize) -> thread::Thread
     spawned(0, 0)
 }
 
-// The survey of all records.
-fn gather(threads: &[thread::Thread]) -> survey::Survey
-    ensures { λ r. ⌜ Gathered (now (threads .entry)) r ⌝ }
+// The survey of all records; the registers say which of them have a stale read.
+fn gather(threads: &[thread::Thread], registers: &[i32]) -> survey::Survey
+    ensures { λ r. ⌜ Gathered (now (registers .entry)) (now (threads .entry)) r ⌝ }
 {
     let mut s = survey::Survey::start();
     let mut i: usize = 0;
     while i < threads.len() {
         let t = threads[i];
-        s = s.with(t);
+        s = s.with(t, registers);
         i += 1;
     }
     s
@@ -110,7 +112,7 @@ fn full(
     out.progress
 }
 
-// A pick that changes the stack and the note of its record, or nothing. It has a way of its own up to the store, so that the logs are not copied.
+// A pick that changes the stack, the note and the last rule of its record, or nothing. It has a way of its own up to the store, so that the logs are not copied.
 fn brief(
     code: &[u8],
     registers: &mut [i32],
@@ -132,7 +134,7 @@ fn brief(
     out.progress
 }
 
-// One pick: one that changes the stack and the note of its record, or nothing, or any other.
+// One pick: one that changes the stack, the note and the last rule of its record, or nothing, or any other.
 fn turn(
     code: &[u8],
     registers: &mut [i32],
@@ -216,7 +218,7 @@ pub extern "C" fn kuspigo_step(
 ) -> machine::StepReply
     ensures { λ r. ⌜ answered (now (registers .exit)) (now (threads .exit)) r ≡ stepCall (now (code .entry)) (stateFrom (now (registers .entry)) (now (threads .entry))) pick ⌝ }
 {
-    let s = gather(threads);
+    let s = gather(threads, registers);
     let p = admit(code, s, registers.len(), 1);
     let picks = [pick];
     let q = drive(code, registers, threads, &picks, p);
@@ -233,7 +235,7 @@ pub extern "C" fn kuspigo_run(
 ) -> machine::RunReply
     ensures { λ r. ⌜ answered (now (registers .exit)) (now (threads .exit)) r ≡ runCall (now (code .entry)) (stateFrom (now (registers .entry)) (now (threads .entry))) (now (picks .entry)) ⌝ }
 {
-    let s = gather(threads);
+    let s = gather(threads, registers);
     let p = admit(code, s, registers.len(), picks.len());
     let q = drive(code, registers, threads, picks, p);
     q.run_reply()

@@ -21,9 +21,9 @@ use Rattle.script.specs.Jobs.{Job}
 use Rattle.script.specs.Outcome.{Outcome, done}
 use Rattle.thread.specs.declared.Action.{Action}
 use Rattle.thread.specs.declared.Thread.{Thread}
-use Rattle.thread.specs.Threads.{exists, blank, below, sumTold, adding, add, read, sourceOf, firstStale}
-use Rattle.thread.specs.InnerStep.{enoughFor, takesOp, sourceNumber, outsideTurn, Handed, handed, unacted, acting, noteAfter, overAtOnce, summing, committed, committedBy, performed, attempted, stepped}
-use Rattle.machine.specs.Steps.{State, Stepped, Acted, Child, alters, committing, commit, act, settle, threadAt, pickAmong, DoesOne}
+use Rattle.thread.specs.Threads.{exists, blank, withRule, below, sumTold, adding, push, add, begin, read, write, closed, sourceOf, firstStale}
+use Rattle.thread.specs.InnerStep.{ruleAt, enoughFor, takesOp, sourceNumber, outsideTurn, Handed, handed, unacted, acting, noteAfter, overAtOnce, summing, committed, committedBy, performed, attempted, stepped}
+use Rattle.machine.specs.Steps.{State, Stepped, Acted, Child, alters, committing, commit, ruled, act, perform, settle, threadAt, pickAmong, DoesOne}
 use Rattle.machine.specs.Fits.{Exists, Fits, Typed}
 use Rattle.machine.specs.InnerStands.{registerCells, opOf, Ready}
 use Rattle.machine.specs.InnerTurn.{childrenAs, actedAs, handedAs}
@@ -41,6 +41,7 @@ use Rattle.machine.proofs.Showings.{Shows, shut, open′}
 use Rattle.machine.proofs.Ranges.{low-fits}
 use Rattle.machine.proofs.Agrees.{outer, does-one}
 use Rattle.stm.specs.Events.{Source, fromWrites, fromReads, fromTable, looked, idle, summed, committed as takenEffect, sentBack, more, eventNumber, eventRegister, turnNumber, eventOf}
+use Rattle.stm.specs.Rules.{usedBy, ruleNumber, ruleAfter, backsAfter}
 use Rattle.stm.specs.InnerTasks.{Task}
 use Rattle.word.specs.InnerCount.{saturated}
 use Rattle.word.specs.Registers.{member}
@@ -104,11 +105,12 @@ ready-able {bytes} {place} {end} {h} (FORK k) {c} base b r =
 
 -- ---- what is done then is what the instruction does
 module _ (sum : Rule) (table : List ℤ) (t : Thread) where
-  -- ADD, its note being below the greatest number
-  abbrev Small : Type 0
-  Small = t .over < 18446744073709551615
+  -- the note and the send-backs are below the greatest number
+  record Small : Type 0 where
+    over : t .over < 18446744073709551615
+    backs : t .backs < 18446744073709551615
 
-  noted-exact : Small → (b so : Bool) → cond b (t .over) (cond so (saturated (t .over) 1) (t .over)) ≡ cond b (t .over) (t .over + cond so 1 0)
+  noted-exact : t .over < 18446744073709551615 → (b so : Bool) → cond b (t .over) (cond so (saturated (t .over) 1) (t .over)) ≡ cond b (t .over) (t .over + cond so 1 0)
   noted-exact l true so = refl
   noted-exact l false true = saturated-exact (t .over) 1 (omega arith)
   noted-exact l false false = omega arith
@@ -117,78 +119,82 @@ module _ (sum : Rule) (table : List ℤ) (t : Thread) where
   unfolding summing noteAfter overAtOnce added add
   sums l =
       ap (λ (n : ℕ). acting 2 (outsideTurn (t .begin)) (sumTold t) (adding n (sum (below t 2) (below t 1)) t))
-      (noted-exact l (eqb (t .begin) 0) (overflows (below t 2) (below t 1)))
+      (noted-exact (l .over) (eqb (t .begin) 0) (overflows (below t 2) (below t 1)))
 
   performs-add : Small → actedAs (performed sum table t (showOp code.add)) ≡ act sum table t code.add
-  unfolding actedAs performed act eventOf outsideTurn
+  unfolding actedAs performed act perform eventOf outsideTurn ruleAt ruleAfter usedBy ruleNumber backsAfter add
   performs-add l = ap (λ (a : Action). actedAs (handed a table)) (sums l) ∙ go (eqb (t .begin) 0) (sumTold t)
     where
-      go : (b : Bool) (n : ℕ) → alters (add sum t) table (summed (eqb (cond b 1 0) 0)) n ≡ alters (add sum t) table (summed (not b)) n
+      go : (b : Bool) (n : ℕ) → ruled (alters (add sum t) table (summed (eqb (cond b 1 0) 0)) n) ≡ ruled (alters (add sum t) table (summed (not b)) n)
       go true n = refl
       go false n = refl
 
   performs-read : (v : ℕ) → actedAs (performed sum table t (showOp (code.read v))) ≡ act sum table t (code.read v)
-  unfolding actedAs performed act eventOf sourceNumber sourceOf
+  unfolding actedAs performed act perform eventOf sourceNumber sourceOf ruleAt ruleAfter usedBy ruleNumber backsAfter
   performs-read v = go (member (t .writes) v) (member (t .reads) v)
     where
-      go : (a b : Bool) → _≡_ {A = Acted} (record { thread = read table v t; table = table; children = childrenAs (cond a 5 (cond b 6 7)) 0 0; event = eventOf (cond a 5 (cond b 6 7)) 0 0; over = 0 }) (alters (read table v t) table (looked (cond a fromWrites (cond b fromReads fromTable))) 0)
+      go : (a b : Bool) → _≡_ {A = Acted} (record { thread = withRule (ruleAt (cond a 5 (cond b 6 7)) (read table v t .rule)) (read table v t .backs) (read table v t); table = table; children = childrenAs (cond a 5 (cond b 6 7)) 0 0; event = eventOf (cond a 5 (cond b 6 7)) 0 0; over = 0 }) (ruled (alters (read table v t) table (looked (cond a fromWrites (cond b fromReads fromTable))) 0))
       go true b = refl
       go false true = refl
       go false false = refl
 
-  performs-commit : actedAs (performed sum table t (showOp code.commit)) ≡ act sum table t code.commit
-  unfolding actedAs performed act eventOf committed commit
-  performs-commit = go (ltb (firstStale 64 0 t table) 64)
+  -- a send-back
+  backed-exact : t .backs < 18446744073709551615 → saturated (t .backs) 1 ≡ suc (t .backs)
+  backed-exact l = saturated-exact (t .backs) 1 (omega arith) ∙ (let z : t .backs + 1 ≡ suc (t .backs) = omega arith in z)
+
+  performs-commit : Small → actedAs (performed sum table t (showOp code.commit)) ≡ act sum table t code.commit
+  unfolding actedAs performed act perform eventOf committed commit closed ruleAt ruleAfter usedBy ruleNumber backsAfter
+  performs-commit l = go (ltb (firstStale 64 0 t table) 64)
     where
-      go : (b : Bool) → actedAs (committedBy b (firstStale 64 0 t table) table t) ≡ committing b table t (firstStale 64 0 t table)
-      go true = refl
+      go : (b : Bool) → actedAs (committedBy b (firstStale 64 0 t table) table t) ≡ ruled (committing b table t (firstStale 64 0 t table))
+      go true = rw (backed-exact (l .backs))
       go false = refl
 
   performs-acts : Small → (op : Op) → actedAs (performed sum table t (showOp op)) ≡ act sum table t op
-  unfolding actedAs performed act eventOf
+  unfolding actedAs performed act perform eventOf push begin write ruleAt ruleAfter usedBy ruleNumber backsAfter
   performs-acts l (code.push n) = refl
   performs-acts l (code.fork size) = refl
   performs-acts l code.begin = refl
   performs-acts l (code.write v) = refl
   performs-acts l code.add = performs-add l
   performs-acts l (code.read v) = performs-read v
-  performs-acts l code.commit = performs-commit
+  performs-acts l code.commit = performs-commit l
 
   -- and the other way: every number that is handed back is the event's
   hands-add : Small → performed sum table t (showOp code.add) ≡ handedAs (act sum table t code.add)
-  unfolding handedAs performed act eventNumber eventRegister turnNumber outsideTurn
+  unfolding handedAs performed act perform eventNumber eventRegister turnNumber outsideTurn add ruleAt ruleAfter usedBy ruleNumber backsAfter
   hands-add l = ap (λ (a : Action). handed a table) (sums l) ∙ go (eqb (t .begin) 0) (sumTold t)
     where
-      go : (b : Bool) (n : ℕ) → handed (acting 2 (cond b 1 0) n (add sum t)) table ≡ handedAs (alters (add sum t) table (summed (not b)) n)
+      go : (b : Bool) (n : ℕ) → handed (acting 2 (cond b 1 0) n (add sum t)) table ≡ handedAs (ruled (alters (add sum t) table (summed (not b)) n))
       go true n = refl
       go false n = refl
 
   hands-read : (v : ℕ) → performed sum table t (showOp (code.read v)) ≡ handedAs (act sum table t (code.read v))
-  unfolding handedAs performed act eventNumber eventRegister turnNumber sourceNumber sourceOf
+  unfolding handedAs performed act perform eventNumber eventRegister turnNumber sourceNumber sourceOf ruleAt ruleAfter usedBy ruleNumber backsAfter
   hands-read v = go (member (t .writes) v) (member (t .reads) v)
     where
-      go : (a b : Bool) → handed (record { thread = read table v t; event = cond a 5 (cond b 6 7); register = 0; turn = 0; over = 0; start = 0; end = 0 }) table ≡ handedAs (alters (read table v t) table (looked (cond a fromWrites (cond b fromReads fromTable))) 0)
+      go : (a b : Bool) → handed (record { thread = withRule (ruleAt (cond a 5 (cond b 6 7)) (read table v t .rule)) (read table v t .backs) (read table v t); event = cond a 5 (cond b 6 7); register = 0; turn = 0; over = 0; start = 0; end = 0 }) table ≡ handedAs (ruled (alters (read table v t) table (looked (cond a fromWrites (cond b fromReads fromTable))) 0))
       go true b = refl
       go false true = refl
       go false false = refl
 
-  hands-commit : performed sum table t (showOp code.commit) ≡ handedAs (act sum table t code.commit)
-  unfolding handedAs performed act eventNumber eventRegister turnNumber committed commit
-  hands-commit = go (ltb (firstStale 64 0 t table) 64)
+  hands-commit : Small → performed sum table t (showOp code.commit) ≡ handedAs (act sum table t code.commit)
+  unfolding handedAs performed act perform eventNumber eventRegister turnNumber committed commit closed ruleAt ruleAfter usedBy ruleNumber backsAfter
+  hands-commit l = go (ltb (firstStale 64 0 t table) 64)
     where
-      go : (b : Bool) → committedBy b (firstStale 64 0 t table) table t ≡ handedAs (committing b table t (firstStale 64 0 t table))
-      go true = refl
+      go : (b : Bool) → committedBy b (firstStale 64 0 t table) table t ≡ handedAs (ruled (committing b table t (firstStale 64 0 t table)))
+      go true = rw (backed-exact (l .backs))
       go false = refl
 
   performs-hands : Small → (op : Op) → performed sum table t (showOp op) ≡ handedAs (act sum table t op)
-  unfolding handedAs performed act eventNumber eventRegister turnNumber
+  unfolding handedAs performed act perform eventNumber eventRegister turnNumber push begin write ruleAt ruleAfter usedBy ruleNumber backsAfter
   performs-hands l (code.push n) = refl
   performs-hands l (code.fork size) = refl
   performs-hands l code.begin = refl
   performs-hands l (code.write v) = refl
   performs-hands l code.add = hands-add l
   performs-hands l (code.read v) = hands-read v
-  performs-hands l code.commit = hands-commit
+  performs-hands l code.commit = hands-commit l
 
   -- nothing done
   idle-acts : actedAs (handed (unacted t) table) ≡ alters t table idle 0
@@ -218,7 +224,7 @@ module _ (sum : Rule) (table : List ℤ) (t : Thread) where
 
 -- ---- no more sums are told than are noted, or one
 pub act-low : (sum : Rule) (table : List ℤ) (t : Thread) → t .over < 6000 → (op : Op) → act sum table t op .over < 6000
-unfolding act commit
+unfolding act perform commit
 act-low sum table t l (code.push n) = omega arith
 act-low sum table t l code.add = go (eqb (t .begin) 0) (overflows (below t 2) (below t 1))
   where
@@ -251,8 +257,8 @@ base-low {bytes} {t} h = go (shape (h .region) (h .outer) (h .somewhere) (h .pla
     go (shape-open body c k r i e g) = let q = h .placed .base in let l = g .again .low in omega arith
 
 module _ {bytes : List ℕ} {j : Job} (c : IsCode bytes j) (sum : Rule) where
-  small : (s : State) → Fits bytes s → Typed s → (i : ℕ) → threadAt s i .over < 18446744073709551615
-  small s f y i = let l = low-fits c s f y i .over in omega arith
+  small : (s : State) → Fits bytes s → Typed s → (i : ℕ) → Small sum (s .registers) (threadAt s i)
+  small s f y i = let l = low-fits c s f y i in let a = l .over in let b = l .backs in record { over = omega arith; backs = omega arith }
 
   step-performs : (s : State) → Fits bytes s → Typed s → (i : ℕ) → Exists s i → (threadAt s i .place ≡ threadAt s i .end → ⊥) → (op : Op) → opAt (drop (threadAt s i .place) bytes) ≡ done op → stepped sum bytes (s .registers) (threadAt s i) ≡ performed sum (s .registers) (threadAt s i) (showOp op)
   step-performs s f y i e ne op o = go (shows-of (held c (outer c) s f y i e))

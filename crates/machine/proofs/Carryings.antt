@@ -15,9 +15,9 @@ use Rattle.code.specs.Bytes.{instructionsBytes}
 use Rattle.code.specs.Ops.{Op}
 use Rattle.code.specs.Ops as code
 use Rattle.thread.specs.declared.Thread.{Thread}
-use Rattle.thread.specs.Threads.{zeros, spawned, push, add, begin, below, sourceOf, readFrom, noted, read, write, closed, stale, firstStale, overlaid, logOf, readLog, writeLog}
+use Rattle.thread.specs.Threads.{withRule, zeros, spawned, push, add, begin, below, sourceOf, readFrom, noted, read, write, closed, stale, firstStale, overlaid, logOf, readLog, writeLog}
 use Rattle.stm.specs.Events.{Source, fromWrites, fromReads, fromTable, committed, sentBack}
-use Rattle.machine.specs.Steps.{State, Stepped, numberOf, committing, commit, instruction, act, settle}
+use Rattle.machine.specs.Steps.{State, Stepped, numberOf, committing, commit, instruction, movedBy, ruled, act, perform, settle}
 use Rattle.machine.specs.Fits.{nextPlace, TypedThread}
 use Rattle.machine.specs.Source.{Log, empty, updated, SThread, Looked, lookedUp, lookUp, agrees, consistent, entered, overridden, StepM, ForkM, PushM, AddM, BeginM, ReadM, WriteM, Committed, Failed}
 use Rattle.script.specs.Turns.{Registers}
@@ -38,7 +38,13 @@ pub data Forks (bytes : List ℕ) (ts : List Thread) (n : ℕ) : List SThread �
   nobody : Forks bytes ts n [] ts
   child : (k : Code) (start end : ℕ) → 1 ≤ start → n < 16 → Carries bytes (spawned start end) (newborn k) → Forks bytes ts n (newborn k ∷ []) (set ts n (spawned start end))
 
--- a step of thread i, which was t, and the rule that does it to the thread m of the source
+-- a record that has another last rule and number of send-backs stands for the same thread
+pub carries-moved : {bytes : List ℕ} (rule backs : ℕ) (t : Thread) {m : SThread} → Carries bytes t m → Carries bytes (withRule rule backs t) m
+unfolding logOf
+carries-moved rule backs t x = record { code = x .code; valued = x .valued; stack = x .stack; again = x .again; reads = x .reads; writes = x .writes }
+
+-- a step of thread i, which was t, and the rule that does it to the thread m of the source; `thread` is its record but for its rule and
+-- number of send-backs
 pub record Follows (bytes : List ℕ) (sum : Rule) (s : State) (i : ℕ) (t : Thread) (m : SThread) (r : Stepped) : Type 0 where
   pub thread : Thread
   pub m′ : SThread
@@ -46,7 +52,7 @@ pub record Follows (bytes : List ℕ) (sum : Rule) (s : State) (i : ℕ) (t : Th
   pub heap : Registers
   pub carries : Carries bytes thread m′
   pub start : thread .start ≡ t .start
-  pub threads : Forks bytes (set (s .threads) i thread) (numberOf (s .threads)) new (r .state .threads)
+  pub threads : Forks bytes (set (s .threads) i (movedBy (r .event) thread)) (numberOf (s .threads)) new (r .state .threads)
   pub registers : r .state .registers ≡ heap
   pub step : (behind : List SThread) → StepM sum (s .registers) (m ∷ behind) heap (m′ ∷ (new ++ behind))
   pub first : (behind : List SThread) → First (step behind)
@@ -132,7 +138,7 @@ module _ (bytes : List ℕ) (sum : Rule) (s : State) (j : ℕ) (t : Thread) (y :
         }
 
     follows-push : (n : ℤ) → Carries bytes t (at (PUSH n)) → Fine s t (code.push n) → Thus (at (PUSH n)) (instruction sum s j t (code.push n))
-    unfolding act settle Fine nextPlace ruleOf First push
+    unfolding act perform settle Fine nextPlace ruleOf First push
     follows-push n x l =
         record {
           thread = push n (t .place + 5) t;
@@ -161,7 +167,7 @@ module _ (bytes : List ℕ) (sum : Rule) (s : State) (j : ℕ) (t : Thread) (y :
         }
 
     follows-fork : (k : Code) → Carries bytes t (at (FORK k)) → Fine s t (code.fork (length (instructionsBytes k))) → Thus (at (FORK k)) (instruction sum s j t (code.fork (length (instructionsBytes k))))
-    unfolding act settle Fine nextPlace ruleOf First push
+    unfolding act perform settle Fine nextPlace ruleOf First push
     follows-fork k x l =
         record {
           thread = push (pos 0) (t .place + 3 + length (instructionsBytes k)) t;
@@ -178,7 +184,7 @@ module _ (bytes : List ℕ) (sum : Rule) (s : State) (j : ℕ) (t : Thread) (y :
         }
 
     follows-begin : Carries bytes t (at BEGIN) → Thus (at BEGIN) (instruction sum s j t code.begin)
-    unfolding act settle nextPlace ruleOf First begin ValuedC
+    unfolding act perform settle nextPlace ruleOf First begin ValuedC
     follows-begin x =
         record {
           thread = begin t;
@@ -236,7 +242,7 @@ module _ (bytes : List ℕ) (sum : Rule) (s : State) (j : ℕ) (t : Thread) (y :
             }
 
     follows-read : (v : ℕ) → Carries bytes t (at (READ v)) → Fine s t (code.read v) → Thus (at (READ v)) (instruction sum s j t (code.read v))
-    unfolding act settle Fine ruleOf First read push
+    unfolding act perform settle Fine ruleOf First read push
     follows-read v x l =
         record {
           thread = read (s .registers) v t;
@@ -265,7 +271,7 @@ module _ (bytes : List ℕ) (sum : Rule) (s : State) (j : ℕ) (t : Thread) (y :
     with-stack i σ = record { code = i ⨾ c; stack = σ; again = f; reads = r; writes = w }
 
     follows-add : Carries bytes t (with-stack ADD (below t 1 ∷ below t 2 ∷ stackFrom (t .cells) 0 (t .height - 2))) → Fine s t code.add → Thus (with-stack ADD (below t 1 ∷ below t 2 ∷ stackFrom (t .cells) 0 (t .height - 2))) (instruction sum s j t code.add)
-    unfolding act settle Fine nextPlace ruleOf First add ValuedC
+    unfolding act perform settle Fine nextPlace ruleOf First add ValuedC
     follows-add x l =
         record {
           thread = add sum t;
@@ -289,7 +295,7 @@ module _ (bytes : List ℕ) (sum : Rule) (s : State) (j : ℕ) (t : Thread) (y :
         }
 
     follows-write : (v : ℕ) → Carries bytes t (with-stack (WRITE v) (below t 1 ∷ stackFrom (t .cells) 0 (t .height - 1))) → Fine s t (code.write v) → Thus (with-stack (WRITE v) (below t 1 ∷ stackFrom (t .cells) 0 (t .height - 1))) (instruction sum s j t (code.write v))
-    unfolding act settle Fine nextPlace ruleOf First write ValuedC
+    unfolding act perform settle Fine nextPlace ruleOf First write ValuedC
     follows-write v x l =
         record {
           thread = write v t;
@@ -313,13 +319,13 @@ module _ (bytes : List ℕ) (sum : Rule) (s : State) (j : ℕ) (t : Thread) (y :
         }
 
     follows-commit : Carries bytes t (with-stack COMMIT (below t 1 ∷ stackFrom (t .cells) 0 (t .height - 1))) → Fine s t code.commit → Thus (with-stack COMMIT (below t 1 ∷ stackFrom (t .cells) 0 (t .height - 1))) (instruction sum s j t code.commit)
-    unfolding act settle commit Fine nextPlace ruleOf First closed ValuedC
+    unfolding act perform settle commit Fine nextPlace ruleOf First closed ValuedC
     follows-commit x l = go (consistent 64 0 r (s .registers)) refl (ltb (firstStale 64 0 t (s .registers)) 64) (consistent-fresh t r (s .registers) (x .reads (l .1)) 64 0)
       where
         v : ℕ
         v = firstStale 64 0 t (s .registers)
 
-        go : (b : Bool) → consistent 64 0 r (s .registers) ≡ b → (a : Bool) → a ≡ not (consistent 64 0 r (s .registers)) → Thus (with-stack COMMIT (below t 1 ∷ stackFrom (t .cells) 0 (t .height - 1))) (settle (numberOf (s .threads)) s j (committing a (s .registers) t v))
+        go : (b : Bool) → consistent 64 0 r (s .registers) ≡ b → (a : Bool) → a ≡ not (consistent 64 0 r (s .registers)) → Thus (with-stack COMMIT (below t 1 ∷ stackFrom (t .cells) 0 (t .height - 1))) (settle (numberOf (s .threads)) s j (ruled (committing a (s .registers) t v)))
         go true e true q = absurd (let z : _≡_ {A = ℕ} 0 1 = cc in omega arith)
         go true e false q =
             record {

@@ -7,16 +7,18 @@ use mathlib.Core.List.{List, [], _∷_, _++_}
 use mathlib.Core.Option.{Option, none, some}
 use native.Mathlib.Decide.{decLt, ℕ-discrete}
 use native.Mathlib.Omega.{arith}
-use borrow.Author.Tests.{eqb-true, eq-eqb, lt-ltb, le-ltb, ltb-false, leb-true, le-leb}
+use borrow.Author.Tests.{eqb-true, eq-eqb, lt-ltb, le-ltb, ltb-true, ltb-false, leb-true, le-leb}
 use lib.Dec.{eqb, ltb, leb}
 use lib.IntN.{ℤ, pos, negsuc}
 use lib.ListN.{length, drop, getD, getD-replicate, length-replicate, List·getD-eq-default}
 use lib.Seq.{ext-getD}
 use Rattle.thread.specs.declared.Thread.{Thread}
-use Rattle.thread.specs.Threads.{zeros, blank, exists}
+use Rattle.thread.specs.Threads.{zeros, blank, exists, firstStale}
 use Rattle.machine.specs.Steps.{State, threadAt, Child}
-use Rattle.machine.specs.Fits.{Walked, unmoved, Walks, starts, In, here, there, ownCode, Passed, Placed, Exists, Forked, OneThread, Fits, TypedThread, Typed}
-use Rattle.machine.specs.FitTest.{walkTo, isZero, freeFrom, free, agreesWith, placed, allZero, noneBehind, inFront, same, childrenOf, passedBy, among, allAmong, threadsOf, oneEach, fits}
+use Rattle.machine.specs.Fits.{Walked, unmoved, Walks, starts, In, here, there, ownCode, Passed, Placed, Exists, Forked, OneThread, CommitsPassed, no-records, of-thread, of-none, BacksWithin, Fits, TypedThread, Typed}
+use Rattle.machine.specs.FitTest.{walkTo, isZero, freeFrom, free, agreesWith, placed, allZero, noneBehind, inFront, same, childrenOf, passedBy, among, allAmong, threadsOf, oneEach, commitsOf, commitsPassed, needs, allTallied, fits}
+use Rattle.machine.proofs.Passing.{passed-once}
+use Rattle.machine.proofs.Stale.{found-stale, none-stale, stale-none}
 use Rattle.machine.proofs.Walking.{walks-found, found-walks}
 use Rattle.word.specs.Registers.{member}
 use Rattle.word.specs.Registers as registers
@@ -197,12 +199,16 @@ is-blank t y e =
     let b0 = eqb (t .over) 0 in
     let b7 = eqb (t .reads) 0 in
     let b8 = eqb (t .writes) 0 in
+    let bx = eqb (t .rule) 0 in
+    let by = eqb (t .backs) 0 in
     let b9 = free (λ n. false) (t .cells) in
     let b10 = free (λ n. false) (t .readlog) in
     let b11 = free (λ n. false) (t .writelog) in
     let r9 = b10 && b11 in
     let r8 = b9 && r9 in
-    let r7 = b8 && r8 in
+    let ry = by && r8 in
+    let rx = bx && ry in
+    let r7 = b8 && rx in
     let r6 = b7 && r7 in
     let r0 = b0 && r6 in
     let r5 = b6 && r0 in
@@ -218,7 +224,9 @@ is-blank t y e =
     let e0 = second b6 r0 e5 in
     let e6 = second b0 r6 e0 in
     let e7 = second b7 r7 e6 in
-    let e8 = second b8 r8 e7 in
+    let ex = second b8 rx e7 in
+    let ey = second bx ry ex in
+    let e8 = second by r8 ey in
     let e9 = second b9 r9 e8 in
     λ i. record {
       start = eqb-true (t .start) 0 (first b1 r1 e) i;
@@ -231,8 +239,10 @@ is-blank t y e =
       over = eqb-true (t .over) 0 (first b0 r6 e0) i;
       reads = eqb-true (t .reads) 0 (first b7 r7 e6) i;
       readlog = zeroed (t .readlog) (y .readlog) (first b10 b11 e9) i;
-      writes = eqb-true (t .writes) 0 (first b8 r8 e7) i;
+      writes = eqb-true (t .writes) 0 (first b8 rx e7) i;
       writelog = zeroed (t .writelog) (y .writelog) (second b10 b11 e9) i;
+      rule = eqb-true (t .rule) 0 (first bx ry ex) i;
+      backs = eqb-true (t .backs) 0 (first by r8 ey) i;
     }
 
 blank-zero : allZero blank ≡ true
@@ -505,6 +515,55 @@ one-each [] ts f = refl
 one-each (c ∷ cs) ts f =
     rw (has-one c ts (f c here)) (one-each cs ts (λ d i. f d (there i)))
 
+-- ---- the COMMITs passed by all threads, and the send-backs of each
+passed-by : (bytes : List ℕ) (ts : List Thread) → ((i : ℕ) → exists (at ts i) ≡ true → Placed bytes (at ts i)) → CommitsPassed bytes ts (commitsPassed bytes ts)
+unfolding commitsPassed
+passed-by bytes [] f = no-records
+passed-by bytes (t ∷ ts) f = go (exists t) refl (passed-by bytes ts (λ i. f (suc i)))
+  where
+    go : (b : Bool) → exists t ≡ b → CommitsPassed bytes ts (commitsPassed bytes ts) → CommitsPassed bytes (t ∷ ts) (cond b (commitsOf (walkTo bytes t)) 0 + commitsPassed bytes ts)
+    go true x p =
+        let a : walkTo bytes t ≡ some (f 0 x .walked) = walked-found bytes t (f 0 x .walked) (f 0 x .walks) in
+        subst (λ (o : Option Walked). CommitsPassed bytes (t ∷ ts) (commitsOf o + commitsPassed bytes ts)) (sym a) (of-thread x (f 0 x .walks) p)
+    go false x p = subst (CommitsPassed bytes (t ∷ ts)) (let z : commitsPassed bytes ts ≡ 0 + commitsPassed bytes ts = omega arith in z) (of-none x p)
+
+tallied-blank : (n : ℕ) (table : List ℤ) → BacksWithin n table blank
+unfolding blank
+tallied-blank n table = record { not-above = omega arith; not-stale = λ q. stale-none blank table refl }
+
+is-tallied : (n : ℕ) (table : List ℤ) (t : Thread) → leb (needs table t) n ≡ true → BacksWithin n table t
+unfolding needs
+is-tallied n table t e = go (ltb (firstStale 64 0 t table) 64) refl (leb-true (needs table t) n e)
+  where
+    go : (b : Bool) → ltb (firstStale 64 0 t table) 64 ≡ b → cond b (suc (t .backs)) (t .backs) ≤ n → BacksWithin n table t
+    go true x l = record { not-above = omega arith; not-stale = λ q. absurd (omega arith) }
+    go false x l = record { not-above = l; not-stale = λ q. none-stale t table (ltb-false (firstStale 64 0 t table) 64 x) }
+
+tallied-is : (n : ℕ) (table : List ℤ) (t : Thread) → BacksWithin n table t → leb (needs table t) n ≡ true
+unfolding needs
+tallied-is n table t y = le-leb (needs table t) n (go (ltb (firstStale 64 0 t table) 64) refl)
+  where
+    go : (b : Bool) → ltb (firstStale 64 0 t table) 64 ≡ b → cond b (suc (t .backs)) (t .backs) ≤ n
+    go false x = y .not-above
+    go true x = below (decLt (t .backs) n)
+      where
+        below : Dec (t .backs < n) → suc (t .backs) ≤ n
+        below (yes l) = l
+        below (no m) =
+            let s = found-stale t table (ltb-true (firstStale 64 0 t table) 64 x) in
+            never (sym (s .its) ∙ y .not-stale (let a = y .not-above in let z : t .backs ≡ n = omega arith in z) (firstStale 64 0 t table))
+
+all-tallied : (n : ℕ) (table : List ℤ) (ts : List Thread) → allTallied n table ts ≡ true → (i : ℕ) → BacksWithin n table (at ts i)
+unfolding allTallied
+all-tallied n table [] e i = tallied-blank n table
+all-tallied n table (t ∷ ts) e zero = is-tallied n table t (first (leb (needs table t) n) (allTallied n table ts) e)
+all-tallied n table (t ∷ ts) e (suc i) = all-tallied n table ts (second (leb (needs table t) n) (allTallied n table ts) e) i
+
+tallied-all : (n : ℕ) (table : List ℤ) (ts : List Thread) → ((i : ℕ) → BacksWithin n table (at ts i)) → allTallied n table ts ≡ true
+unfolding allTallied
+tallied-all n table [] f = refl
+tallied-all n table (t ∷ ts) f = both (leb (needs table t) n) (allTallied n table ts) (tallied-is n table t (f 0)) (tallied-all n table ts (λ i. f (suc i)))
+
 -- ---- the whole test
 forked : (bytes : List ℕ) (s : State) (c : Child) → Parent bytes (s .threads) c → Forked bytes s c
 forked bytes s c p = record { parent = p .parent; there = p .there; passed = p .passed }
@@ -520,20 +579,25 @@ is-fit bytes s y e =
     let b4 = inFront bytes ts in
     let b5 = allAmong cs (drop 1 ts) in
     let b6 = oneEach cs ts in
-    let e1 = second b1 (b2 && (b3 && (b4 && (b5 && b6)))) e in
-    let e2 = second b2 (b3 && (b4 && (b5 && b6))) e1 in
-    let e3 = second b3 (b4 && (b5 && b6)) e2 in
-    let e4 = second b4 (b5 && b6) e3 in
-    let f = is-front bytes ts y (first b4 (b5 && b6) e3) in
+    let b7 = allTallied (commitsPassed bytes ts) (s .registers) ts in
+    let e1 = second b1 (b2 && (b3 && (b4 && (b5 && (b6 && b7))))) e in
+    let e2 = second b2 (b3 && (b4 && (b5 && (b6 && b7)))) e1 in
+    let e3 = second b3 (b4 && (b5 && (b6 && b7))) e2 in
+    let e4 = second b4 (b5 && (b6 && b7)) e3 in
+    let e5 = second b5 (b6 && b7) e4 in
+    let f = is-front bytes ts y (first b4 (b5 && (b6 && b7)) e3) in
     record {
-      records = eqb-true (length ts) 16 (first b1 (b2 && (b3 && (b4 && (b5 && b6)))) e);
-      registers = eqb-true (length (s .registers)) 64 (first b2 (b3 && (b4 && (b5 && b6))) e1);
-      root = is-same (ownCode (threadAt s 0)) (record { start = 5; end = length bytes }) (first b3 (b4 && (b5 && b6)) e2);
-      child = λ i x. forked bytes s (ownCode (threadAt s (suc i))) (parent-of bytes ts (ownCode (threadAt s (suc i))) (children (first b5 b6 e4) i x));
-      one = λ c p. one (each-one cs ts (second b5 b6 e4) c (of-parent bytes ts c (p .parent) (p .there) (p .passed)));
+      records = eqb-true (length ts) 16 (first b1 (b2 && (b3 && (b4 && (b5 && (b6 && b7))))) e);
+      registers = eqb-true (length (s .registers)) 64 (first b2 (b3 && (b4 && (b5 && (b6 && b7)))) e1);
+      root = is-same (ownCode (threadAt s 0)) (record { start = 5; end = length bytes }) (first b3 (b4 && (b5 && (b6 && b7))) e2);
+      child = λ i x. forked bytes s (ownCode (threadAt s (suc i))) (parent-of bytes ts (ownCode (threadAt s (suc i))) (children (first b5 (b6 && b7) e4) i x));
+      one = λ c p. one (each-one cs ts (first b6 b7 e5) c (of-parent bytes ts c (p .parent) (p .there) (p .passed)));
       placed = f .placed;
       no-gap = f .no-gap;
       no-thread = f .no-thread;
+      commits = commitsPassed bytes ts;
+      passed = passed-by bytes ts (f .placed);
+      tallied = λ i h. all-tallied (commitsPassed bytes ts) (s .registers) ts (second b6 b7 e5) i;
     }
   where
     one : {c : Child} → One (s .threads) c → OneThread s c
@@ -560,11 +624,13 @@ fit bytes s f =
     let b4 = inFront bytes ts in
     let b5 = allAmong cs (drop 1 ts) in
     let b6 = oneEach cs ts in
-    both b1 (b2 && (b3 && (b4 && (b5 && b6)))) (eq-eqb (length ts) 16 (f .records))
-    (both b2 (b3 && (b4 && (b5 && b6))) (eq-eqb (length (s .registers)) 64 (f .registers))
-    (both b3 (b4 && (b5 && b6)) (the-same (ownCode (threadAt s 0)) (record { start = 5; end = length bytes }) (f .root))
-    (both b4 (b5 && b6) (in-front bytes ts (record { placed = f .placed; no-gap = f .no-gap; no-thread = f .no-thread }))
-    (both b5 b6 (in-all cs (drop 1 ts) children) (one-each cs ts (λ c i. one c (f .one c (forked bytes s c (parent-of bytes ts c i)))))))))
+    let b7 = allTallied (commitsPassed bytes ts) (s .registers) ts in
+    both b1 (b2 && (b3 && (b4 && (b5 && (b6 && b7))))) (eq-eqb (length ts) 16 (f .records))
+    (both b2 (b3 && (b4 && (b5 && (b6 && b7)))) (eq-eqb (length (s .registers)) 64 (f .registers))
+    (both b3 (b4 && (b5 && (b6 && b7))) (the-same (ownCode (threadAt s 0)) (record { start = 5; end = length bytes }) (f .root))
+    (both b4 (b5 && (b6 && b7)) (in-front bytes ts (record { placed = f .placed; no-gap = f .no-gap; no-thread = f .no-thread }))
+    (both b5 (b6 && b7) (in-all cs (drop 1 ts) children)
+    (both b6 b7 (one-each cs ts (λ c i. one c (f .one c (forked bytes s c (parent-of bytes ts c i))))) (tallied-all (commitsPassed bytes ts) (s .registers) ts tallies))))))
   where
     one : (c : Child) → OneThread s c → One (s .threads) c
     one c o =
@@ -573,6 +639,13 @@ fit bytes s f =
           its = record { there = o .its .there; own = o .its .own };
           alone = λ i h. o .alone i (record { there = h .there; own = h .own });
         }
+
+    tallies : (i : ℕ) → BacksWithin (commitsPassed bytes (s .threads)) (s .registers) (at (s .threads) i)
+    tallies i = go (exists (at (s .threads) i)) refl
+      where
+        go : (b : Bool) → exists (at (s .threads) i) ≡ b → BacksWithin (commitsPassed bytes (s .threads)) (s .registers) (at (s .threads) i)
+        go true x = subst (λ (n : ℕ). BacksWithin n (s .registers) (at (s .threads) i)) (passed-once (f .passed) (passed-by bytes (s .threads) (f .placed))) (f .tallied i x)
+        go false x = subst (BacksWithin (commitsPassed bytes (s .threads)) (s .registers)) (sym (f .no-thread i x)) (tallied-blank (commitsPassed bytes (s .threads)) (s .registers))
 
     children : (i : ℕ) → exists (at (drop 1 (s .threads)) i) ≡ true → In (ownCode (at (drop 1 (s .threads)) i)) (passedBy bytes (s .threads))
     children i x =

@@ -11,45 +11,15 @@ use lib.IntN.{ℤ}
 use lib.ListN.{length, drop}
 use Rattle.thread.specs.declared.Thread.{Thread}
 use Rattle.thread.specs.Threads.{exists, sourceOf, stale, firstStale}
-use Rattle.machine.specs.Steps.{State, Stepped, threadAt, committing, commit, act, settle, doing, pickAmong, FirstStale, FoundIn, in-writes, in-reads, in-table}
+use Rattle.machine.specs.Steps.{State, Stepped, threadAt, committing, commit, act, perform, settle, doing, pickAmong, FirstStale, FoundIn, in-writes, in-reads, in-table}
 use Rattle.machine.proofs.Picks.{no-record, missing-idle, ended-idle, busy}
+use Rattle.machine.proofs.Stale.{found-stale, found-none}
 use Rattle.code.specs.Ops.{Op, opAt}
 use Rattle.code.specs.Ops as code
 use Rattle.script.specs.Outcome.{Outcome, refused, done}
 use Rattle.stm.specs.Events.{Source, fromWrites, fromReads, fromTable, Event, idle, pushed, summed, forked, begun, looked, wrote, committed, sentBack}
 use Rattle.word.specs.Registers.{member}
 use Rattle.word.specs.Sum.{Rule}
-
--- ---- the walk over the registers
--- what it stops at: the first stale register from v on, or the end
-record Stops (t : Thread) (table : List ℤ) (v end w : ℕ) : Type 0 where
-  from : v ≤ w
-  most : w ≤ end
-  its : w < end → stale t table w ≡ true
-  before : (u : ℕ) → v ≤ u → u < w → stale t table u ≡ false
-
-stops : (left v : ℕ) (t : Thread) (table : List ℤ) → Stops t table v (left + v) (firstStale left v t table)
-unfolding firstStale
-stops zero v t table = record { from = omega arith; most = omega arith; its = λ l. absurd (omega arith); before = λ u l m. absurd (omega arith) }
-stops (suc left) v t table = go (stale t table v) refl (stops left (suc v) t table)
-  where
-    go : (b : Bool) → stale t table v ≡ b → Stops t table (suc v) (left + suc v) (firstStale left (suc v) t table) → Stops t table v (suc left + v) (elim b [ true ↦ v | false ↦ firstStale left (suc v) t table ])
-    go true e r = record { from = omega arith; most = omega arith; its = λ l. e; before = λ u l m. absurd (omega arith) }
-    go false e r =
-        let f = r .from in
-        let m = r .most in
-        record { from = omega arith; most = omega arith; its = λ l. r .its (omega arith); before = λ u l k. below u l k (decLt v u) }
-      where
-        below : (u : ℕ) → v ≤ u → u < firstStale left (suc v) t table → Dec (v < u) → stale t table u ≡ false
-        below u l k (yes x) = r .before u (omega arith) k
-        below u l k (no x) = subst (λ (n : ℕ). stale t table n ≡ false) (let z : v ≡ u = omega arith in z) e
-
-module _ (t : Thread) (table : List ℤ) where
-  found-stale : firstStale 64 0 t table < 64 → FirstStale t table (firstStale 64 0 t table)
-  found-stale l = let r = stops 64 0 t table in record { small = l; its = r .its (omega arith); before = λ u k. r .before u (omega arith) k }
-
-  found-none : 64 ≤ firstStale 64 0 t table → (u : ℕ) → u < 64 → stale t table u ≡ false
-  found-none l u k = stops 64 0 t table .before u (omega arith) (omega arith)
 
 -- ---- what a pick tells
 -- a pick is idle or does the instruction at its thread's place
@@ -135,7 +105,7 @@ module _ {bytes : List ℕ} {s : State} {t : Thread} where
           }
 
   act-tells : (sum : Rule) (op : Op) → opAt (drop (t .place) bytes) ≡ done op → Tells bytes s t (act sum (s .registers) t op .event)
-  unfolding act
+  unfolding act perform
   act-tells sum (code.push n) o = silent refl
   act-tells sum code.add o = silent refl
   act-tells sum (code.fork size) o = silent refl

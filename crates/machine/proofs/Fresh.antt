@@ -11,12 +11,14 @@ use Rattle.script.specs.Jobs.{Job}
 use Rattle.thread.specs.declared.Thread.{Thread}
 use Rattle.thread.specs.Threads.{blank, spawned, exists}
 use Rattle.machine.specs.Steps.{threadAt, fresh, Child}
-use Rattle.machine.specs.Fits.{Walked, unmoved, starts, In, here, there, Passed, Exists, Placed, Fits, TypedThread, Typed}
+use Rattle.machine.specs.Fits.{Walked, unmoved, starts, In, here, there, Passed, Exists, Placed, BacksWithin, Fits, TypedThread, Typed}
 use Rattle.machine.proofs.Walking.{walks-once}
 use Rattle.machine.specs.InnerStands.{registerCells}
 use Rattle.machine.specs.Stands.{stackFrom}
 use Rattle.machine.proofs.Codes.{code-ready}
 use Rattle.machine.proofs.Placings.{typed-spawned, placed-spawned}
+use Rattle.machine.proofs.Keeps.{tallied-spawned}
+use Rattle.machine.proofs.Passing.{passed-root}
 use Rattle.machine.proofs.Showings.{Shows, shut}
 use Rattle.machine.proofs.Mirrors.{Mirrors}
 use Rattle.machine.proofs.Numbers.{number-is, blank-absent}
@@ -72,11 +74,18 @@ module _ (bytes : List ℕ) where
         placed = places;
         no-gap = λ i e. absent i e;
         no-thread = blanks;
+        commits = 0;
+        passed = passed-root 5 (length bytes) 15 (omega arith) refl;
+        tallied = tallies;
       }
     where
       places : (i : ℕ) → Exists (fresh bytes) i → Placed bytes (threadAt (fresh bytes) i)
       places zero e = placed-spawned bytes 5 (length bytes)
       places (suc i) e = absent i e
+
+      tallies : (i : ℕ) → Exists (fresh bytes) i → BacksWithin 0 (fresh bytes .registers) (threadAt (fresh bytes) i)
+      tallies zero e = tallied-spawned 0 (fresh bytes .registers) 5 (length bytes)
+      tallies (suc i) e = absent i e
 
       blanks : (i : ℕ) → exists (threadAt (fresh bytes) i) ≡ false → threadAt (fresh bytes) i ≡ blank
       blanks zero e = absurd (let z : _≡_ {A = ℕ} 0 1 = cc in omega arith)

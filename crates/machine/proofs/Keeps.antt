@@ -14,18 +14,28 @@ use Rattle.code.specs.Compile.{Code, ε, compileP}
 use Rattle.code.specs.Bytes.{IsCode}
 use Rattle.script.specs.Jobs.{Job}
 use Rattle.thread.specs.declared.Thread.{Thread}
-use Rattle.thread.specs.Threads.{blank, spawned, exists}
+use Rattle.thread.specs.Threads.{blank, withRule, spawned, exists, stale}
 use Rattle.machine.specs.InnerStands.{registerCells}
-use Rattle.machine.specs.Steps.{State, Stepped, numberOf, threadAt, Child}
-use Rattle.machine.specs.Fits.{Walked, Walks, starts, In, here, there, ownCode, Passed, Placed, Exists, ThreadOf, Forked, OneThread, Fits, TypedThread, Typed}
-use Rattle.machine.proofs.Numbers.{before-end, never, exists-below, in-table}
+use Rattle.machine.specs.Steps.{State, Stepped, numberOf, threadAt, Child, movedBy}
+use Rattle.machine.specs.Fits.{Walked, Walks, starts, In, here, there, ownCode, Passed, Placed, Exists, ThreadOf, Forked, OneThread, CommitsPassed, BacksWithin, Fits, TypedThread, Typed}
+use Rattle.machine.proofs.Numbers.{before-end, at-end, never, exists-below, in-table}
 use Rattle.machine.proofs.Walking.{walks-once}
-use Rattle.machine.proofs.Placings.{typed-spawned, placed-spawned}
+use Rattle.machine.proofs.Placings.{typed-spawned, placed-spawned, typed-moved, placed-moved}
+use Rattle.machine.proofs.Mirrors.{spawned-exists}
+use Rattle.machine.proofs.Passing.{passed-set, passed-new}
+use Rattle.machine.proofs.Stale.{stale-by, stale-none}
 use Rattle.machine.proofs.Regions.{link-low, link-once, none-in, FirstOr, first, other, first-or, LastOnce, last-once, LinkOf, passed-link, no-more}
-use Rattle.machine.proofs.Simulates.{Born, nobody, child, Simulated}
+use Rattle.machine.proofs.Simulates.{Born, nobody, child, WasStale, Simulated}
+use Rattle.stm.specs.Events.{Event, idle, pushed, summed, forked, begun, looked, wrote, committed, sentBack, isCommit, isBack, more as oneMore}
+use Rattle.stm.specs.Rules.{backsAfter}
 use Rattle.stm.specs.InnerTasks.{Did}
 use Rattle.stm.specs.InnerMeaning.{Outside}
 use Rattle.stm.proofs.Bound.{forks-proc}
+
+-- a new thread was never sent back
+pub tallied-spawned : (m : ℕ) (table : List ℤ) (a b : ℕ) → BacksWithin m table (spawned a b)
+unfolding spawned
+tallied-spawned m table a b = record { not-above = omega arith; not-stale = λ q. stale-none (spawned a b) table refl }
 
 -- the threads of a state that fits are those with lower numbers
 below-number : {bytes : List ℕ} (s : State) → Fits bytes s → (k : ℕ) → Exists s k → k < numberOf (s .threads)
@@ -140,6 +150,9 @@ module _ {bytes : List ℕ} {j : Job} (c : IsCode bytes j) (o : Outside (compile
     typed′ : (k : ℕ) → k < n → TypedThread (threadAt s′ k)
     typed′ = each (λ (k : ℕ). TypedThread (threadAt s′ k)) (subst TypedThread (sym at-i) ty) (λ k l q. subst TypedThread (sym q) (y k))
 
+    tallied′ : (table : List ℤ) (m : ℕ) → ((k : ℕ) → Exists s k → BacksWithin m table (threadAt s k)) → BacksWithin m table t → (k : ℕ) → k < n → BacksWithin m table (threadAt s′ k)
+    tallied′ table m others its = each (λ (k : ℕ). BacksWithin m table (threadAt s′ k)) (subst (BacksWithin m table) (sym at-i) its) (λ k l q. subst (BacksWithin m table) (sym q) (others k (before-end (s .threads) k l)))
+
     in-right : (x : Child) (bs : List Child) → In x old → In x (bs ++ old)
     in-right x [] k = k
     in-right x (b ∷ bs) k = there (in-right x bs k)
@@ -186,8 +199,12 @@ module _ {bytes : List ℕ} {j : Job} (c : IsCode bytes j) (o : Outside (compile
   i-in : i < length (s .threads)
   i-in = in-table s i e
 
+  -- the COMMITs passed, this thread having passed so many more
+  passed-on : (d : ℕ) → p .walked .commits ≡ d + f .placed i e .walked .commits → CommitsPassed bytes (set (s .threads) i t) (d + f .commits)
+  passed-on d q = passed-set i d t (f .passed) i-in e (f .placed i e .walks) (ap (λ (x : ℕ). not (eqb x 0)) st ∙ e) (p .walks) q
+
   -- ---- a step that is no FORK
-  module _ (table : List ℤ) (sized : length table ≡ 64) (kids : p .walked .children ≡ [] ++ old) where
+  module _ (table : List ℤ) (sized : length table ≡ 64) (kids : p .walked .children ≡ [] ++ old) (d : ℕ) (ahead : p .walked .commits ≡ d + f .placed i e .walked .commits) (tallies : (k : ℕ) → Exists s k → BacksWithin (d + f .commits) table (threadAt s k)) (its : BacksWithin (d + f .commits) table t) where
     abbrev quiet : State
     quiet = record { registers = table; threads = set (s .threads) i t }
 
@@ -246,10 +263,13 @@ module _ {bytes : List ℕ} {j : Job} (c : IsCode bytes j) (o : Outside (compile
           placed = λ k h. placed′ quiet quiet-i quiet-other [] kids k (quiet-below k h);
           no-gap = λ k h. there′ quiet quiet-i quiet-other [] kids k (let m = quiet-below (suc k) h in omega arith);
           no-thread = quiet-no;
+          commits = d + f .commits;
+          passed = passed-on d ahead;
+          tallied = λ k h. tallied′ quiet quiet-i quiet-other [] kids table (d + f .commits) tallies its k (quiet-below k h);
         }
 
   -- ---- a FORK
-  module _ (table : List ℤ) (sized : length table ≡ 64) (a b : ℕ) (some : 1 ≤ a) (kids : p .walked .children ≡ record { start = a; end = b } ∷ old) where
+  module _ (table : List ℤ) (sized : length table ≡ 64) (a b : ℕ) (some : 1 ≤ a) (kids : p .walked .children ≡ record { start = a; end = b } ∷ old) (d : ℕ) (ahead : p .walked .commits ≡ d + f .placed i e .walked .commits) (tallies : (k : ℕ) → Exists s k → BacksWithin (d + f .commits) table (threadAt s k)) (its : BacksWithin (d + f .commits) table t) where
     abbrev new : Child
     new = record { start = a; end = b }
 
@@ -392,6 +412,18 @@ module _ {bytes : List ℕ} {j : Job} (c : IsCode bytes j) (o : Outside (compile
         go (newest q) = never (ap exists (ap (threadAt more) q ∙ more-new) ∙ born-exists) h
         go (above m) = more-above k m ∙ f .no-thread k (sym (ap exists (more-above k m)) ∙ h)
 
+    more-passed : CommitsPassed bytes (more .threads) (d + f .commits)
+    more-passed =
+        passed-new n a b (passed-on d ahead) (ap exists (getD-set-other (s .threads) i n t blank (λ q. let l = i-below in absurd (omega arith))) ∙ at-end (s .threads)) some born-exists
+
+    more-tallied : (k : ℕ) → Exists more k → BacksWithin (d + f .commits) table (threadAt more k)
+    more-tallied k h = go (place k)
+      where
+        go : Place k → BacksWithin (d + f .commits) table (threadAt more k)
+        go (older l) = tallied′ more more-i more-other (new ∷ []) kids table (d + f .commits) tallies its k l
+        go (newest q) = subst (BacksWithin (d + f .commits) table) (sym (ap (threadAt more) q ∙ more-new)) (tallied-spawned (d + f .commits) table a b)
+        go (above m) = not-above k h m
+
     more-fits : Fits bytes more
     more-fits =
         let l = i-below in
@@ -404,26 +436,131 @@ module _ {bytes : List ℕ} {j : Job} (c : IsCode bytes j) (o : Outside (compile
           placed = more-placed;
           no-gap = more-gap;
           no-thread = more-no;
+          commits = d + f .commits;
+          passed = more-passed;
+          tallied = more-tallied;
         }
 
-  born-keeps : (table : List ℤ) → length table ≡ 64 → (ks : List Code) (born : List Child) (ts : List Thread) → p .walked .children ≡ born ++ old → Born bytes (set (s .threads) i t) n ks born ts → Fits bytes (record { registers = table; threads = ts }) × Typed (record { registers = table; threads = ts })
-  born-keeps table sized ks born ts kids nobody = (quiet-fits table sized kids, quiet-typed table sized kids)
-  born-keeps table sized ks born ts kids (child a b r q l) = (more-fits table sized a b l kids, more-typed table sized a b l kids)
+  born-keeps : (table : List ℤ) → length table ≡ 64 → (d : ℕ) → p .walked .commits ≡ d + f .placed i e .walked .commits → ((k : ℕ) → Exists s k → BacksWithin (d + f .commits) table (threadAt s k)) → BacksWithin (d + f .commits) table t → (ks : List Code) (born : List Child) (ts : List Thread) → p .walked .children ≡ born ++ old → Born bytes (set (s .threads) i t) n ks born ts → Fits bytes (record { registers = table; threads = ts }) × Typed (record { registers = table; threads = ts })
+  born-keeps table sized d ahead tallies its ks born ts kids nobody = (quiet-fits table sized kids d ahead tallies its, quiet-typed table sized kids d ahead tallies its)
+  born-keeps table sized d ahead tallies its ks born ts kids (child a b r q l) = (more-fits table sized a b l kids d ahead tallies its, more-typed table sized a b l kids d ahead tallies its)
+
+  -- so many more COMMITs are passed
+  born-commits : (d : ℕ) → p .walked .commits ≡ d + f .placed i e .walked .commits → (ks : List Code) (born : List Child) (ts : List Thread) → Born bytes (set (s .threads) i t) n ks born ts → CommitsPassed bytes ts (d + f .commits)
+  born-commits d ahead ks born ts nobody = passed-on d ahead
+  born-commits d ahead ks born ts (child a b r q l) =
+      passed-new n a b (passed-on d ahead) (ap exists (getD-set-other (s .threads) i n t blank (λ q. let l = i-below in absurd (omega arith))) ∙ at-end (s .threads)) l (spawned-exists a b l)
+
+-- ---- the send-backs
+-- what an event makes of the COMMITs passed, the table, a thread's record and its own
+module _ (table table′ : List ℤ) (n : ℕ) where
+  same-tally : (e : table′ ≡ table) (t : Thread) → BacksWithin n table t → BacksWithin (0 + n) table′ t
+  same-tally e t y =
+      subst (λ (x : List ℤ). BacksWithin (0 + n) x t) (sym e)
+      (record { not-above = let a = y .not-above in omega arith; not-stale = λ q. y .not-stale (let z : t .backs ≡ n = omega arith in z) })
+
+  more-tally : (t : Thread) → BacksWithin n table t → BacksWithin (1 + n) table′ t
+  more-tally t y = let a = y .not-above in record { not-above = omega arith; not-stale = λ q. absurd (omega arith) }
+
+  abbrev Still : Event → Type 0
+  Still e = isCommit e ≡ false → table′ ≡ table
+
+  others-tally : (e : Event) → Still e → (t : Thread) → BacksWithin n table t → BacksWithin (oneMore (isCommit e) 0 + n) table′ t
+  others-tally idle s = same-tally (s refl)
+  others-tally pushed s = same-tally (s refl)
+  others-tally (summed inside) s = same-tally (s refl)
+  others-tally forked s = same-tally (s refl)
+  others-tally begun s = same-tally (s refl)
+  others-tally (looked from) s = same-tally (s refl)
+  others-tally wrote s = same-tally (s refl)
+  others-tally committed s = more-tally
+  others-tally (sentBack v) s = same-tally (s refl)
+
+  module _ (t u : Thread) (y : BacksWithin n table t) (same : u .backs ≡ t .backs) (calm : (v : ℕ) → stale t table v ≡ false → stale u table v ≡ false) where
+    calm-tally : table′ ≡ table → (rule : ℕ) → BacksWithin (0 + n) table′ (withRule rule (u .backs) u)
+    calm-tally e rule =
+        subst (λ (x : List ℤ). BacksWithin (0 + n) x (withRule rule (u .backs) u)) (sym e)
+        (record {
+          not-above = let a = y .not-above in omega arith;
+          not-stale = λ q v. stale-by u (withRule rule (u .backs) u) table refl refl v (calm v (y .not-stale (let z : t .backs ≡ n = omega arith in z) v));
+        })
+
+    back-tally : table′ ≡ table → WasStale t u table → (rule : ℕ) → BacksWithin (0 + n) table′ (withRule rule (suc (u .backs)) u)
+    back-tally e w rule =
+        subst (λ (x : List ℤ). BacksWithin (0 + n) x (withRule rule (suc (u .backs)) u)) (sym e)
+        (record {
+          not-above = low;
+          not-stale = λ q v. stale-by u (withRule rule (suc (u .backs)) u) table refl refl v (w .none-now v);
+        })
+      where
+        below : t .backs < n
+        below = go (decLt (t .backs) n)
+          where
+            go : Dec (t .backs < n) → t .backs < n
+            go (yes l) = l
+            go (no m) = never (w .was) (y .not-stale (let a = y .not-above in let z : t .backs ≡ n = omega arith in z) (w .register))
+
+        low : suc (u .backs) ≤ 0 + n
+        low = let l = below in omega arith
+
+    its-tally : (e : Event) → Still e → (isBack e ≡ true → WasStale t u table) → BacksWithin (oneMore (isCommit e) 0 + n) table′ (movedBy e u)
+    unfolding backsAfter
+    its-tally idle s b = calm-tally (s refl) _
+    its-tally pushed s b = calm-tally (s refl) _
+    its-tally (summed inside) s b = calm-tally (s refl) _
+    its-tally forked s b = calm-tally (s refl) _
+    its-tally begun s b = calm-tally (s refl) _
+    its-tally (looked from) s b = calm-tally (s refl) _
+    its-tally wrote s b = calm-tally (s refl) _
+    its-tally committed s b =
+        let a = y .not-above in
+        record { not-above = omega arith; not-stale = λ q. absurd (omega arith) }
+    its-tally (sentBack v) s b = back-tally (s refl) (b refl) _
+
+more-plus : (b : Bool) (n : ℕ) → oneMore b n ≡ oneMore b 0 + n
+more-plus true n = omega arith
+more-plus false n = omega arith
 
 -- what an instruction of a thread leaves fits the code again
-pub keeps : {bytes : List ℕ} {j : Job} → IsCode bytes j → Outside (compileP (j .tree) ε) 0 → (s : State) → Fits bytes s → Typed s → (i : ℕ) → Exists s i → (q : Placed bytes (threadAt s i)) (r : Stepped) (d : Did registerCells) → length (d .table) ≡ 64 → Simulated bytes s i (threadAt s i) (q .walked .children) r d → Fits bytes (r .state) × Typed (r .state)
+pub keeps : {bytes : List ℕ} {j : Job} → IsCode bytes j → Outside (compileP (j .tree) ε) 0 → (s : State) → Fits bytes s → Typed s → (i : ℕ) → Exists s i → (q : Placed bytes (threadAt s i)) (r : Stepped) (d : Did registerCells) → length (d .table) ≡ 64 → Simulated bytes s i (threadAt s i) (q .walked) r d → Fits bytes (r .state) × Typed (r .state)
+unfolding placed-moved
 keeps {bytes} c o s f y i e q r d sized x =
     let w : q .walked ≡ f .placed i e .walked = walks-once bytes (threadAt s i .start) (threadAt s i .end) (q .walks) (f .placed i e .walks) in
     let k : x .placed .walked .children ≡ x .born ++ f .placed i e .walked .children = subst (λ (v : Walked). x .placed .walked .children ≡ x .born ++ v .children) w (x .kids) in
-    born-keeps c o s f y i e (x .thread) (x .typed) (x .placed) (x .start) (x .end) (r .state .registers) (ap length (x .registers) ∙ sized) (d .children) (x .born) (r .state .threads) k (x .threads)
+    let a : x .placed .walked .commits ≡ oneMore (isCommit (r .event)) 0 + f .placed i e .walked .commits = x .commits ∙ (more-plus (isCommit (r .event)) (q .walked .commits) ∙ ap (λ (v : Walked). oneMore (isCommit (r .event)) 0 + v .commits) w) in
+    born-keeps c o s f y i e (movedBy (r .event) (x .thread)) (typed-moved _ _ (x .thread) (x .typed)) (placed-moved _ _ (x .thread) (x .placed)) (x .start) (x .end) (r .state .registers) (ap length (x .registers) ∙ sized)
+    (oneMore (isCommit (r .event)) 0) a
+    (λ m h. others-tally (s .registers) (r .state .registers) (f .commits) (r .event) (x .still) (threadAt s m) (f .tallied m h))
+    (its-tally (s .registers) (r .state .registers) (f .commits) (threadAt s i) (x .thread) (f .tallied i e) (x .backs) (x .calm) (r .event) (x .still) (x .sent-back))
+    (d .children) (x .born) (r .state .threads) k (x .threads)
+
+-- and passes a COMMIT if that takes effect
+pub keeps-passed : {bytes : List ℕ} {j : Job} → IsCode bytes j → Outside (compileP (j .tree) ε) 0 → (s : State) → (f : Fits bytes s) → Typed s → (i : ℕ) → Exists s i → (q : Placed bytes (threadAt s i)) (r : Stepped) (d : Did registerCells) → Simulated bytes s i (threadAt s i) (q .walked) r d → CommitsPassed bytes (r .state .threads) (oneMore (isCommit (r .event)) (f .commits))
+unfolding placed-moved
+keeps-passed {bytes} c o s f y i e q r d x =
+    let w : q .walked ≡ f .placed i e .walked = walks-once bytes (threadAt s i .start) (threadAt s i .end) (q .walks) (f .placed i e .walks) in
+    let a : x .placed .walked .commits ≡ oneMore (isCommit (r .event)) 0 + f .placed i e .walked .commits = x .commits ∙ (more-plus (isCommit (r .event)) (q .walked .commits) ∙ ap (λ (v : Walked). oneMore (isCommit (r .event)) 0 + v .commits) w) in
+    subst (CommitsPassed bytes (r .state .threads)) (sym (more-plus (isCommit (r .event)) (f .commits)))
+    (born-commits c o s f y i e (movedBy (r .event) (x .thread)) (typed-moved _ _ (x .thread) (x .typed)) (placed-moved _ _ (x .thread) (x .placed)) (x .start) (x .end) (oneMore (isCommit (r .event)) 0) a (d .children) (x .born) (r .state .threads) (x .threads))
+
+-- a thread's last rule is free, and its number of send-backs as far as the COMMITs passed allow
+pub numbers-free : {bytes : List ℕ} {j : Job} → IsCode bytes j → Outside (compileP (j .tree) ε) 0 → (s : State) → (f : Fits bytes s) → Typed s → (i : ℕ) → Exists s i → (rule backs : ℕ) → BacksWithin (f .commits) (s .registers) (withRule rule backs (threadAt s i)) → Fits bytes (record { registers = s .registers; threads = set (s .threads) i (withRule rule backs (threadAt s i)) })
+unfolding placed-moved
+numbers-free c o s f y i e rule backs x =
+    quiet-fits c o s f y i e (withRule rule backs (threadAt s i)) (typed-moved rule backs (threadAt s i) (y i)) (placed-moved rule backs (threadAt s i) (f .placed i e)) refl refl (s .registers) (f .registers) refl
+    0 (omega arith) (λ k h. same (f .tallied k h)) (same x)
+  where
+    same : {t : Thread} → BacksWithin (f .commits) (s .registers) t → BacksWithin (0 + f .commits) (s .registers) t
+    same {t} = subst (λ (n : ℕ). BacksWithin n (s .registers) t) (let z : f .commits ≡ 0 + f .commits = omega arith in z)
 
 -- and where it forks a child, there is a record for it
-pub has-room : {bytes : List ℕ} {j : Job} → IsCode bytes j → Outside (compileP (j .tree) ε) 0 → (s : State) → Fits bytes s → Typed s → (i : ℕ) → Exists s i → (q : Placed bytes (threadAt s i)) (r : Stepped) (d : Did registerCells) → Simulated bytes s i (threadAt s i) (q .walked .children) r d → (k : Code) → d .children ≡ k ∷ [] → numberOf (s .threads) < 16
+pub has-room : {bytes : List ℕ} {j : Job} → IsCode bytes j → Outside (compileP (j .tree) ε) 0 → (s : State) → Fits bytes s → Typed s → (i : ℕ) → Exists s i → (q : Placed bytes (threadAt s i)) (r : Stepped) (d : Did registerCells) → Simulated bytes s i (threadAt s i) (q .walked) r d → (k : Code) → d .children ≡ k ∷ [] → numberOf (s .threads) < 16
+unfolding placed-moved
 has-room {bytes} c o s f y i e q r d x k z = go (d .children) (x .born) (r .state .threads) (x .threads) (x .kids) z
   where
     w : q .walked ≡ f .placed i e .walked
     w = walks-once bytes (threadAt s i .start) (threadAt s i .end) (q .walks) (f .placed i e .walks)
 
-    go : (ks : List Code) (born : List Child) (ts : List Thread) → Born bytes (set (s .threads) i (x .thread)) (numberOf (s .threads)) ks born ts → x .placed .walked .children ≡ born ++ q .walked .children → ks ≡ k ∷ [] → numberOf (s .threads) < 16
+    go : (ks : List Code) (born : List Child) (ts : List Thread) → Born bytes (set (s .threads) i (movedBy (r .event) (x .thread))) (numberOf (s .threads)) ks born ts → x .placed .walked .children ≡ born ++ q .walked .children → ks ≡ k ∷ [] → numberOf (s .threads) < 16
     go ks born ts nobody m n = absurd (let z : _≡_ {A = ℕ} 0 1 = cc in omega arith)
-    go ks born ts (child a b g h l) m n = room c o s f y i e (x .thread) (x .typed) (x .placed) (x .start) (x .end) (record { start = a; end = b }) (subst (λ (v : Walked). x .placed .walked .children ≡ record { start = a; end = b } ∷ v .children) w m)
+    go ks born ts (child a b g h l) m n = room c o s f y i e (movedBy (r .event) (x .thread)) (typed-moved _ _ (x .thread) (x .typed)) (placed-moved _ _ (x .thread) (x .placed)) (x .start) (x .end) (record { start = a; end = b }) (subst (λ (v : Walked). x .placed .walked .children ≡ record { start = a; end = b } ∷ v .children) w m)

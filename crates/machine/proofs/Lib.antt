@@ -7,6 +7,8 @@ pub mod Codes
 pub mod Shapes
 pub mod Placings
 pub mod Showings
+pub mod Stale
+pub mod Passing
 pub mod Simulates
 pub mod Mirrors
 pub mod Regions
@@ -23,4 +25,5 @@ pub mod Tallies
 pub mod Found
 pub mod Actings
 pub mod Notes
+pub mod Ruled
 pub mod Cuts

@@ -15,15 +15,15 @@ use Rattle.code.specs.Ops.{opAt}
 use Rattle.script.specs.Outcome.{done}
 use Rattle.thread.specs.declared.Thread.{Thread}
 use Rattle.thread.specs.Threads.{blank, spawned, exists}
-use Rattle.machine.specs.Steps.{State, Stepped, numberOf, threadAt, instruction, pick, Child, act, settle}
+use Rattle.machine.specs.Steps.{State, Stepped, numberOf, threadAt, instruction, pick, Child, movedBy, act, perform, settle}
 use Rattle.stm.specs.Events.{idle}
-use Rattle.machine.specs.Fits.{Exists}
+use Rattle.machine.specs.Fits.{Walked, Exists}
 use Rattle.machine.specs.InnerStands.{registerCells, tableOf, opOf, Ready}
 use Rattle.machine.specs.Stands.{stackFrom}
 use Rattle.machine.proofs.Numbers.{next-absent, at-end, number-is, below-exists, exists-below, number-small}
 use Rattle.machine.proofs.Picks.{missing-idle, ended-idle, does}
 use Rattle.machine.proofs.Codes.{stands-end, stands-inside, ready-op}
-use Rattle.machine.proofs.Showings.{Shows, shut, open′}
+use Rattle.machine.proofs.Showings.{Shows, shut, open′, shows-moved}
 use Rattle.machine.proofs.Simulates.{Held, Born, nobody, child, Simulated, from-outside, from-inside}
 use Rattle.stm.specs.InnerTasks.{Task, outside, ended, Did, System, taskAt, started, put, did, next, stepOutside, stepTask}
 use Rattle.stm.specs.InnerMeaning.{Outside, Inside}
@@ -47,13 +47,13 @@ pub record Mirrored (bytes : List ℕ) (sum : Rule) (s : State) (sys : System re
   pub mirrors : Mirrors bytes (pick sum bytes s i .state) (next registerCells sum sys i)
 
 -- a pick that is not idle does the instruction at the thread's place
-pub data Picked (bytes : List ℕ) (sum : Rule) (s : State) (sys : System registerCells) (i : ℕ) (old : List Child) : Type 0 where
+pub data Picked (bytes : List ℕ) (sum : Rule) (s : State) (sys : System registerCells) (i : ℕ) (old : Walked) : Type 0 where
   stood : pick sum bytes s i ≡ record { state = s; event = idle; over = 0 } → did registerCells sum sys i ≡ record { task = taskAt registerCells sys i; table = sys .table; children = []; event = idle; over = 0 } → Picked bytes sum s sys i old
   went : (r : Stepped) → pick sum bytes s i ≡ r → Exists s i → Simulated bytes s i (threadAt s i) old r (did registerCells sum sys i) → Picked bytes sum s sys i old
 
 module _ (bytes : List ℕ) (sum : Rule) where
   -- a thread that exists is picked
-  pub works : (s : State) (sys : System registerCells) → Mirrors bytes s sys → (i : ℕ) → i < length (sys .tasks) → (h : Held bytes (threadAt s i)) → Picked bytes sum s sys i (h .placed .walked .children)
+  pub works : (s : State) (sys : System registerCells) → Mirrors bytes s sys → (i : ℕ) → i < length (sys .tasks) → (h : Held bytes (threadAt s i)) → Picked bytes sum s sys i (h .placed .walked)
   unfolding stepTask stepOutside
   works s sys m i l h = go (taskAt registerCells sys i) refl (m .shown i l)
     where
@@ -66,22 +66,22 @@ module _ (bytes : List ℕ) (sum : Rule) where
       small : ltb i (length (s .threads)) ≡ true
       small = lt-ltb i (length (s .threads)) (number-small (s .threads) i n)
 
-      at-place : (ins : Instruction) (t : Task registerCells) → taskAt registerCells sys i ≡ t → threadAt s i .place < threadAt s i .end → opAt (drop (threadAt s i .place) bytes) ≡ done (opOf ins) → Simulated bytes s i (threadAt s i) (h .placed .walked .children) (instruction sum s i (threadAt s i) (opOf ins)) (stepTask registerCells sum (tableOf s) t) → Picked bytes sum s sys i (h .placed .walked .children)
+      at-place : (ins : Instruction) (t : Task registerCells) → taskAt registerCells sys i ≡ t → threadAt s i .place < threadAt s i .end → opAt (drop (threadAt s i .place) bytes) ≡ done (opOf ins) → Simulated bytes s i (threadAt s i) (h .placed .walked) (instruction sum s i (threadAt s i) (opOf ins)) (stepTask registerCells sum (tableOf s) t) → Picked bytes sum s sys i (h .placed .walked)
       at-place ins t q less o x =
           went
           (instruction sum s i (threadAt s i) (opOf ins))
           (does sum bytes (numberOf (s .threads)) s i (opOf ins) small e (λ z. absurd (omega arith)) o)
           e
-          (subst (λ (y : Task registerCells). Simulated bytes s i (threadAt s i) (h .placed .walked .children) (instruction sum s i (threadAt s i) (opOf ins)) (stepTask registerCells sum (sys .table) y)) (sym q)
-          (subst (λ (y : List ℤ). Simulated bytes s i (threadAt s i) (h .placed .walked .children) (instruction sum s i (threadAt s i) (opOf ins)) (stepTask registerCells sum y t)) (m .table) x))
+          (subst (λ (y : Task registerCells). Simulated bytes s i (threadAt s i) (h .placed .walked) (instruction sum s i (threadAt s i) (opOf ins)) (stepTask registerCells sum (sys .table) y)) (sym q)
+          (subst (λ (y : List ℤ). Simulated bytes s i (threadAt s i) (h .placed .walked) (instruction sum s i (threadAt s i) (opOf ins)) (stepTask registerCells sum y t)) (m .table) x))
 
-      ended : (σ : List ℤ) → taskAt registerCells sys i ≡ outside ε σ → threadAt s i .place ≡ threadAt s i .end → Picked bytes sum s sys i (h .placed .walked .children)
+      ended : (σ : List ℤ) → taskAt registerCells sys i ≡ outside ε σ → threadAt s i .place ≡ threadAt s i .end → Picked bytes sum s sys i (h .placed .walked)
       ended σ q z =
           stood
           (ended-idle sum bytes (numberOf (s .threads)) s i z)
           (ap (λ (y : Task registerCells). stepTask registerCells sum (sys .table) y) q ∙ ap (λ (y : Task registerCells). record { task = y; table = sys .table; children = []; event = idle; over = 0 }) (sym q))
 
-      go : (t : Task registerCells) → taskAt registerCells sys i ≡ t → Shows bytes (threadAt s i) t → Picked bytes sum s sys i (h .placed .walked .children)
+      go : (t : Task registerCells) → taskAt registerCells sys i ≡ t → Shows bytes (threadAt s i) t → Picked bytes sum s sys i (h .placed .walked)
       go t q (shut ε r o z) = ended (stackFrom (threadAt s i .cells) 0 (threadAt s i .height)) q (stands-end (r .stands))
       go t q (shut (ins ⨾ c) r o z) = at-place ins t q (stands-inside (r .stands)) (ready-op r) (from-outside sum s i (threadAt s i) h ins c r o z)
       go t q (open′ body ε k r o f w g x y) = absurd (no-inside k (threadAt s i .base) o)
@@ -229,27 +229,27 @@ module _ (bytes : List ℕ) (sum : Rule) where
       }
 
   -- a step of thread i and of its task
-  stepped : (s : State) (sys : System registerCells) → Mirrors bytes s sys → ((i : ℕ) → Exists s (suc i) → Exists s i) → (i : ℕ) → i < length (sys .tasks) → (old : List Child) (r : Stepped) (d : Did registerCells) → ((k : Code) → d .children ≡ k ∷ [] → numberOf (s .threads) < 16) → Simulated bytes s i (threadAt s i) old r d → Mirrors bytes (r .state) (put registerCells sys i d)
+  stepped : (s : State) (sys : System registerCells) → Mirrors bytes s sys → ((i : ℕ) → Exists s (suc i) → Exists s i) → (i : ℕ) → i < length (sys .tasks) → (old : Walked) (r : Stepped) (d : Did registerCells) → ((k : Code) → d .children ≡ k ∷ [] → numberOf (s .threads) < 16) → Simulated bytes s i (threadAt s i) old r d → Mirrors bytes (r .state) (put registerCells sys i d)
   stepped s sys m gap i l old r d room x =
       subst (λ (rs : List ℤ). Mirrors bytes (r .state) (record { table = rs; tasks = set (sys .tasks) i (d .task) ++ started registerCells (d .children) })) (x .registers)
       (go (d .children) (x .born) (r .state .threads) (x .threads) room)
     where
-      one : Mirrors bytes (record { registers = r .state .registers; threads = set (s .threads) i (x .thread) }) (record { table = r .state .registers; tasks = set (sys .tasks) i (d .task) })
-      one = changed s sys m i l (r .state .registers) (x .thread) (d .task) (x .start) (x .shows)
+      one : Mirrors bytes (record { registers = r .state .registers; threads = set (s .threads) i (movedBy (r .event) (x .thread)) }) (record { table = r .state .registers; tasks = set (sys .tasks) i (d .task) })
+      one = changed s sys m i l (r .state .registers) (movedBy (r .event) (x .thread)) (d .task) (x .start) (shows-moved _ _ (x .shows))
 
-      number : numberOf (set (s .threads) i (x .thread)) ≡ numberOf (s .threads)
+      number : numberOf (set (s .threads) i (movedBy (r .event) (x .thread))) ≡ numberOf (s .threads)
       number = one .number ∙ (length-set (sys .tasks) i (d .task) ∙ sym (m .number))
 
-      behind : exists (getD (set (s .threads) i (x .thread)) (suc (numberOf (set (s .threads) i (x .thread)))) blank) ≡ false
+      behind : exists (getD (set (s .threads) i (movedBy (r .event) (x .thread))) (suc (numberOf (set (s .threads) i (movedBy (r .event) (x .thread))))) blank) ≡ false
       behind =
-          ap (λ (y : ℕ). exists (getD (set (s .threads) i (x .thread)) (suc y) blank)) number
-          ∙ (ap (λ (y : Thread). exists y) (getD-set-other (s .threads) i (suc (numberOf (s .threads))) (x .thread) blank (λ q. absurd (let z = m .number in omega arith))) ∙ next-absent s gap)
+          ap (λ (y : ℕ). exists (getD (set (s .threads) i (movedBy (r .event) (x .thread))) (suc y) blank)) number
+          ∙ (ap (λ (y : Thread). exists y) (getD-set-other (s .threads) i (suc (numberOf (s .threads))) (movedBy (r .event) (x .thread)) blank (λ q. absurd (let z = m .number in omega arith))) ∙ next-absent s gap)
 
-      go : (ks : List Code) (bs : List Child) (ts : List Thread) → Born bytes (set (s .threads) i (x .thread)) (numberOf (s .threads)) ks bs ts → ((k : Code) → ks ≡ k ∷ [] → numberOf (s .threads) < 16) → Mirrors bytes (record { registers = r .state .registers; threads = ts }) (record { table = r .state .registers; tasks = set (sys .tasks) i (d .task) ++ started registerCells ks })
-      go ks bs ts nobody f = subst (λ (y : List (Task registerCells)). Mirrors bytes (record { registers = r .state .registers; threads = set (s .threads) i (x .thread) }) (record { table = r .state .registers; tasks = y })) (sym (append-nil (set (sys .tasks) i (d .task)))) one
+      go : (ks : List Code) (bs : List Child) (ts : List Thread) → Born bytes (set (s .threads) i (movedBy (r .event) (x .thread))) (numberOf (s .threads)) ks bs ts → ((k : Code) → ks ≡ k ∷ [] → numberOf (s .threads) < 16) → Mirrors bytes (record { registers = r .state .registers; threads = ts }) (record { table = r .state .registers; tasks = set (sys .tasks) i (d .task) ++ started registerCells ks })
+      go ks bs ts nobody f = subst (λ (y : List (Task registerCells)). Mirrors bytes (record { registers = r .state .registers; threads = set (s .threads) i (movedBy (r .event) (x .thread)) }) (record { table = r .state .registers; tasks = y })) (sym (append-nil (set (sys .tasks) i (d .task)))) one
       go ks bs ts (child {k} start end ready o there) f =
-          subst (λ (y : ℕ). Mirrors bytes (record { registers = r .state .registers; threads = set (set (s .threads) i (x .thread)) y (spawned start end) }) (record { table = r .state .registers; tasks = set (sys .tasks) i (d .task) ++ (outside k [] ∷ []) })) number
-          (grown (record { registers = r .state .registers; threads = set (s .threads) i (x .thread) }) (record { table = r .state .registers; tasks = set (sys .tasks) i (d .task) }) one (subst (λ (y : ℕ). y < 16) (sym number) (f k refl)) behind (spawned start end) (outside k []) (spawned-exists start end there) (spawned-shows start end k ready o))
+          subst (λ (y : ℕ). Mirrors bytes (record { registers = r .state .registers; threads = set (set (s .threads) i (movedBy (r .event) (x .thread))) y (spawned start end) }) (record { table = r .state .registers; tasks = set (sys .tasks) i (d .task) ++ (outside k [] ∷ []) })) number
+          (grown (record { registers = r .state .registers; threads = set (s .threads) i (movedBy (r .event) (x .thread)) }) (record { table = r .state .registers; tasks = set (sys .tasks) i (d .task) }) one (subst (λ (y : ℕ). y < 16) (sym number) (f k refl)) behind (spawned start end) (outside k []) (spawned-exists start end there) (spawned-shows start end k ready o))
 
   -- a number with no thread is idle in both
   pub idle-missing : (s : State) (sys : System registerCells) → Mirrors bytes s sys → ((i : ℕ) → Exists s (suc i) → Exists s i) → (i : ℕ) → length (sys .tasks) ≤ i → (pick sum bytes s i ≡ record { state = s; event = idle; over = 0 }) × (did registerCells sum sys i ≡ record { task = taskAt registerCells sys i; table = sys .table; children = []; event = idle; over = 0 })
@@ -267,7 +267,7 @@ module _ (bytes : List ℕ) (sum : Rule) where
       there : i < length (sys .tasks) → Exists s i
       there l = below-exists s i (subst (λ (k : ℕ). i < k) (sym (m .number)) l)
 
-      by : (old : List Child) → i < length (sys .tasks) → Picked bytes sum s sys i old → Mirrored bytes sum s sys i
+      by : (old : Walked) → i < length (sys .tasks) → Picked bytes sum s sys i old → Mirrored bytes sum s sys i
       by old l (stood p d) = still s sys m i p d
       by old l (went r p e x) =
           record {
@@ -277,5 +277,5 @@ module _ (bytes : List ℕ) (sum : Rule) where
           }
 
       go : Dec (i < length (sys .tasks)) → Mirrored bytes sum s sys i
-      go (yes l) = let h = holds (there l) in by (h .placed .walked .children) l (works bytes sum s sys m i l h)
+      go (yes l) = let h = holds (there l) in by (h .placed .walked) l (works bytes sum s sys m i l h)
       go (no l) = let x = idle-missing s sys m gap i (omega arith) in still s sys m i (x .0) (x .1)

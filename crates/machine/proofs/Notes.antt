@@ -13,7 +13,7 @@ use Rattle.code.specs.Bytes.{IsCode}
 use Rattle.code.specs.Ops.{Op, opAt}
 use Rattle.code.specs.Ops as code
 use Rattle.machine.specs.Fits.{Placed, Exists, Fits, Typed}
-use Rattle.machine.specs.Steps.{State, Stepped, Acted, Child, threadAt, numberOf, committing, commit, act, seated, settle, doing, pickAmong, pick, instruction, toldBy, notedBy}
+use Rattle.machine.specs.Steps.{State, Stepped, Acted, Child, threadAt, numberOf, committing, commit, act, perform, seated, settle, doing, pickAmong, pick, instruction, toldBy, notedBy}
 use Rattle.machine.proofs.Agrees.{does-one}
 use Rattle.machine.proofs.Numbers.{exists-below, in-table}
 use Rattle.machine.proofs.Picks.{no-record, missing-idle, ended-idle, busy}
@@ -28,7 +28,7 @@ use Rattle.word.specs.Sum.{Rule, overOf}
 -- ---- one instruction
 module _ (sum : Rule) (table : List ℤ) (t : Thread) where
   act-told : (op : Op) → act sum table t op .over ≡ toldBy (act sum table t op .event) t
-  unfolding act commit
+  unfolding act perform commit
   act-told (code.push n) = refl
   act-told code.add = go (eqb (t .begin) 0)
     where
@@ -46,7 +46,7 @@ module _ (sum : Rule) (table : List ℤ) (t : Thread) where
       go false = refl
 
   act-noted : (op : Op) → act sum table t op .thread .over ≡ notedBy (act sum table t op .event) t
-  unfolding act commit push add begin read write closed
+  unfolding act perform commit push add begin read write closed
   act-noted (code.push n) = refl
   act-noted code.add = go (eqb (t .begin) 0)
     where

@@ -11,7 +11,7 @@ use lib.IntN.{ℤ, pos}
 use lib.ListN.{length, drop, getD, set, take, replicate, length-set, length-append, length-replicate}
 use lib.Seq.{getD-set-same, getD-set-other, length-take-le}
 use Rattle.thread.specs.declared.Thread.{Thread}
-use Rattle.thread.specs.Threads.{sumNoted, zeros, spawned, push, add, begin, below, sourceOf, readFrom, noted, read, write, closed}
+use Rattle.thread.specs.Threads.{withRule, sumNoted, zeros, spawned, push, add, begin, below, sourceOf, readFrom, noted, read, write, closed}
 use Rattle.stm.specs.Events.{Source, fromWrites, fromReads, fromTable}
 use Rattle.machine.specs.Fits.{Walked, unmoved, walkOp, nextPlace, Walks, starts, passes, Placed, TypedThread}
 use Rattle.machine.specs.InnerStands.{undone}
@@ -96,6 +96,26 @@ typed-closed place height t l y =
 pub typed-spawned : (start end : ℕ) → TypedThread (spawned start end)
 unfolding spawned
 typed-spawned start end = record { cells = zeros-long; readlog = zeros-long; writelog = zeros-long }
+
+-- another last rule and number of send-backs
+pub typed-moved : (rule backs : ℕ) (t : Thread) → TypedThread t → TypedThread (withRule rule backs t)
+typed-moved rule backs t y = record { cells = y .cells; readlog = y .readlog; writelog = y .writelog }
+
+unfoldable pub placed-moved : {bytes : List ℕ} (rule backs : ℕ) (t : Thread) → Placed bytes t → Placed bytes (withRule rule backs t)
+placed-moved rule backs t p =
+    record {
+      walked = p .walked;
+      walks = p .walks;
+      height = p .height;
+      begin = p .begin;
+      base = p .base;
+      over = p .over;
+      no-reads = p .no-reads;
+      no-writes = p .no-writes;
+      reads-free = p .reads-free;
+      writes-free = p .writes-free;
+      cells-free = p .cells-free;
+    }
 
 -- ---- places
 module _ {bytes : List ℕ} (t : Thread) (p : Placed bytes t) (inside : t .place < t .end) where
@@ -240,12 +260,21 @@ module _ {bytes : List ℕ} (t : Thread) (p : Placed bytes t) (inside : t .place
   unfolding read
   placed-read table v small e open′ = placed-noted v small e open′ (sourceOf t v) (readFrom (sourceOf t v) table t v)
 
-  -- READ, COMMIT and a send-back pass no FORK
+  -- READ, COMMIT and a send-back pass no FORK, and of these only COMMIT passes a COMMIT
   pub read-kids : (table : List ℤ) (v : ℕ) (small : v < 64) (e : opAt (drop (t .place) bytes) ≡ done (code.read v)) (open′ : 1 ≤ t .begin) → placed-read table v small e open′ .walked .children ≡ p .walked .children
   unfolding placed-read read placed-noted walkOp
   read-kids table v small e open′ = go (sourceOf t v) (readFrom (sourceOf t v) table t v)
     where
       go : (from : Source) (n : ℤ) → placed-noted v small e open′ from n .walked .children ≡ p .walked .children
+      go fromWrites n = refl
+      go fromReads n = refl
+      go fromTable n = refl
+
+  pub read-commits : (table : List ℤ) (v : ℕ) (small : v < 64) (e : opAt (drop (t .place) bytes) ≡ done (code.read v)) (open′ : 1 ≤ t .begin) → placed-read table v small e open′ .walked .commits ≡ p .walked .commits
+  unfolding placed-read read placed-noted walkOp
+  read-commits table v small e open′ = go (sourceOf t v) (readFrom (sourceOf t v) table t v)
+    where
+      go : (from : Source) (n : ℤ) → placed-noted v small e open′ from n .walked .commits ≡ p .walked .commits
       go fromWrites n = refl
       go fromReads n = refl
       go fromTable n = refl
@@ -314,6 +343,10 @@ module _ {bytes : List ℕ} (t : Thread) (p : Placed bytes t) (inside : t .place
   unfolding placed-commit walkOp
   commit-kids e = refl
 
+  pub commit-commits : (e : opAt (drop (t .place) bytes) ≡ done code.commit) → placed-commit e .walked .commits ≡ suc (p .walked .commits)
+  unfolding placed-commit walkOp
+  commit-commits e = refl
+
 -- a send-back
 unfoldable pub placed-back : {bytes : List ℕ} (t : Thread) (w : Walked) → t .base ≡ w .base → Walks bytes (t .start) (t .end) (t .begin) (undone w) → Placed bytes (closed (t .begin) (t .base) t)
 unfolding closed
@@ -335,6 +368,10 @@ placed-back t w e ws =
 pub back-kids : {bytes : List ℕ} (t : Thread) (w : Walked) (e : t .base ≡ w .base) (ws : Walks bytes (t .start) (t .end) (t .begin) (undone w)) → placed-back t w e ws .walked .children ≡ w .children
 unfolding placed-back
 back-kids t w e ws = refl
+
+pub back-commits : {bytes : List ℕ} (t : Thread) (w : Walked) (e : t .base ≡ w .base) (ws : Walks bytes (t .start) (t .end) (t .begin) (undone w)) → placed-back t w e ws .walked .commits ≡ w .commits
+unfolding placed-back
+back-commits t w e ws = refl
 
 -- a new thread
 unfoldable pub placed-spawned : (bytes : List ℕ) (start end : ℕ) → Placed bytes (spawned start end)

@@ -1,10 +1,10 @@
 -- Every number of a state stays one that its field can hold: in a fresh state, after a pick, and after a run. Assumes nothing.
-use Prim.Native.Nat.{ℕ, zero, suc, _+_, _-_, _≤_, _<_, _^_}
+use Prim.Native.Nat.{ℕ, zero, suc, _+_, _-_, _*_, _≤_, _<_, _^_}
 use mathlib.Core.Bool.{Bool, true, false, cond}
 use mathlib.Core.Path.{_≡_, refl, sym, ap, subst, _∙_}
 use mathlib.Core.List.{List, [], _∷_, _++_}
 use native.Mathlib.Omega.{arith}
-use borrow.Author.Tests.{lt-ltb}
+use borrow.Author.Tests.{lt-ltb, ltb-true}
 use lib.Dec.{ltb}
 use lib.IntN.{ℤ, pos}
 use lib.ListN.{length, getD, set, take, replicate, length-append}
@@ -16,11 +16,12 @@ use Rattle.script.specs.Count.{codeLength}
 use Rattle.script.specs.Jobs.{Job}
 use Rattle.thread.specs.declared.Thread.{Thread}
 use Rattle.thread.specs.Threads.{blank, spawned, push, add, begin, below, sourceOf, readFrom, noted, read, write, closed, firstStale, overlaid, exists}
-use Rattle.machine.specs.Steps.{State, Stepped, numberOf, threadAt, instruction, pick, fresh, run, act, settle, committing, commit, seated, Acted, Child}
+use Rattle.machine.specs.Steps.{State, Stepped, numberOf, threadAt, instruction, pick, fresh, run, ruled, act, perform, settle, committing, commit, seated, Acted, Child}
 use Rattle.machine.specs.Fits.{Walked, Exists, Fits, Typed, RangedThread, Ranged}
 use Rattle.machine.specs.InnerStands.{opOf, Ready, InRangeRule}
 use Rattle.machine.specs.Stands.{Stands, ValuedI, ValuedC}
-use Rattle.machine.proofs.Numbers.{in-table}
+use Rattle.machine.proofs.Numbers.{never, in-table}
+use Rattle.machine.proofs.Passing.{passed-low}
 use Rattle.machine.proofs.Walking.{adds-low}
 use Rattle.machine.proofs.Codes.{stands-end, stands-inside, ready-op}
 use Rattle.machine.proofs.Shapes.{Shape, out, open′ as shape-open, shape}
@@ -30,7 +31,8 @@ use Rattle.machine.proofs.Picks.{missing-idle, ended-idle, does}
 use Rattle.machine.proofs.Regions.{held}
 use Rattle.machine.proofs.Fresh.{no-record, fresh-typed, fresh-fits}
 use Rattle.machine.proofs.Agrees.{outer, step-fits}
-use Rattle.stm.specs.Events.{idle, Source, fromWrites, fromReads, fromTable, committed, sentBack}
+use Rattle.stm.specs.Events.{Event, idle, pushed, summed, forked, begun, looked, wrote, Source, fromWrites, fromReads, fromTable, committed, sentBack, isBack}
+use Rattle.stm.specs.Rules.{usedBy, ruleNumber, ruleAfter}
 use Rattle.word.specs.Registers.{none, member}
 use Rattle.word.specs.Sum.{InRange, Rule, wrapping}
 use Rattle.word.proofs.Sets.{with-small}
@@ -86,6 +88,7 @@ record Values (t : Thread) : Type 0 where
   writelog : AllInRange (t .writelog)
   reads : t .reads < 2 ^ 64
   writes : t .writes < 2 ^ 64
+  rule : t .rule < 2 ^ 64
 
 record AllValues (s : State) : Type 0 where
   registers : AllInRange (s .registers)
@@ -97,11 +100,11 @@ none-small = omega arith
 
 values-spawned : (start end : ℕ) → Values (spawned start end)
 unfolding spawned
-values-spawned start end = record { cells = zeros-in-range 64; readlog = zeros-in-range 64; writelog = zeros-in-range 64; reads = none-small; writes = none-small }
+values-spawned start end = record { cells = zeros-in-range 64; readlog = zeros-in-range 64; writelog = zeros-in-range 64; reads = none-small; writes = none-small; rule = omega arith }
 
 values-push : (n : ℤ) (next : ℕ) (t : Thread) → InRange n → Values t → Values (push n next t)
 unfolding push
-values-push n next t r v = record { cells = set-in-range (t .cells) (t .height) n r (v .cells); readlog = v .readlog; writelog = v .writelog; reads = v .reads; writes = v .writes }
+values-push n next t r v = record { cells = set-in-range (t .cells) (t .height) n r (v .cells); readlog = v .readlog; writelog = v .writelog; reads = v .reads; writes = v .writes; rule = v .rule }
 
 values-add : (sum : Rule) → InRangeRule sum → (t : Thread) → Values t → Values (add sum t)
 unfolding add
@@ -114,11 +117,12 @@ values-add sum f t v =
       writelog = v .writelog;
       reads = v .reads;
       writes = v .writes;
+      rule = v .rule;
     }
 
 values-begin : (t : Thread) → Values t → Values (begin t)
 unfolding begin
-values-begin t v = record { cells = v .cells; readlog = zeros-in-range 64; writelog = zeros-in-range 64; reads = none-small; writes = none-small }
+values-begin t v = record { cells = v .cells; readlog = zeros-in-range 64; writelog = zeros-in-range 64; reads = none-small; writes = none-small; rule = v .rule }
 
 read-in-range : (from : Source) (table : List ℤ) (t : Thread) (r : ℕ) → AllInRange table → Values t → InRange (readFrom from table t r)
 read-in-range fromWrites table t r f v = v .writelog r
@@ -128,7 +132,7 @@ read-in-range fromTable table t r f v = f r
 values-noted : (from : Source) (r : ℕ) (n : ℤ) (t : Thread) → InRange n → Values t → Values (noted from r n t)
 values-noted fromWrites r n t i v = v
 values-noted fromReads r n t i v = v
-values-noted fromTable r n t i v = record { cells = v .cells; readlog = set-in-range (t .readlog) r n i (v .readlog); writelog = v .writelog; reads = with-small (t .reads) r (v .reads); writes = v .writes }
+values-noted fromTable r n t i v = record { cells = v .cells; readlog = set-in-range (t .readlog) r n i (v .readlog); writelog = v .writelog; reads = with-small (t .reads) r (v .reads); writes = v .writes; rule = v .rule }
 
 values-read : (table : List ℤ) (r : ℕ) (t : Thread) → AllInRange table → Values t → Values (read table r t)
 unfolding read
@@ -139,34 +143,66 @@ values-read table r t f v =
 
 values-write : (r : ℕ) (t : Thread) → Values t → Values (write r t)
 unfolding write
-values-write r t v = record { cells = v .cells; readlog = v .readlog; writelog = set-in-range (t .writelog) r (below t 1) (v .cells (t .height - 1)) (v .writelog); reads = v .reads; writes = with-small (t .writes) r (v .writes) }
+values-write r t v = record { cells = v .cells; readlog = v .readlog; writelog = set-in-range (t .writelog) r (below t 1) (v .cells (t .height - 1)) (v .writelog); reads = v .reads; writes = with-small (t .writes) r (v .writes); rule = v .rule }
 
 values-closed : (place height : ℕ) (t : Thread) → Values t → Values (closed place height t)
 unfolding closed
-values-closed place height t v = record { cells = closed-in-range height (t .cells) (64 - height) (v .cells); readlog = zeros-in-range 64; writelog = zeros-in-range 64; reads = none-small; writes = none-small }
+values-closed place height t v = record { cells = closed-in-range height (t .cells) (64 - height) (v .cells); readlog = zeros-in-range 64; writelog = zeros-in-range 64; reads = none-small; writes = none-small; rule = v .rule }
 
 -- ---- the numbers and the sets of a state
 record ActedValues (a : Acted) : Type 0 where
   thread : Values (a .thread)
   table : AllInRange (a .table)
+  register : (v : ℕ) → a .event ≡ sentBack v → v < 64
+
+not-back : {A : Type 0} {e : Event} {v : ℕ} → isBack e ≡ false → e ≡ sentBack v → A
+not-back f q = never (ap isBack q) f
 
 values-commit : (table : List ℤ) (t : Thread) (r : ℕ) → Values t → AllInRange table → ActedValues (commit table t r)
 unfolding commit
-values-commit table t r v a = go (ltb r 64)
+values-commit table t r v a = go (ltb r 64) refl
   where
-    go : (b : Bool) → ActedValues (committing b table t r)
-    go true = record { thread = values-closed (t .begin) (t .base) t v; table = a }
-    go false = record { thread = values-closed (t .place + 1) (t .height) t v; table = overlaid-in-range 64 0 t table (v .writelog) a }
+    go : (b : Bool) → ltb r 64 ≡ b → ActedValues (committing b table t r)
+    go true e = record { thread = values-closed (t .begin) (t .base) t v; table = a; register = λ u q. let x : r ≡ u = cc in subst (λ (n : ℕ). n < 64) x (ltb-true r 64 e) }
+    go false e = record { thread = values-closed (t .place + 1) (t .height) t v; table = overlaid-in-range 64 0 t table (v .writelog) a; register = λ u q. not-back refl q }
+
+values-perform : (sum : Rule) → InRangeRule sum → (table : List ℤ) (t : Thread) (ins : Instruction) → ValuedI ins → Values t → AllInRange table → ActedValues (perform sum table t (opOf ins))
+unfolding perform ValuedI
+values-perform sum f table t (PUSH n) o v a = record { thread = values-push n (t .place + 5) t o v; table = a; register = λ u q. not-back refl q }
+values-perform sum f table t ADD o v a = record { thread = values-add sum f t v; table = a; register = λ u q. not-back refl q }
+values-perform sum f table t (READ r) o v a = record { thread = values-read table r t a v; table = a; register = λ u q. not-back refl q }
+values-perform sum f table t (WRITE r) o v a = record { thread = values-write r t v; table = a; register = λ u q. not-back refl q }
+values-perform sum f table t BEGIN o v a = record { thread = values-begin t v; table = a; register = λ u q. not-back refl q }
+values-perform sum f table t COMMIT o v a = values-commit table t _ v a
+values-perform sum f table t (FORK k) o v a = record { thread = values-push (pos 0) (t .place + 3 + length (instructionsBytes k)) t zero-in-range v; table = a; register = λ u q. not-back refl q }
+
+-- the number of a rule is below 74
+rule-small : (e : Event) (rule : ℕ) → rule < 2 ^ 64 → ((v : ℕ) → e ≡ sentBack v → v < 64) → ruleAfter e rule < 2 ^ 64
+unfolding ruleAfter usedBy ruleNumber
+rule-small idle rule l f = l
+rule-small pushed rule l f = omega arith
+rule-small (summed inside) rule l f = omega arith
+rule-small forked rule l f = omega arith
+rule-small begun rule l f = omega arith
+rule-small (looked fromWrites) rule l f = omega arith
+rule-small (looked fromReads) rule l f = omega arith
+rule-small (looked fromTable) rule l f = omega arith
+rule-small wrote rule l f = omega arith
+rule-small committed rule l f = omega arith
+rule-small (sentBack v) rule l f = let k = f v refl in omega arith
+
+values-ruled : (a : Acted) → ActedValues a → ActedValues (ruled a)
+values-ruled a x =
+    let v = x .thread in
+    record {
+      thread = record { cells = v .cells; readlog = v .readlog; writelog = v .writelog; reads = v .reads; writes = v .writes; rule = rule-small (a .event) (a .thread .rule) (v .rule) (x .register) };
+      table = x .table;
+      register = x .register;
+    }
 
 values-act : (sum : Rule) → InRangeRule sum → (table : List ℤ) (t : Thread) (ins : Instruction) → ValuedI ins → Values t → AllInRange table → ActedValues (act sum table t (opOf ins))
-unfolding act ValuedI
-values-act sum f table t (PUSH n) o v a = record { thread = values-push n (t .place + 5) t o v; table = a }
-values-act sum f table t ADD o v a = record { thread = values-add sum f t v; table = a }
-values-act sum f table t (READ r) o v a = record { thread = values-read table r t a v; table = a }
-values-act sum f table t (WRITE r) o v a = record { thread = values-write r t v; table = a }
-values-act sum f table t BEGIN o v a = record { thread = values-begin t v; table = a }
-values-act sum f table t COMMIT o v a = values-commit table t _ v a
-values-act sum f table t (FORK k) o v a = record { thread = values-push (pos 0) (t .place + 3 + length (instructionsBytes k)) t zero-in-range v; table = a }
+unfolding act
+values-act sum f table t ins o v a = values-ruled (perform sum table t (opOf ins)) (values-perform sum f table t ins o v a)
 
 values-seated : (count : ℕ) (cs : List Child) (ts : List Thread) → ((i : ℕ) → Values (getD ts i blank)) → (i : ℕ) → Values (getD (seated count cs ts) i blank)
 values-seated count [] ts f = f
@@ -183,8 +219,8 @@ values-settle count s i a v w =
 values-instruction : (sum : Rule) → InRangeRule sum → (s : State) (i : ℕ) (t : Thread) (ins : Instruction) → ValuedI ins → Values t → AllValues s → AllValues (instruction sum s i t (opOf ins) .state)
 values-instruction sum f s i t ins o v a = values-settle (numberOf (s .threads)) s i (act sum (s .registers) t (opOf ins)) (values-act sum f (s .registers) t ins o v (a .registers)) a
 
--- ---- the places, the heights and the note of a record
--- all below 6,000, which is far below 2 ^ 64
+-- ---- the places, the heights and the notes of a record, and its send-backs
+-- all far below 2 ^ 64
 pub record Low (t : Thread) : Type 0 where
   pub start : t .start < 6000
   pub end : t .end < 6000
@@ -193,6 +229,7 @@ pub record Low (t : Thread) : Type 0 where
   pub begin : t .begin < 6000
   pub base : t .base < 6000
   pub over : t .over < 6000
+  pub backs : t .backs < 96000
 
 fits-64 : (n : ℕ) → n < 6000 → n < 2 ^ 64
 fits-64 n l = omega arith
@@ -212,18 +249,20 @@ both t l v =
       begin = fits-64 (t .begin) (l .begin);
       base = fits-64 (t .base) (l .base);
       over = fits-64 (t .over) (l .over);
+      rule = v .rule;
+      backs = let b = l .backs in omega arith;
     }
 
 values-of : (s : State) → Ranged s → AllValues s
 values-of s r =
     record {
       registers = r .registers;
-      threads = λ i. let t = r .threads i in record { cells = t .cells; readlog = t .readlog; writelog = t .writelog; reads = t .reads; writes = t .writes };
+      threads = λ i. let t = r .threads i in record { cells = t .cells; readlog = t .readlog; writelog = t .writelog; reads = t .reads; writes = t .writes; rule = t .rule };
     }
 
 low-blank : Low blank
 unfolding blank
-low-blank = record { start = omega arith; end = omega arith; place = omega arith; height = omega arith; begin = omega arith; base = omega arith; over = omega arith }
+low-blank = record { start = omega arith; end = omega arith; place = omega arith; height = omega arith; begin = omega arith; base = omega arith; over = omega arith; backs = omega arith }
 
 -- code that stands in the bytes is within them
 stands-within : {bytes : List ℕ} {place end : ℕ} {c : Code} → Stands bytes place end c → (place ≤ end) × (end ≤ length bytes)
@@ -235,8 +274,8 @@ stands-within {bytes} {place} {end} {c} s =
     (omega arith, omega arith)
 
 -- the places of a thread that fits are within its code, and its heights at most 64
-low-held : {bytes : List ℕ} {t : Thread} → length bytes < 6000 → Held bytes t → Low t
-low-held {bytes} {t} short h = go (shape (h .region) (h .outer) (h .somewhere) (h .placed .walks))
+low-held : {bytes : List ℕ} {t : Thread} → length bytes < 6000 → t .backs < 96000 → Held bytes t → Low t
+low-held {bytes} {t} short few h = go (shape (h .region) (h .outer) (h .somewhere) (h .placed .walks))
   where
     height : t .height ≡ h .placed .walked .height
     height = h .placed .height
@@ -262,7 +301,7 @@ low-held {bytes} {t} short h = go (shape (h .region) (h .outer) (h .somewhere) (
         let eq′ = base in
         let a = adds-low bytes (t .start) (t .end) (h .placed .walks) in
         let o = h .placed .over in
-        record { start = omega arith; end = omega arith; place = omega arith; height = omega arith; begin = omega arith; base = omega arith; over = omega arith }
+        record { start = omega arith; end = omega arith; place = omega arith; height = omega arith; begin = omega arith; base = omega arith; over = omega arith; backs = omega arith }
 
     go : Shape bytes (t .start) (t .end) (t .place) (h .placed .walked) → Low t
     go (out c r o b z) = here 0 0 b (omega arith) z (omega arith) r
@@ -275,7 +314,7 @@ low-held {bytes} {t} short h = go (shape (h .region) (h .outer) (h .somewhere) (
 -- ---- states
 values-blank : Values blank
 unfolding blank
-values-blank = record { cells = zeros-in-range 64; readlog = zeros-in-range 64; writelog = zeros-in-range 64; reads = none-small; writes = none-small }
+values-blank = record { cells = zeros-in-range 64; readlog = zeros-in-range 64; writelog = zeros-in-range 64; reads = none-small; writes = none-small; rule = omega arith }
 
 values-fresh : (bytes : List ℕ) → AllValues (fresh bytes)
 unfolding fresh
@@ -287,7 +326,7 @@ values-fresh bytes = record { registers = zeros-in-range 64; threads = each }
 
 module _ {code : List ℕ} {j : Job} (c : IsCode code j) where
   -- a job's code has at most 5 bytes for each of 1,000 nodes, and 5 more
-  code-short : length code < 6000
+  pub code-short : length code < 6000
   unfolding codeLength
   code-short =
       let a : length code ≡ codeLength (j .tree) = ap length (c .text) ∙ code-length j in
@@ -299,7 +338,14 @@ module _ {code : List ℕ} {j : Job} (c : IsCode code j) where
   low-fits s f y i = go (exists (threadAt s i)) refl
     where
       go : (b : Bool) → exists (threadAt s i) ≡ b → Low (threadAt s i)
-      go true e = low-held code-short (held c (outer c) s f y i e)
+      go true e = low-held code-short few (held c (outer c) s f y i e)
+        where
+          few : threadAt s i .backs < 96000
+          few =
+              let a = f .tallied i e .not-above in
+              let b : f .commits ≤ 16 * length code = subst (λ (n : ℕ). f .commits ≤ n * length code) (f .records) (passed-low (f .passed)) in
+              let d = code-short in
+              omega arith
       go false e = subst Low (sym (f .no-thread i e)) low-blank
 
   ranged : (s : State) → Fits code s → Typed s → AllValues s → Ranged s

@@ -11,8 +11,8 @@ use Rattle.script.specs.Jobs.{Job}
 use Rattle.thread.specs.declared.Thread.{Thread}
 use Rattle.thread.specs.Threads.{readLog, writeLog}
 use Rattle.machine.specs.Steps.{State, Stepped, numberOf, threadAt, pick, run}
-use Rattle.stm.specs.Events.{Event, idle, Happened}
-use Rattle.machine.specs.Fits.{Exists, Placed, Fits, Typed}
+use Rattle.stm.specs.Events.{Event, idle, isCommit, more, Happened}
+use Rattle.machine.specs.Fits.{CommitsPassed, Exists, Placed, Fits, Typed}
 use Rattle.machine.specs.InnerStands.{registerCells, Ready}
 use Rattle.machine.specs.Stands.{stackFrom}
 use Rattle.machine.proofs.Shapes.{Shape, out, open′ as shape-open, shape}
@@ -21,7 +21,8 @@ use Rattle.machine.proofs.Simulates.{Held}
 use Rattle.machine.proofs.Mirrors.{Mirrors, Picked, stood, went, works, pick-mirrors, idle-missing}
 use Rattle.machine.proofs.Numbers.{below-exists}
 use Rattle.machine.proofs.Regions.{held}
-use Rattle.machine.proofs.Keeps.{keeps, has-room}
+use Rattle.machine.proofs.Keeps.{keeps, keeps-passed, has-room}
+use Rattle.machine.proofs.Passing.{passed-once}
 use Rattle.stm.specs.InnerTasks.{Task, outside, inside, ended, Did, System, taskAt, did, next, endOf, eventsOf}
 use Rattle.stm.specs.InnerMeaning.{Outside, Inside}
 use Rattle.stm.proofs.Sizes.{step-length}
@@ -82,7 +83,7 @@ module _ {bytes : List ℕ} {j : Job} (c : IsCode bytes j) (o : Outside (compile
   pub room-for : (sum : Rule) (s : State) (sys : System registerCells) → Fits bytes s → Typed s → Mirrors bytes s sys → (i : ℕ) (k : Code) → did registerCells sum sys i .children ≡ k ∷ [] → numberOf (s .threads) < 16
   room-for sum s sys f y m i = go (decLt i (length (sys .tasks)))
     where
-      by : (e : Exists s i) (h : Held bytes (threadAt s i)) → Picked bytes sum s sys i (h .placed .walked .children) → (k : Code) → did registerCells sum sys i .children ≡ k ∷ [] → numberOf (s .threads) < 16
+      by : (e : Exists s i) (h : Held bytes (threadAt s i)) → Picked bytes sum s sys i (h .placed .walked) → (k : Code) → did registerCells sum sys i .children ≡ k ∷ [] → numberOf (s .threads) < 16
       by e h (stood p d) = childless sum s sys i d
       by e h (went r p there x) = has-room c o s f y i e (h .placed) r (did registerCells sum sys i) x
 
@@ -99,6 +100,7 @@ module _ {bytes : List ℕ} {j : Job} (c : IsCode bytes j) (o : Outside (compile
     pub mirrors : Mirrors bytes (pick sum bytes s i .state) (next registerCells sum sys i)
     pub fits : Fits bytes (pick sum bytes s i .state)
     pub typed : Typed (pick sum bytes s i .state)
+    pub passed : (n : ℕ) → CommitsPassed bytes (s .threads) n → CommitsPassed bytes (pick sum bytes s i .state .threads) (more (isCommit (pick sum bytes s i .event)) n)
 
   pub pick-keeps : (sum : Rule) (s : State) (sys : System registerCells) → Fits bytes s → Typed s → Mirrors bytes s sys → (i : ℕ) → Kept sum s sys i
   pick-keeps sum s sys f y m i = go (decLt i (length (sys .tasks)))
@@ -109,19 +111,23 @@ module _ {bytes : List ℕ} {j : Job} (c : IsCode bytes j) (o : Outside (compile
       holds : (k : ℕ) → Exists s k → Held bytes (threadAt s k)
       holds k e = held c o s f y k e
 
-      all : Fits bytes (pick sum bytes s i .state) → Typed (pick sum bytes s i .state) → Kept sum s sys i
-      all g z =
+      Passes : Stepped → Type 0
+      Passes r = (n : ℕ) → CommitsPassed bytes (s .threads) n → CommitsPassed bytes (r .state .threads) (more (isCommit (r .event)) n)
+
+      all : Fits bytes (pick sum bytes s i .state) → Typed (pick sum bytes s i .state) → Passes (pick sum bytes s i) → Kept sum s sys i
+      all g z k =
           let x = pick-mirrors bytes sum s sys m (f .no-gap) i (holds i) (room-for sum s sys f y m i) in
-          record { event = x .event; over = x .over; mirrors = x .mirrors; fits = g; typed = z }
+          record { event = x .event; over = x .over; mirrors = x .mirrors; fits = g; typed = z; passed = k }
 
       same-state : pick sum bytes s i ≡ record { state = s; event = idle; over = 0 } → Kept sum s sys i
-      same-state p = all (subst (λ (x : Stepped). Fits bytes (x .state)) (sym p) f) (subst (λ (x : Stepped). Typed (x .state)) (sym p) y)
+      same-state p = all (subst (λ (x : Stepped). Fits bytes (x .state)) (sym p) f) (subst (λ (x : Stepped). Typed (x .state)) (sym p) y) (subst Passes (sym p) (λ n x. x))
 
-      by : (e : Exists s i) (h : Held bytes (threadAt s i)) → Picked bytes sum s sys i (h .placed .walked .children) → Kept sum s sys i
+      by : (e : Exists s i) (h : Held bytes (threadAt s i)) → Picked bytes sum s sys i (h .placed .walked) → Kept sum s sys i
       by e h (stood p d) = same-state p
       by e h (went r p there x) =
           let k = keeps c o s f y i e (h .placed) r (did registerCells sum sys i) (step-length registerCells sum (sys .table) (taskAt registerCells sys i) ∙ long) x in
           all (subst (λ (q : Stepped). Fits bytes (q .state)) (sym p) (k .0)) (subst (λ (q : Stepped). Typed (q .state)) (sym p) (k .1))
+          (subst Passes (sym p) (λ n z. subst (λ (m : ℕ). CommitsPassed bytes (r .state .threads) (more (isCommit (r .event)) m)) (passed-once (f .passed) z) (keeps-passed c o s f y i e (h .placed) r (did registerCells sum sys i) x)))
 
       go : Dec (i < length (sys .tasks)) → Kept sum s sys i
       go (yes l) =

@@ -40,7 +40,7 @@ pub data Shape (bytes : List ℕ) (start end place : ℕ) (w : Walked) : Type 0 
   open′ : (body c : Code) (k : ℕ) → Ready bytes place end c (w .height) → Inside c k (w .base) → w .height ≡ k + w .base → Begun bytes start end w body c → Shape bytes start end place w
 
 shut-same : (w : Walked) → w .begin ≡ 0 → w .base ≡ 0 → w .adds ≡ 0 → shut w ≡ w
-shut-same w b c a = λ i. record { height = w .height; begin = sym b i; base = sym c i; adds = sym a i; children = w .children }
+shut-same w b c a = λ i. record { height = w .height; begin = sym b i; base = sym c i; adds = sym a i; commits = w .commits; children = w .children }
 
 module _ {bytes : List ℕ} {start end : ℕ} where
   -- where no transaction is open

@@ -13,7 +13,7 @@ use lib.Seq.{getD-set-same, getD-set-other}
 use lib.Signed.{ltZ}
 use Rattle.code.specs.Compile.{Code, BEGIN, _⨾_}
 use Rattle.thread.specs.declared.Thread.{Thread}
-use Rattle.thread.specs.Threads.{begin, stale, firstStale, overlaid, logOf, readLog, writeLog}
+use Rattle.thread.specs.Threads.{withRule, begin, stale, firstStale, overlaid, logOf, readLog, writeLog}
 use Rattle.machine.specs.InnerStands.{registerCells, Ready}
 use Rattle.machine.specs.Stands.{stackFrom}
 use Rattle.machine.proofs.Placings.{closed-below}
@@ -28,6 +28,11 @@ use Rattle.word.proofs.Sets.{member-none, member-same, member-other}
 pub data Shows (bytes : List ℕ) (t : Thread) : Task registerCells → Type 0 where
   shut : (c : Code) → Ready bytes (t .place) (t .end) c (t .height) → Outside c (t .height) → t .begin ≡ 0 → Shows bytes t (outside c (stackFrom (t .cells) 0 (t .height)))
   open′ : (body c : Code) (k : ℕ) → Ready bytes (t .place) (t .end) c (t .height) → Inside c k (t .base) → t .height ≡ k + t .base → 1 ≤ t .begin → Ready bytes (t .begin) (t .end) (BEGIN ⨾ body) (t .base) → Outside (BEGIN ⨾ body) (t .base) → behind c ≡ behind body → Shows bytes t (inside body (stackFrom (t .cells) 0 (t .base)) c (stackFrom (t .cells) (t .base) k) (readLog t) (writeLog t) (t .over))
+
+-- another last rule and number of send-backs
+pub shows-moved : {bytes : List ℕ} {t : Thread} {task : Task registerCells} (rule backs : ℕ) → Shows bytes t task → Shows bytes (withRule rule backs t) task
+shows-moved rule backs (shut c r o z) = shut c r o z
+shows-moved rule backs (open′ body c k r i h b a o e) = open′ body c k r i h b a o e
 
 -- ---- stacks
 stack-same : (cells cells′ : List ℤ) (base k : ℕ) → ((i : ℕ) → i < k + base → getD cells i (pos 0) ≡ getD cells′ i (pos 0)) → stackFrom cells base k ≡ stackFrom cells′ base k

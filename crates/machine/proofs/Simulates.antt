@@ -6,7 +6,7 @@ use mathlib.Core.Path.{_≡_, refl, sym, ap, subst, _∙_}
 use mathlib.Core.List.{List, [], _∷_, _++_}
 use mathlib.Core.Option.{none, some}
 use native.Mathlib.Omega.{arith}
-use borrow.Author.Tests.{eq-eqb, ne-eqb}
+use borrow.Author.Tests.{eq-eqb, ne-eqb, ltb-true}
 use lib.Dec.{ltb}
 use lib.IntN.{ℤ, pos}
 use lib.ListN.{length, getD, set}
@@ -15,16 +15,17 @@ use Rattle.code.specs.Bytes.{instructionsBytes}
 use Rattle.code.specs.Counts.{Takes}
 use Rattle.code.specs.Ops as code
 use Rattle.thread.specs.declared.Thread.{Thread}
-use Rattle.thread.specs.Threads.{zeros, spawned, push, add, begin, below, sumTold, sumNoted, sourceOf, readFrom, noted, read, write, closed, firstStale, overlaid, logOf, readLog, writeLog}
-use Rattle.stm.specs.Events.{Source, fromWrites, fromReads, fromTable, summed, looked, sentBack, committed}
-use Rattle.machine.specs.Steps.{State, Stepped, numberOf, committing, commit, instruction, Child, act, settle}
-use Rattle.machine.specs.Fits.{walkOp, nextPlace, Walks, Placed, TypedThread}
+use Rattle.thread.specs.Threads.{zeros, spawned, push, add, begin, below, sumTold, sumNoted, sourceOf, readFrom, noted, read, write, closed, stale, firstStale, overlaid, logOf, readLog, writeLog}
+use Rattle.stm.specs.Events.{Source, fromWrites, fromReads, fromTable, summed, looked, sentBack, committed, isCommit, isBack, more}
+use Rattle.machine.specs.Steps.{State, Stepped, numberOf, committing, commit, instruction, Child, movedBy, ruled, act, perform, settle}
+use Rattle.machine.specs.Fits.{Walked, walkOp, nextPlace, Walks, Placed, TypedThread}
 use Rattle.machine.proofs.Walking.{not-before}
 use Rattle.machine.specs.InnerStands.{registerCells, tableOf, opOf, Ready, undone}
 use Rattle.machine.specs.Stands.{stackFrom}
 use Rattle.machine.proofs.Codes.{stands-inside, ready-op, ready-next, ready-child, ready-takes}
 use Rattle.machine.proofs.Shapes.{taking-two, taking-less, Shape, out, open′ as shape-open, shape}
-use Rattle.machine.proofs.Placings.{typed-push, typed-add, typed-begin, typed-read, typed-write, typed-closed, placed-push, placed-add, placed-read, read-kids, placed-write, placed-begin, placed-commit, commit-kids, placed-back, back-kids}
+use Rattle.machine.proofs.Placings.{typed-push, typed-add, typed-begin, typed-read, typed-write, typed-closed, placed-push, placed-add, placed-read, read-kids, read-commits, placed-write, placed-begin, placed-commit, commit-kids, commit-commits, placed-back, back-kids, back-commits}
+use Rattle.machine.proofs.Stale.{found-stale, stale-by, stale-none, stale-read, never-back}
 use Rattle.machine.proofs.Showings.{Shows, shut, open′, stack-suc, stack-set, stack-push, stack-add, stack-closed, log-none, log-with, first-same, overlaid-same}
 use Rattle.stm.specs.InnerTasks.{Log, outside, inside, Did, Found, logged, goes, found, foundIn, overwritten, commits, stepOutside, stepInside}
 use Rattle.stm.specs.InnerMeaning.{TakesOutside, TakesInside, Outside, Inside, behind}
@@ -45,17 +46,29 @@ pub data Born (bytes : List ℕ) (ts : List Thread) (n : ℕ) : List Code → Li
   nobody : Born bytes ts n [] [] ts
   child : {k : Code} (start end : ℕ) → Ready bytes start end k 0 → Outside k 0 → 1 ≤ start → Born bytes ts n (k ∷ []) (record { start = start; end = end } ∷ []) (set ts n (spawned start end))
 
--- a step of thread i, which was t and had passed the FORKs of `old`, and the step of its task
-pub record Simulated (bytes : List ℕ) (s : State) (i : ℕ) (t : Thread) (old : List Child) (r : Stepped) (d : Did registerCells) : Type 0 where
+-- a thread that is sent back had a stale read, and has none
+pub record WasStale (t thread : Thread) (table : List ℤ) : Type 0 where
+  pub register : ℕ
+  pub was : stale t table register ≡ true
+  pub none-now : (v : ℕ) → stale thread table v ≡ false
+
+-- a step of thread i, which was t and had walked so far, and the step of its task; `thread` is its record but for its rule and number of
+-- send-backs
+pub record Simulated (bytes : List ℕ) (s : State) (i : ℕ) (t : Thread) (old : Walked) (r : Stepped) (d : Did registerCells) : Type 0 where
   pub event : r .event ≡ d .event
   pub over : r .over ≡ d .over
   pub registers : tableOf (r .state) ≡ d .table
   pub thread : Thread
   pub born : List Child
-  pub threads : Born bytes (set (s .threads) i thread) (numberOf (s .threads)) (d .children) born (r .state .threads)
+  pub threads : Born bytes (set (s .threads) i (movedBy (r .event) thread)) (numberOf (s .threads)) (d .children) born (r .state .threads)
   pub typed : TypedThread thread
   pub placed : Placed bytes thread
-  pub kids : placed .walked .children ≡ born ++ old
+  pub kids : placed .walked .children ≡ born ++ old .children
+  pub commits : placed .walked .commits ≡ more (isCommit (r .event)) (old .commits)
+  pub backs : thread .backs ≡ t .backs
+  pub calm : (v : ℕ) → stale t (s .registers) v ≡ false → stale thread (s .registers) v ≡ false
+  pub sent-back : isBack (r .event) ≡ true → WasStale t thread (s .registers)
+  pub still : isCommit (r .event) ≡ false → r .state .registers ≡ s .registers
   pub shows : Shows bytes thread (d .task)
   pub start : thread .start ≡ t .start
   pub end : thread .end ≡ t .end
@@ -82,11 +95,11 @@ back-walks {bytes} {t} h l = go (shape (h .region) (h .outer) (h .somewhere) (h 
 
 module _ {bytes : List ℕ} (sum : Rule) (s : State) (j : ℕ) (t : Thread) (h : Held bytes t) where
   abbrev pub Sim : Stepped → Did registerCells → Type 0
-  Sim r d = Simulated bytes s j t (h .placed .walked .children) r d
+  Sim r d = Simulated bytes s j t (h .placed .walked) r d
 
   -- ---- outside a transaction
   pub from-outside : (i : Instruction) (c : Code) → Ready bytes (t .place) (t .end) (i ⨾ c) (t .height) → Outside (i ⨾ c) (t .height) → t .begin ≡ 0 → Sim (instruction sum s j t (opOf i)) (stepOutside registerCells sum (tableOf s) (i ⨾ c) (stackFrom (t .cells) 0 (t .height)))
-  unfolding act settle stepOutside Outside TakesOutside Takes nextPlace walkOp push begin placed-push placed-begin placed-add add stackFrom
+  unfolding act perform settle stepOutside Outside TakesOutside Takes nextPlace walkOp push begin placed-push placed-begin placed-add add stackFrom
   from-outside (PUSH n) c r o z =
       let l = stands-inside (r .stands) in
       let y = h .typed .cells in
@@ -101,6 +114,11 @@ module _ {bytes : List ℕ} (sum : Rule) (s : State) (j : ℕ) (t : Thread) (h :
         typed = typed-push n (t .place + 5) t (h .typed);
         placed = placed-push t (h .placed) l (code.push n) n (ready-op r) refl refl refl refl;
         kids = refl;
+        commits = refl;
+        backs = refl;
+        calm = stale-by _ _ _ refl refl;
+        sent-back = λ q. never-back q;
+        still = λ q. refl;
         shows = shown-outside (shut c (ready-next r) o z) (stack-push (t .cells) 0 (t .height) (t .height) n (omega arith) (omega arith));
         start = refl;
         end = refl;
@@ -119,6 +137,11 @@ module _ {bytes : List ℕ} (sum : Rule) (s : State) (j : ℕ) (t : Thread) (h :
         typed = typed-push (pos 0) (t .place + 3 + length (instructionsBytes m)) t (h .typed);
         placed = placed-push t (h .placed) l (code.fork (length (instructionsBytes m))) (pos 0) (ready-op r) refl refl refl refl;
         kids = refl;
+        commits = refl;
+        backs = refl;
+        calm = stale-by _ _ _ refl refl;
+        sent-back = λ q. never-back q;
+        still = λ q. refl;
         shows = shown-outside (shut c (ready-next r) (o .1) z) (stack-push (t .cells) 0 (t .height) (t .height) (pos 0) (omega arith) (omega arith));
         start = refl;
         end = refl;
@@ -140,6 +163,11 @@ module _ {bytes : List ℕ} (sum : Rule) (s : State) (j : ℕ) (t : Thread) (h :
         typed = typed-begin t (h .typed);
         placed = placed-begin t (h .placed) l (ready-op r) (omega arith);
         kids = refl;
+        commits = refl;
+        backs = refl;
+        calm = λ v z. stale-none _ _ refl v;
+        sent-back = λ q. never-back q;
+        still = λ q. refl;
         shows = shown-inside (open′ c c 0 (ready-next r) o (omega arith) (omega arith) r o refl) refl nothing-above (log-none zeros) (log-none zeros) refl;
         start = refl;
         end = refl;
@@ -164,6 +192,11 @@ module _ {bytes : List ℕ} (sum : Rule) (s : State) (j : ℕ) (t : Thread) (h :
             typed = typed-add sum t (h .typed);
             placed = placed-add t (h .placed) l sum (ready-op r) (omega arith) (omega arith);
             kids = refl;
+            commits = refl;
+            backs = refl;
+            calm = stale-by _ _ _ refl refl;
+            sent-back = λ q. never-back q;
+            still = λ q. refl;
             shows = shown-outside (shut c (ready-next r) (taking-less (λ (x : ℕ). Outside c x) (t .height) o) z) (added k e room);
             start = refl;
             end = refl;
@@ -206,7 +239,7 @@ module _ {bytes : List ℕ} (sum : Rule) (s : State) (j : ℕ) (t : Thread) (h :
   below-base = stackFrom (t .cells) 0 (t .base)
 
   inner-push : (n : ℤ) (body c : Code) (k : ℕ) → Inner (PUSH n) body c k → Sim (instruction sum s j t (code.push n)) (stepInside registerCells sum (tableOf s) body below-base (PUSH n ⨾ c) (stackFrom (t .cells) (t .base) k) reads writes (t .over))
-  unfolding act settle stepInside Inside TakesInside Takes nextPlace walkOp push placed-push behind
+  unfolding act perform settle stepInside Inside TakesInside Takes nextPlace walkOp push placed-push behind
   inner-push n body c k x =
       let l = stands-inside (x .ready .stands) in
       let y = h .typed .cells in
@@ -222,13 +255,18 @@ module _ {bytes : List ℕ} (sum : Rule) (s : State) (j : ℕ) (t : Thread) (h :
         typed = typed-push n (t .place + 5) t (h .typed);
         placed = placed-push t (h .placed) l (code.push n) n (ready-op (x .ready)) refl refl refl refl;
         kids = refl;
+        commits = refl;
+        backs = refl;
+        calm = stale-by _ _ _ refl refl;
+        sent-back = λ q. never-back q;
+        still = λ q. refl;
         shows = shown-inside (open′ body c (suc k) (ready-next (x .ready)) (x .goes-on) (omega arith) (x .somewhere) (x .again) (x .outer) (x .same)) (stack-set (t .cells) 0 (t .base) (t .height) n (omega arith)) (stack-push (t .cells) (t .base) k (t .height) n e (omega arith)) refl refl refl;
         start = refl;
         end = refl;
       }
 
   inner-add : (body c : Code) (k : ℕ) → Inner ADD body c (suc (suc k)) → Sim (instruction sum s j t code.add) (stepInside registerCells sum (tableOf s) body below-base (ADD ⨾ c) (stackFrom (t .cells) (t .base) (suc (suc k))) reads writes (t .over))
-  unfolding act settle stepInside Inside TakesInside nextPlace walkOp add placed-add behind stackFrom
+  unfolding act perform settle stepInside Inside TakesInside nextPlace walkOp add placed-add behind stackFrom
   inner-add body c k x =
       let l = stands-inside (x .ready .stands) in
       let y = h .typed .cells in
@@ -244,6 +282,11 @@ module _ {bytes : List ℕ} (sum : Rule) (s : State) (j : ℕ) (t : Thread) (h :
         typed = typed-add sum t (h .typed);
         placed = placed-add t (h .placed) l sum (ready-op (x .ready)) (omega arith) (omega arith);
         kids = refl;
+        commits = refl;
+        backs = refl;
+        calm = stale-by _ _ _ refl refl;
+        sent-back = λ q. never-back q;
+        still = λ q. refl;
         shows = shown-inside (open′ body c (suc k) (ready-next (x .ready)) (x .goes-on) (omega arith) (x .somewhere) (x .again) (x .outer) (x .same)) lower upper refl refl counted;
         start = refl;
         end = refl;
@@ -284,7 +327,7 @@ module _ {bytes : List ℕ} (sum : Rule) (s : State) (j : ℕ) (t : Thread) (h :
   found-same v l false false = ap (λ (r : Log ℤ). record { value = getD (s .registers) v (pos 0); source = fromTable; reads = r }) (sym (log-with (t .reads) (t .readlog) v (getD (s .registers) v (pos 0)) l (h .typed .readlog)))
 
   inner-read : (v : ℕ) (body c : Code) (k : ℕ) → Inner (READ v) body c k → Sim (instruction sum s j t (code.read v)) (stepInside registerCells sum (tableOf s) body below-base (READ v ⨾ c) (stackFrom (t .cells) (t .base) k) reads writes (t .over))
-  unfolding act settle stepInside Inside TakesInside Takes nextPlace walkOp behind found read sourceOf logOf push
+  unfolding act perform settle stepInside Inside TakesInside Takes nextPlace walkOp behind found read sourceOf logOf push
   inner-read v body c k x =
       subst (λ (f : Found registerCells). Sim (instruction sum s j t (code.read v)) (goes registerCells (inside body below-base c (f .value ∷ stackFrom (t .cells) (t .base) k) (f .reads) writes (t .over)) (s .registers) (looked (f .source))))
       (sym (found-same v (x .goes-on .0) (member (t .writes) v) (member (t .reads) v)))
@@ -298,6 +341,11 @@ module _ {bytes : List ℕ} (sum : Rule) (s : State) (j : ℕ) (t : Thread) (h :
         typed = typed-read (s .registers) v t (h .typed);
         placed = placed-read t (h .placed) l (s .registers) v (x .goes-on .0) (ready-op (x .ready)) (x .somewhere);
         kids = placed-read-kids;
+        commits = placed-read-commits;
+        backs = backs′ (sourceOf t v);
+        calm = read-calm;
+        sent-back = λ q. never-back q;
+        still = λ q. refl;
         shows = shown (sourceOf t v) (readFrom (sourceOf t v) (s .registers) t v);
         start = start′ (sourceOf t v);
         end = end′ (sourceOf t v);
@@ -308,6 +356,17 @@ module _ {bytes : List ℕ} (sum : Rule) (s : State) (j : ℕ) (t : Thread) (h :
 
       placed-read-kids : placed-read t (h .placed) l (s .registers) v (x .goes-on .0) (ready-op (x .ready)) (x .somewhere) .walked .children ≡ h .placed .walked .children
       placed-read-kids = read-kids t (h .placed) l (s .registers) v (x .goes-on .0) (ready-op (x .ready)) (x .somewhere)
+
+      placed-read-commits : placed-read t (h .placed) l (s .registers) v (x .goes-on .0) (ready-op (x .ready)) (x .somewhere) .walked .commits ≡ h .placed .walked .commits
+      placed-read-commits = read-commits t (h .placed) l (s .registers) v (x .goes-on .0) (ready-op (x .ready)) (x .somewhere)
+
+      backs′ : (from : Source) → noted from v (readFrom from (s .registers) t v) t .backs ≡ t .backs
+      backs′ fromWrites = refl
+      backs′ fromReads = refl
+      backs′ fromTable = refl
+
+      read-calm : (u : ℕ) → stale t (s .registers) u ≡ false → stale (read (s .registers) v t) (s .registers) u ≡ false
+      read-calm = stale-read (s .registers) v t (x .goes-on .0) (h .typed .readlog)
 
       shown : (from : Source) (n : ℤ) → Shows bytes (push n (t .place + 2) (noted from v n t)) (inside body below-base c (n ∷ stackFrom (t .cells) (t .base) k) (logOf (noted from v n t .reads) (noted from v n t .readlog)) writes (t .over))
       shown fromWrites n =
@@ -337,7 +396,7 @@ module _ {bytes : List ℕ} (sum : Rule) (s : State) (j : ℕ) (t : Thread) (h :
       end′ fromTable = refl
 
   inner-write : (v : ℕ) (body c : Code) (k : ℕ) → Inner (WRITE v) body c (suc k) → Sim (instruction sum s j t (code.write v)) (stepInside registerCells sum (tableOf s) body below-base (WRITE v ⨾ c) (stackFrom (t .cells) (t .base) (suc k)) reads writes (t .over))
-  unfolding act settle stepInside Inside TakesInside nextPlace walkOp write placed-write behind stackFrom
+  unfolding act perform settle stepInside Inside TakesInside nextPlace walkOp write placed-write behind stackFrom
   inner-write v body c k x =
       let l = stands-inside (x .ready .stands) in
       let e = x .height in
@@ -352,24 +411,29 @@ module _ {bytes : List ℕ} (sum : Rule) (s : State) (j : ℕ) (t : Thread) (h :
         typed = typed-write v t (h .typed);
         placed = placed-write t (h .placed) l v (x .goes-on .0) (ready-op (x .ready)) (x .somewhere);
         kids = refl;
+        commits = refl;
+        backs = refl;
+        calm = stale-by _ _ _ refl refl;
+        sent-back = λ q. never-back q;
+        still = λ q. refl;
         shows = shown-inside (open′ body c (suc k) (ready-next (x .ready)) (x .goes-on .1) e (x .somewhere) (x .again) (x .outer) (x .same)) refl refl refl (log-with (t .writes) (t .writelog) v (below t 1) (x .goes-on .0) (h .typed .writelog) ∙ ap (λ (p : ℕ). logged writes v (getD (t .cells) p (pos 0))) a) refl;
         start = refl;
         end = refl;
       }
 
   -- COMMIT: both find the same first stale register
-  inner-commit : (body c : Code) → Inner COMMIT body c 1 → (v : ℕ) → Sim (settle (numberOf (s .threads)) s j (commit (s .registers) t v)) (commits registerCells (tableOf s) body below-base c (getD (t .cells) (0 + t .base) (pos 0)) writes (t .over) v)
+  inner-commit : (body c : Code) → Inner COMMIT body c 1 → (v : ℕ) → (ltb v 64 ≡ true → stale t (s .registers) v ≡ true) → Sim (settle (numberOf (s .threads)) s j (ruled (commit (s .registers) t v))) (commits registerCells (tableOf s) body below-base c (getD (t .cells) (0 + t .base) (pos 0)) writes (t .over) v)
   unfolding commit settle Inside TakesInside behind closed nextPlace
-  inner-commit body c x v = go (ltb v 64)
+  inner-commit body c x v found = go (ltb v 64) found
     where
       l : t .place < t .end
       l = stands-inside (x .ready .stands)
 
-      go : (b : Bool) → Sim (settle (numberOf (s .threads)) s j (committing b (s .registers) t v)) (elim b [
+      go : (b : Bool) → (b ≡ true → stale t (s .registers) v ≡ true) → Sim (settle (numberOf (s .threads)) s j (ruled (committing b (s .registers) t v))) (elim b [
         | true ↦ record { task = outside (BEGIN ⨾ body) below-base; table = s .registers; children = []; event = sentBack v; over = 0 }
         | false ↦ record { task = outside c (getD (t .cells) (0 + t .base) (pos 0) ∷ below-base); table = overwritten registerCells 64 0 writes (tableOf s); children = []; event = committed; over = t .over }
       ])
-      go true =
+      go true sv =
           let y = h .typed .cells in
           let z = x .again .low in
           record {
@@ -382,11 +446,16 @@ module _ {bytes : List ℕ} (sum : Rule) (s : State) (j : ℕ) (t : Thread) (h :
             typed = typed-closed (t .begin) (t .base) t z (h .typed);
             placed = placed-back t (h .placed .walked) (h .placed .base) (back-walks h (x .somewhere));
             kids = back-kids t (h .placed .walked) (h .placed .base) (back-walks h (x .somewhere));
+            commits = back-commits t (h .placed .walked) (h .placed .base) (back-walks h (x .somewhere));
+            backs = refl;
+            calm = λ v z. stale-none _ _ refl v;
+            sent-back = λ q. record { register = v; was = sv refl; none-now = stale-none _ _ refl };
+            still = λ q. refl;
             shows = shown-outside (shut (BEGIN ⨾ body) (x .again) (x .outer) refl) (stack-closed (t .cells) 0 (t .base) (t .base) _ (omega arith) (omega arith));
             start = refl;
             end = refl;
           }
-      go false =
+      go false sv =
           let y = h .typed .cells in
           let z = x .ready .low in
           let e : t .height ≡ 1 + t .base = x .height in
@@ -401,6 +470,11 @@ module _ {bytes : List ℕ} (sum : Rule) (s : State) (j : ℕ) (t : Thread) (h :
             typed = typed-closed (t .place + 1) (t .height) t z (h .typed);
             placed = placed-commit t (h .placed) l (ready-op (x .ready));
             kids = commit-kids t (h .placed) l (ready-op (x .ready));
+            commits = commit-commits t (h .placed) l (ready-op (x .ready));
+            backs = refl;
+            calm = λ v z. stale-none _ _ refl v;
+            sent-back = λ q. never-back q;
+            still = λ q. never-back (sym q);
             shows = shown-outside (shut c (ready-next (x .ready)) (subst (λ (n : ℕ). Outside c n) f (x .goes-on .1)) refl) (stack-closed (t .cells) 0 (t .height) (t .height) _ (omega arith) (omega arith) ∙ (ap (λ (n : ℕ). stackFrom (t .cells) 0 n) (sym f) ∙ one-above));
             start = refl;
             end = refl;
@@ -410,13 +484,13 @@ module _ {bytes : List ℕ} (sum : Rule) (s : State) (j : ℕ) (t : Thread) (h :
           one-above = stack-suc (t .cells) 0 (t .base) ∙ ap (λ (p : ℕ). getD (t .cells) p (pos 0) ∷ below-base) (let e : t .base + 0 ≡ 0 + t .base = omega arith in e)
 
   commit-found : (body c : Code) → Inner COMMIT body c 1 → Sim (instruction sum s j t code.commit) (stepInside registerCells sum (tableOf s) body below-base (COMMIT ⨾ c) (stackFrom (t .cells) (t .base) 1) reads writes (t .over))
-  unfolding act settle stepInside stackFrom
+  unfolding act perform settle stepInside stackFrom
   commit-found body c x =
-      subst (λ (v : ℕ). Sim (instruction sum s j t code.commit) (commits registerCells (tableOf s) body below-base c (getD (t .cells) (0 + t .base) (pos 0)) writes (t .over) v)) (first-same 64 0 t (s .registers)) (inner-commit body c x (firstStale 64 0 t (s .registers)))
+      subst (λ (v : ℕ). Sim (instruction sum s j t code.commit) (commits registerCells (tableOf s) body below-base c (getD (t .cells) (0 + t .base) (pos 0)) writes (t .over) v)) (first-same 64 0 t (s .registers)) (inner-commit body c x (firstStale 64 0 t (s .registers)) (λ q. found-stale t (s .registers) (ltb-true (firstStale 64 0 t (s .registers)) 64 q) .its))
 
   -- any instruction inside
   pub from-inside : (i : Instruction) (body c : Code) (k : ℕ) → Inner i body c k → Sim (instruction sum s j t (opOf i)) (stepInside registerCells sum (tableOf s) body below-base (i ⨾ c) (stackFrom (t .cells) (t .base) k) reads writes (t .over))
-  unfolding act settle Inside TakesInside
+  unfolding act perform settle Inside TakesInside
   from-inside (PUSH n) body c k x = inner-push n body c k x
   from-inside ADD body c zero x = absurd (x .goes-on)
   from-inside ADD body c (suc zero) x = absurd (x .goes-on)

@@ -19,7 +19,7 @@ use Rattle.script.specs.Outcome.{done}
 use Rattle.script.specs.Turns.{Registers}
 use Rattle.thread.specs.declared.Thread.{Thread}
 use Rattle.thread.specs.Threads.{blank, spawned, exists, readLog, writeLog}
-use Rattle.machine.specs.Steps.{State, Stepped, numberOf, threadAt, instruction, pick, act, settle}
+use Rattle.machine.specs.Steps.{State, Stepped, numberOf, threadAt, instruction, pick, movedBy, act, perform, settle}
 use Rattle.stm.specs.Events.{Event, idle, pushed, summed, forked, begun, looked, wrote, committed, sentBack, isIdle}
 use Rattle.machine.specs.Fits.{Exists}
 use Rattle.machine.specs.Source.{Log, empty, SThread, StepM, Preempt, ForkM, PushM, AddM, BeginM, ReadM, WriteM, Committed, Failed}
@@ -35,7 +35,7 @@ use Rattle.machine.proofs.Simulates.{Held}
 use Rattle.machine.proofs.Mirrors.{Mirrors, same-start, spawned-exists, less-than, no-inside}
 use Rattle.machine.proofs.Numbers.{next-absent, at-end, number-small, number-is, below-exists, exists-below, never}
 use Rattle.machine.proofs.Rules.{preempted, preempted-rule, named-same, Peeled, peel, only}
-use Rattle.machine.proofs.Carryings.{newborn, Forks, nobody as no-child, child, Follows, Fine, follows}
+use Rattle.machine.proofs.Carryings.{carries-moved, newborn, Forks, nobody as no-child, child, Follows, Fine, follows}
 use Rattle.stm.specs.InnerTasks.{Task, outside, System, taskAt, did, stepOutside, stepTask}
 use Rattle.stm.specs.InnerMeaning.{taking1, TakesOutside, TakesInside, Outside, Inside}
 use Rattle.word.specs.Sum.{Rule}
@@ -298,13 +298,13 @@ module _ (bytes : List ℕ) (sum : Rule) where
       }
     where
       ts : List Thread
-      ts = set (s .threads) i (x .thread)
+      ts = set (s .threads) i (movedBy (r .event) (x .thread))
 
       before : Soup bytes s (front ++ (m ∷ behind))
       before = subst (λ (y : List SThread). Soup bytes s y) was a
 
       one : Soup bytes (record { registers = r .state .registers; threads = ts }) (front ++ (x .m′ ∷ behind))
-      one = changed s front m behind before i at (r .state .registers) (x .thread) (x .m′) (x .start) (x .carries)
+      one = changed s front m behind before i at (r .state .registers) (movedBy (r .event) (x .thread)) (x .m′) (x .start) (carries-moved _ _ (x .thread) (x .carries))
 
       small : i < numberOf (s .threads)
       small = let b = before .number in let c = length-append front (m ∷ behind) in omega arith
@@ -315,14 +315,14 @@ module _ (bytes : List ℕ) (sum : Rule) where
       still-free : exists (getD ts (suc (numberOf ts)) blank) ≡ false
       still-free =
           ap (λ (y : ℕ). exists (getD ts (suc y) blank)) number
-          ∙ (ap (λ (y : Thread). exists y) (getD-set-other (s .threads) i (suc (numberOf (s .threads))) (x .thread) blank (λ q. absurd (let z = small in omega arith))) ∙ next-absent s gap)
+          ∙ (ap (λ (y : Thread). exists y) (getD-set-other (s .threads) i (suc (numberOf (s .threads))) (movedBy (r .event) (x .thread)) blank (λ q. absurd (let z = small in omega arith))) ∙ next-absent s gap)
 
       go : (new : List SThread) (us : List Thread) → Forks bytes ts (numberOf (s .threads)) new us → Soup bytes (record { registers = r .state .registers; threads = us }) (front ++ (x .m′ ∷ (behind ++ new)))
       go new us no-child = subst (λ (y : List SThread). Soup bytes (record { registers = r .state .registers; threads = ts }) (front ++ (x .m′ ∷ y))) (sym (append-nil behind)) one
       go new us (child k start end there room c) =
           subst (λ (y : List SThread). Soup bytes (record { registers = r .state .registers; threads = set ts (numberOf (s .threads)) (spawned start end) }) y) (append-assoc front (x .m′ ∷ behind) (newborn k ∷ []))
           (subst (λ (y : ℕ). Soup bytes (record { registers = r .state .registers; threads = set ts y (spawned start end) }) ((front ++ (x .m′ ∷ behind)) ++ (newborn k ∷ []))) number
-          (grown (record { registers = r .state .registers; threads = ts }) (front ++ (x .m′ ∷ behind)) one (let w = length-set (s .threads) i (x .thread) in let v = number in omega arith) still-free (spawned start end) (newborn k) (spawned-exists start end there) c))
+          (grown (record { registers = r .state .registers; threads = ts }) (front ++ (x .m′ ∷ behind)) one (let w = length-set (s .threads) i (movedBy (r .event) (x .thread)) in let v = number in omega arith) still-free (spawned start end) (newborn k) (spawned-exists start end there) c))
 
   -- a pick that is not idle is a step of the soup, by the rule of its event
   pub pick-steps : (s : State) (sys : System registerCells) → Mirrors bytes s sys → ((i : ℕ) → Exists s (suc i) → Exists s i) → ((i : ℕ) → Exists s i → Held bytes (threadAt s i)) → (i : ℕ) → ((k : Code) → did registerCells sum sys i .children ≡ k ∷ [] → numberOf (s .threads) < 16) → (soup : List SThread) → Soup bytes s soup → isIdle (pick sum bytes s i .event) ≡ false → (h′ : Registers) × ((soup′ : List SThread) × PickOn bytes sum s i soup h′ soup′)

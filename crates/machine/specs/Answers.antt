@@ -1,8 +1,9 @@
 -- What `fresh`, `step` and `run` come to, leave and answer: document 01, "Turning a job down", 11 to 13.
-use Prim.Native.Nat.{ℕ, zero, suc, _<_, _≤_}
+use Prim.Native.Nat.{ℕ, zero, suc, _+_, _<_, _≤_}
 use mathlib.Core.Bool.{not, _&&_}
 use mathlib.Core.Path.{_≡_}
-use mathlib.Core.List.{List}
+use mathlib.Core.List.{List, [], _∷_}
+use mathlib.Core.Option.{Option}
 use lib.Dec.{eqb, ltb}
 use lib.IntN.{ℤ}
 use lib.ListN.{length}
@@ -11,12 +12,13 @@ use Rattle.machine.specs.declared.StepReply.{StepReply}
 use Rattle.machine.specs.declared.RunReply.{RunReply}
 use Rattle.thread.specs.declared.Thread.{Thread}
 use Rattle.stm.specs.Events.{Event, more, Counts, uncounted, countsOf, eventNumber, eventRegister, turnNumber, eventOf}
+use Rattle.stm.specs.Rules.{MachineRule, usedBy}
 use Rattle.machine.specs.Steps.{State, stateFrom, Stepped, pick, fresh, Ran, run}
 use Rattle.machine.specs.Fits.{Fits}
 use Rattle.machine.specs.FitTest.{fits}
 use Rattle.code.specs.Bytes.{IsCode, Foreign}
 use Rattle.code.specs.Reader.{readCode}
-use Rattle.script.specs.Outcome.{Outcome, refused, done, refuse, onward}
+use Rattle.script.specs.Outcome.{Outcome, refused, done, refuse, onward, mapped}
 use Rattle.script.specs.Jobs.{Job}
 use Rattle.word.specs.Sum.{Rule, wrapping}
 
@@ -81,6 +83,10 @@ pub record Told : Type 0 where
 
 abbrev pub stepSays : StepReply → Outcome Told
 stepSays r = saying (r .refusal) (r .place) (record { event = eventOf (r .event) (r .register) (r .turn); over = r .over })
+
+-- document 02 No. 4: the rule that a step's answer names; none is idle
+abbrev pub ruleNamed : StepReply → Outcome (Option MachineRule)
+ruleNamed r = mapped (λ (t : Told). usedBy (t .event)) (stepSays r)
 
 abbrev pub runSays : RunReply → Outcome Counts
 runSays r = saying (r .refusal) (r .place) (record { steps = r .steps; idle = r .idle; commits = r .commits; back = r .back; over = r .over })
@@ -154,3 +160,8 @@ stepCounts r =
 
 abbrev pub runCounts : RunReply → Counts
 runCounts r = reporting (r .refusal) (record { steps = r .steps; idle = r .idle; commits = r .commits; back = r .back; over = r .over })
+
+-- document 02 No. 4: the threads' numbers of send-backs, added up
+unfoldable pub backsOf : List Thread → ℕ
+backsOf [] = 0
+backsOf (t ∷ ts) = t .backs + backsOf ts

@@ -1,5 +1,5 @@
 -- The test that decides whether a state fits its code. Nobody has to believe it: `fits-exactly` says that it decides `Fits`.
-use Prim.Native.Nat.{ℕ, zero, suc}
+use Prim.Native.Nat.{ℕ, zero, suc, _+_}
 use mathlib.Core.Bool.{Bool, true, false, cond, not, _&&_, _||_}
 use mathlib.Core.List.{List, [], _∷_, _++_}
 use mathlib.Core.Option.{Option, none, some}
@@ -8,7 +8,7 @@ use lib.IntN.{ℤ, pos}
 use lib.ListN.{length, drop, getD}
 use lib.Signed.{ltZ}
 use Rattle.thread.specs.declared.Thread.{Thread}
-use Rattle.thread.specs.Threads.{exists}
+use Rattle.thread.specs.Threads.{exists, firstStale}
 use Rattle.machine.specs.Steps.{State, threadAt, Child}
 use Rattle.machine.specs.Fits.{Walked, unmoved, walkOp, nextPlace, ownCode}
 use Rattle.code.specs.Ops.{Op, opAt}
@@ -70,7 +70,9 @@ allZero t =
     && (eqb (t .over) 0
     && (eqb (t .reads) 0
     && (eqb (t .writes) 0
-    && (free (λ n. false) (t .cells) && (free (λ n. false) (t .readlog) && free (λ n. false) (t .writelog)))))))))))
+    && (eqb (t .rule) 0
+    && (eqb (t .backs) 0
+    && (free (λ n. false) (t .cells) && (free (λ n. false) (t .readlog) && free (λ n. false) (t .writelog)))))))))))))
 
 -- threads first, each placed; then records of no thread only
 unfoldable pub noneBehind : List Thread → Bool
@@ -111,10 +113,29 @@ unfoldable pub oneEach : List Child → List Thread → Bool
 oneEach [] ts = true
 oneEach (c ∷ cs) ts = eqb (threadsOf c ts) 1 && oneEach cs ts
 
+-- the COMMITs passed by all threads
+abbrev pub commitsOf : Option Walked → ℕ
+commitsOf none = 0
+commitsOf (some w) = w .commits
+
+unfoldable pub commitsPassed : List ℕ → List Thread → ℕ
+commitsPassed bytes [] = 0
+commitsPassed bytes (t ∷ ts) = cond (exists t) (commitsOf (walkTo bytes t)) 0 + commitsPassed bytes ts
+
+-- the fewest COMMITs passed with which a record fits: its number of send-backs, and one more if it has a stale read
+unfoldable pub needs : List ℤ → Thread → ℕ
+needs table t = cond (ltb (firstStale 64 0 t table) 64) (suc (t .backs)) (t .backs)
+
+unfoldable pub allTallied : (passed : ℕ) → List ℤ → List Thread → Bool
+allTallied passed table [] = true
+allTallied passed table (t ∷ ts) = leb (needs table t) passed && allTallied passed table ts
+
 unfoldable pub fits : List ℕ → State → Bool
 fits bytes s =
     eqb (length (s .threads)) 16
     && (eqb (length (s .registers)) 64
     && (same (ownCode (threadAt s 0)) (record { start = 5; end = length bytes })
     && (inFront bytes (s .threads)
-    && (allAmong (passedBy bytes (s .threads)) (drop 1 (s .threads)) && oneEach (passedBy bytes (s .threads)) (s .threads)))))
+    && (allAmong (passedBy bytes (s .threads)) (drop 1 (s .threads))
+    && (oneEach (passedBy bytes (s .threads)) (s .threads)
+    && allTallied (commitsPassed bytes (s .threads)) (s .registers) (s .threads))))))

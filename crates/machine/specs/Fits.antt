@@ -7,39 +7,53 @@ use lib.Dec.{eqb}
 use lib.IntN.{ℤ, pos}
 use lib.ListN.{length, drop, getD}
 use Rattle.thread.specs.declared.Thread.{Thread}
-use Rattle.thread.specs.Threads.{blank, exists}
+use Rattle.thread.specs.Threads.{blank, exists, stale}
 use Rattle.machine.specs.Steps.{State, threadAt, Child}
 use Rattle.code.specs.Ops.{Op, opAt}
 use Rattle.code.specs.Ops as code
 use Rattle.script.specs.Outcome.{done}
-use Rattle.word.specs.Registers.{none, member}
+use Rattle.word.specs.Registers.{member}
+use Rattle.word.specs.Registers as registers
 use Rattle.word.specs.Sum.{InRange}
 
 -- What the instructions before a place leave there: the stack height; the place and stack height of the BEGIN of an open transaction, and the
--- ADDs passed since, 0 if none is open; and the child codes of the FORKs passed, the last one first.
+-- ADDs passed since, 0 if none is open; how many COMMITs were passed; and the child codes of the FORKs passed, the last one first.
 pub record Walked : Type 0 where
   pub height : ℕ
   pub begin : ℕ
   pub base : ℕ
   pub adds : ℕ
+  pub commits : ℕ
   pub children : List Child
 
 abbrev pub unmoved : Walked
-unmoved = record { height = 0; begin = 0; base = 0; adds = 0; children = [] }
+unmoved = record { height = 0; begin = 0; base = 0; adds = 0; commits = 0; children = [] }
 
--- another stack height; other notes, no ADD passed since; an ADD passed; a FORK passed
+-- another stack height; other notes, no ADD passed since; an ADD passed; a COMMIT passed; a FORK passed
 abbrev pub risen : ℕ → Walked → Walked
-risen height w = record { height = height; begin = w .begin; base = w .base; adds = w .adds; children = w .children }
+risen height w = record { height = height; begin = w .begin; base = w .base; adds = w .adds; commits = w .commits; children = w .children }
 
 abbrev pub notes : (begin base : ℕ) → Walked → Walked
-notes begin base w = record { height = w .height; begin = begin; base = base; adds = 0; children = w .children }
+notes begin base w = record { height = w .height; begin = begin; base = base; adds = 0; commits = w .commits; children = w .children }
 
 abbrev pub addPassed : Walked → Walked
 addPassed w =
-    record { height = w .height; begin = w .begin; base = w .base; adds = cond (eqb (w .begin) 0) 0 (suc (w .adds)); children = w .children }
+    record {
+      height = w .height;
+      begin = w .begin;
+      base = w .base;
+      adds = cond (eqb (w .begin) 0) 0 (suc (w .adds));
+      commits = w .commits;
+      children = w .children;
+    }
+
+abbrev pub commitPassed : Walked → Walked
+commitPassed w =
+    record { height = w .height; begin = w .begin; base = w .base; adds = w .adds; commits = suc (w .commits); children = w .children }
 
 abbrev pub forking : Child → Walked → Walked
-forking child w = record { height = w .height; begin = w .begin; base = w .base; adds = w .adds; children = child ∷ w .children }
+forking child w =
+    record { height = w .height; begin = w .begin; base = w .base; adds = w .adds; commits = w .commits; children = child ∷ w .children }
 
 -- no transaction is open
 abbrev pub shut : Walked → Walked
@@ -53,7 +67,7 @@ walkOp (code.fork size) q w = forking (record { start = q + 3; end = q + 3 + siz
 walkOp code.begin q w = notes q (w .height) w
 walkOp (code.read v) q w = risen (suc (w .height)) w
 walkOp (code.write v) q w = w
-walkOp code.commit q w = shut w
+walkOp code.commit q w = commitPassed (shut w)
 
 -- "less the child code of the FORKs in it": the parent goes on behind it
 unfoldable pub nextPlace : Op → (place : ℕ) → ℕ
@@ -100,12 +114,26 @@ pub record Placed (bytes : List ℕ) (t : Thread) : Type 0 where
   -- document 02 No. 2: "An open attempt's count is one of its notes; above the ADDs passed since its BEGIN the state is foreign"
   pub over : t .over ≤ walked .adds
   -- "logs .. being empty otherwise"
-  pub no-reads : walked .begin ≡ 0 → t .reads ≡ none
-  pub no-writes : walked .begin ≡ 0 → t .writes ≡ none
+  pub no-reads : walked .begin ≡ 0 → t .reads ≡ registers.none
+  pub no-writes : walked .begin ≡ 0 → t .writes ≡ registers.none
   -- "Log values not marked, stack cells above the height .. hold 0"
   pub reads-free : (v : ℕ) → member (t .reads) v ≡ false → getD (t .readlog) v (pos 0) ≡ pos 0
   pub writes-free : (v : ℕ) → member (t .writes) v ≡ false → getD (t .writelog) v (pos 0) ≡ pos 0
   pub cells-free : (n : ℕ) → t .height ≤ n → getD (t .cells) n (pos 0) ≡ pos 0
+
+-- document 02 No. 4: "the COMMITs passed by all threads", ended ones too
+pub data CommitsPassed (bytes : List ℕ) : List Thread → ℕ → Type 0 where
+  no-records : CommitsPassed bytes [] 0
+  of-thread :
+      {t : Thread} {ts : List Thread} {w : Walked} {n : ℕ} →
+      exists t ≡ true → Walks bytes (t .start) (t .end) (t .place) w → CommitsPassed bytes ts n → CommitsPassed bytes (t ∷ ts) (w .commits + n)
+  of-none : {t : Thread} {ts : List Thread} {n : ℕ} → exists t ≡ false → CommitsPassed bytes ts n → CommitsPassed bytes (t ∷ ts) n
+
+-- "A state is foreign if such a number is above the COMMITs passed by all threads, or equal to it while that thread's open transaction has a
+-- stale read": of a thread's record, so many COMMITs being passed
+pub record BacksWithin (passed : ℕ) (table : List ℤ) (t : Thread) : Type 0 where
+  pub not-above : t .backs ≤ passed
+  pub not-stale : t .backs ≡ passed → (v : ℕ) → stale t table v ≡ false
 
 -- thread i exists
 abbrev pub Exists : State → ℕ → Type 0
@@ -143,6 +171,10 @@ pub record Fits (bytes : List ℕ) (s : State) : Type 0 where
   pub no-gap : (i : ℕ) → Exists s (suc i) → Exists s i
   -- "records of threads that do not exist hold 0"
   pub no-thread : (i : ℕ) → exists (threadAt s i) ≡ false → threadAt s i ≡ blank
+  -- document 02 No. 4: each thread's number of send-backs against the COMMITs passed by all threads
+  pub commits : ℕ
+  pub passed : CommitsPassed bytes (s .threads) commits
+  pub tallied : (i : ℕ) → Exists s i → BacksWithin commits (s .registers) (threadAt s i)
 
 -- ---- what every state that can be lent has by its type alone: 64 cells, 64 values in each log
 pub record TypedThread (t : Thread) : Type 0 where
@@ -167,6 +199,8 @@ pub record RangedThread (t : Thread) : Type 0 where
   pub begin : t .begin < 2 ^ 64
   pub base : t .base < 2 ^ 64
   pub over : t .over < 2 ^ 64
+  pub rule : t .rule < 2 ^ 64
+  pub backs : t .backs < 2 ^ 64
 
 pub record Ranged (s : State) : Type 0 where
   pub registers : (v : ℕ) → InRange (getD (s .registers) v (pos 0))

@@ -10,6 +10,8 @@ use Rattle.code.specs.Compile.{Code, PUSH, ADD, READ, WRITE, BEGIN, COMMIT, FOR
 use Rattle.thread.specs.declared.Thread.{Thread}
 use Rattle.thread.specs.Threads.{readLog, writeLog}
 use Rattle.machine.specs.Steps.{State, numberOf, threadAt, pick}
+use Rattle.stm.specs.Rules as rules
+use Rattle.stm.specs.Rules.{MachineRule}
 use Rattle.stm.specs.Events.{Event, idle, pushed, summed, forked, begun, looked, wrote, committed, sentBack}
 use Rattle.machine.specs.Source.{empty, SThread, consistent, StepM, Preempt, ForkM, PushM, AddM, BeginM, ReadM, WriteM, Committed, Failed}
 use Rattle.script.specs.Tree.{Proc}
@@ -82,7 +84,7 @@ First WriteM = Unit {0}
 First (Committed e) = Unit {0}
 First (Failed e) = Unit {0}
 
--- the rule of an event
+-- the source's rule of an event
 abbrev pub named : Event → Option Name
 named idle = none
 named pushed = some push
@@ -93,6 +95,19 @@ named (looked source) = some read
 named wrote = some write
 named committed = some commit
 named (sentBack v) = some fail
+
+-- the source's rule of a machine rule of document 02 No. 4: it has one for READ, wherever that finds its value
+unfoldable pub sourceRule : MachineRule → Name
+sourceRule rules.push = push
+sourceRule rules.sum = add
+sourceRule rules.fork = fork
+sourceRule rules.begin = begin
+sourceRule rules.readFromWriteLog = read
+sourceRule rules.readFromReadLog = read
+sourceRule rules.readFromTable = read
+sourceRule rules.write = write
+sourceRule rules.commit = commit
+sourceRule (rules.sentBackWith v) = fail
 
 -- a step by the rule that an event names
 pub record ByRule (sum : Rule) (h : Registers) (soup : List SThread) (h′ : Registers) (soup′ : List SThread) (event : Event) : Type 0 where

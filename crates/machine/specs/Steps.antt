@@ -7,7 +7,8 @@ use lib.Dec.{eqb, ltb}
 use lib.IntN.{ℤ, pos}
 use lib.ListN.{length, drop, getD, set, replicate}
 use Rattle.thread.specs.declared.Thread.{Thread}
-use Rattle.thread.specs.Threads.{exists, blank, spawned, below, push, sumTold, add, begin, sourceOf, read, write, closed, stale, firstStale, overlaid}
+use Rattle.thread.specs.Threads.{exists, blank, withRule, spawned, below, push, sumTold, add, begin, sourceOf, read, write, closed, stale, firstStale, overlaid}
+use Rattle.stm.specs.Rules.{ruleAfter, backsAfter}
 use Rattle.stm.specs.Events.{Source, fromWrites, fromReads, fromTable, Event, idle, pushed, summed, forked, begun, looked, wrote, committed, sentBack, Happened, isIdle}
 use Rattle.code.specs.Ops.{Op, opAt}
 use Rattle.code.specs.Ops as code
@@ -62,10 +63,10 @@ unfoldable pub commit : (table : List ℤ) → Thread → (v : ℕ) → Acted
 commit table t v = committing (ltb v 64) table t v
 
 -- each instruction, in document 01's order
-unfoldable pub act : Rule → (table : List ℤ) → Thread → Op → Acted
-act sum table t (code.push n) = alters (push n (t .place + 5) t) table pushed 0
-act sum table t code.add = alters (add sum t) table (summed (not (eqb (t .begin) 0))) (sumTold t)
-act sum table t (code.fork size) =
+unfoldable pub perform : Rule → (table : List ℤ) → Thread → Op → Acted
+perform sum table t (code.push n) = alters (push n (t .place + 5) t) table pushed 0
+perform sum table t code.add = alters (add sum t) table (summed (not (eqb (t .begin) 0))) (sumTold t)
+perform sum table t (code.fork size) =
     record {
       thread = push (pos 0) (t .place + 3 + size) t;
       table = table;
@@ -73,10 +74,21 @@ act sum table t (code.fork size) =
       event = forked;
       over = 0;
     }
-act sum table t code.begin = alters (begin t) table begun 0
-act sum table t (code.read v) = alters (read table v t) table (looked (sourceOf t v)) 0
-act sum table t (code.write v) = alters (write v t) table wrote 0
-act sum table t code.commit = commit table t (firstStale 64 0 t table)
+perform sum table t code.begin = alters (begin t) table begun 0
+perform sum table t (code.read v) = alters (read table v t) table (looked (sourceOf t v)) 0
+perform sum table t (code.write v) = alters (write v t) table wrote 0
+perform sum table t code.commit = commit table t (firstStale 64 0 t table)
+
+-- document 02 No. 4: "Each thread record now also holds its last rule that was not idle, .. and its own number of send-backs"
+abbrev pub movedBy : Event → Thread → Thread
+movedBy e t = withRule (ruleAfter e (t .rule)) (backsAfter e (t .backs)) t
+
+abbrev pub ruled : Acted → Acted
+ruled a = record { thread = movedBy (a .event) (a .thread); table = a .table; children = a .children; event = a .event; over = a .over }
+
+-- an instruction, the rule that it used being held in the thread's record
+unfoldable pub act : Rule → (table : List ℤ) → Thread → Op → Acted
+act sum table t op = ruled (perform sum table t op)
 
 -- ---- one pick
 pub record Stepped : Type 0 where

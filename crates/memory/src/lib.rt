@@ -31,6 +31,8 @@ fn filler() -> thread::Thread {
         readlog: [7; 64],
         writes: 7,
         writelog: [7; 64],
+        rule: 7,
+        backs: 7,
     }
 }
 
@@ -66,24 +68,26 @@ fn field(t: thread::Thread, k: usize) -> u64 {
         5 => t.base as u64,
         6 => t.over as u64,
         7 => t.reads,
-        _ => t.writes,
+        8 => t.writes,
+        9 => t.rule as u64,
+        _ => t.backs as u64,
     }
 }
 
-// Number k of a record: 0 to 8 start, end, place, height, begin, base, over, reads, writes; from 9 the stack cells, from 73 the read log's
-// values, from 137 the write log's.
+// Number k of a record: 0 to 10 start, end, place, height, begin, base, over, reads, writes, rule, backs; from 11 the stack cells, from 75 the
+// read log's values, from 139 the write log's.
 fn number(t: thread::Thread, k: usize) -> u64 {
-    if k < 9 {
+    if k < 11 {
         return field(t, k);
     }
-    if k < 73 {
-        return bits(t.cells[k - 9]);
+    if k < 75 {
+        return bits(t.cells[k - 11]);
     }
-    if k < 137 {
-        return bits(t.readlog[k - 73]);
+    if k < 139 {
+        return bits(t.readlog[k - 75]);
     }
-    if k < 201 {
-        return bits(t.writelog[k - 137]);
+    if k < 203 {
+        return bits(t.writelog[k - 139]);
     }
     0
 }
@@ -110,7 +114,7 @@ fn sum_registers(registers: [i32; 65]) -> Running {
 fn sum_thread(sum: Running, t: thread::Thread) -> Running {
     let mut s = sum;
     let mut k: usize = 0;
-    while k < 201 {
+    while k < 203 {
         s = and(s, number(t, k));
         k += 1;
     }
@@ -148,7 +152,7 @@ fn same_registers(a: [i32; 65], b: [i32; 65]) -> bool {
 
 fn same_thread(a: thread::Thread, b: thread::Thread) -> bool {
     let mut k: usize = 0;
-    while k < 201 {
+    while k < 203 {
         if number(a, k) != number(b, k) {
             return false;
         }
@@ -184,7 +188,7 @@ pub fn same(a: Memory, b: Memory) -> bool {
 
 // ---- changes that a text asks for. Names are numbers by `text::word_number`
 
-// The number, as in `number`, that a field's name stands for, or that its first entry has; 201 for any other name.
+// The number, as in `number`, that a field's name stands for, or that its first entry has; 203 for any other name.
 fn field_number(name: u64) -> usize {
     match name {
         20579924 => 0, // start
@@ -196,10 +200,12 @@ fn field_number(name: u64) -> usize {
         514226 => 6, // over
         19039379 => 7, // reads
         790941875 => 8, // writes
-        103820 => 9, // cell
-        19496317415 => 73, // readlog
-        809924473319 => 137, // writelog
-        _ => 201,
+        611717 => 9, // rule
+        2133363 => 10, // backs
+        103820 => 11, // cell
+        19496317415 => 75, // readlog
+        809924473319 => 139, // writelog
+        _ => 203,
     }
 }
 
@@ -239,8 +245,16 @@ fn put_field(mut t: thread::Thread, k: usize, value: u64) -> thread::Thread {
             t.reads = value;
             t
         }
-        _ => {
+        8 => {
             t.writes = value;
+            t
+        }
+        9 => {
+            t.rule = n;
+            t
+        }
+        _ => {
+            t.backs = n;
             t
         }
     }
@@ -248,20 +262,20 @@ fn put_field(mut t: thread::Thread, k: usize, value: u64) -> thread::Thread {
 
 // A record with another number k, counted as in `number`.
 fn put(mut t: thread::Thread, k: usize, n: text::Number) -> thread::Thread {
-    if k < 9 {
+    if k < 11 {
         return put_field(t, k, n.value);
     }
     let v = text::signed(n);
-    if k < 73 {
-        t.cells[k - 9] = v;
+    if k < 75 {
+        t.cells[k - 11] = v;
         return t;
     }
-    if k < 137 {
-        t.readlog[k - 73] = v;
+    if k < 139 {
+        t.readlog[k - 75] = v;
         return t;
     }
-    if k < 201 {
-        t.writelog[k - 137] = v;
+    if k < 203 {
+        t.writelog[k - 139] = v;
         return t;
     }
     t
@@ -321,7 +335,7 @@ impl Memory {
         if i > 16 {
             return self.bad();
         }
-        if k > 200 {
+        if k > 202 {
             return self.bad();
         }
         if !n.good {
@@ -337,7 +351,7 @@ impl Memory {
     fn with_thread(self, words: &[u8]) -> Memory {
         let i = text::size(text::part(words, b' ', 2), 16);
         let k = field_number(text::word_number(text::part(words, b' ', 3)));
-        if k < 9 {
+        if k < 11 {
             return self.with_number(i, k, text::parse_number(text::part(words, b' ', 4)));
         }
         let entry = text::size(text::part(words, b' ', 4), 63);
@@ -389,17 +403,24 @@ fn entry_number(k: usize, entry: usize) -> usize {
 
 // ---- what is written
 
-// Writes a record that is a thread's: done and its result, or open.
-fn write_thread(t: thread::Thread, i: usize) {
-    if t.start == 0 {
-        return;
-    }
-    text::write_number(b", thread ", i);
+// Writes whether a thread is done, and its result, or open.
+fn write_place(t: thread::Thread) {
     if t.place == t.end {
         text::write_signed(b" done ", t.cells[0]);
         return;
     }
     text::write(b" open");
+}
+
+// Writes a record that is a thread's: done or open, its last rule and its send-backs.
+fn write_thread(t: thread::Thread, i: usize) {
+    if t.start == 0 {
+        return;
+    }
+    text::write_number(b", thread ", i);
+    write_place(t);
+    text::write_number(b" rule ", t.rule);
+    text::write_number(b" backs ", t.backs);
 }
 
 fn write_threads(threads: [thread::Thread; 17]) {

@@ -25,6 +25,7 @@ use Rattle.machine.specs.declared.RunReply.{RunReply}
 use Rattle.machine.specs.declared.StepReply.{StepReply}
 use Rattle.machine.proofs.Calls.{step-refused, step-taken, run-refused, run-taken}
 use Rattle.machine.proofs.FitTests.{fits-exactly}
+use Rattle.machine.proofs.Ranges.{code-short}
 use Rattle.script.specs.Bytes.{Bytes}
 use Rattle.script.specs.Jobs.{Job}
 use Rattle.script.specs.Outcome.{Outcome, refused, done}
@@ -69,35 +70,44 @@ number-low (t ∷ ts) = go (exists t) (number-low ts)
     go true l = omega arith
     go false l = omega arith
 
-module _ (code : List ℕ) (s : State) (is : List ℕ) (b : Bytes code) (y : Typed s) where
-  its : surveyFits (surveyOf (s .threads)) code (length (s .registers)) ≡ fits code s
-  its = survey-fits code s
+-- the survey of a state and the test say the same of code that is no foreign code, which is short; of foreign code neither is asked
+survey-of : {code : List ℕ} {j : Job} → IsCode code j → (s : State) → surveyFits (surveyOf (s .registers) (s .threads)) code (length (s .registers)) ≡ fits code s
+survey-of {code} c s = survey-fits code s (let l = code-short c in omega arith)
 
+pub same-refusal : (code : List ℕ) (s : State) (n : ℕ) → Bytes code → refusalOf (readCode code) (surveyFits (surveyOf (s .registers) (s .threads)) code (length (s .registers))) n ≡ refusalOf (readCode code) (fits code s) n
+unfolding refusalOf
+same-refusal code s n b = go (readCode code) refl
+  where
+    go : (o : Outcome Job) → readCode code ≡ o → refusalOf o (surveyFits (surveyOf (s .registers) (s .threads)) code (length (s .registers))) n ≡ refusalOf o (fits code s) n
+    go (refused number place) e = refl
+    go (done j) e = ap (λ (x : Bool). refusalOf (done j) x n) (survey-of (read-is-code code j b e) s)
+
+module _ (code : List ℕ) (s : State) (is : List ℕ) (b : Bytes code) (y : Typed s) where
   refusal : ℕ
   refusal = refusalOf (readCode code) (fits code s) (length is)
 
-  admitted : admitting code s (length is) ≡ beginning (refusalOf (readCode code) (fits code s) (length is)) (surveyOf (s .threads) .count) (length is)
+  admitted : admitting code s (length is) ≡ beginning (refusalOf (readCode code) (fits code s) (length is)) (surveyOf (s .registers) (s .threads) .count) (length is)
   unfolding admitting
-  admitted = ap (λ (x : Bool). beginning (refusalOf (readCode code) x (length is)) (surveyOf (s .threads) .count) (length is)) its
+  admitted = ap (λ (r : ℕ). beginning r (surveyOf (s .registers) (s .threads) .count) (length is)) (same-refusal code s (length is) b)
 
   -- what a run by value comes to, by the progress with which it begins
   abbrev from : Progress → Returned RunReply
   from p = answering (driven code (p .limit) is (record { state = s; progress = p }))
 
-  refused-run : (n : ℕ) → refusalOf (readCode code) (fits code s) (length is) ≡ suc n → from (beginning (suc n) (surveyOf (s .threads) .count) (length is)) ≡ runCall code s is
+  refused-run : (n : ℕ) → refusalOf (readCode code) (fits code s) (length is) ≡ suc n → from (beginning (suc n) (surveyOf (s .registers) (s .threads) .count) (length is)) ≡ runCall code s is
   unfolding beginning driven
   refused-run n e = rw (ne-eqb (suc n) 0 (λ e. absurd (omega arith))) (sym (run-refused code s is (suc n) 0 (run-refuses code s is n e)))
 
-  taken-run : refusalOf (readCode code) (fits code s) (length is) ≡ 0 → from (beginning 0 (surveyOf (s .threads) .count) (length is)) ≡ runCall code s is
+  taken-run : refusalOf (readCode code) (fits code s) (length is) ≡ 0 → from (beginning 0 (surveyOf (s .registers) (s .threads) .count) (length is)) ≡ runCall code s is
   unfolding beginning runOf
   taken-run e =
       let k = admits code s (length is) e in
       let c = read-is-code code (k .job) b (k .read) in
       let f = fits-exactly code s y .0 (k .fit) in
-      let n = survey-count (s .threads) (survey-parts (surveyOf (s .threads)) code (length (s .registers)) (its ∙ k .fit) .good) in
-      let few : surveyOf (s .threads) .count ≤ 16 = let a = number-low (s .threads) in let r = f .records in omega arith in
+      let n = survey-count (s .registers) (s .threads) (survey-parts (surveyOf (s .registers) (s .threads)) code (length (s .registers)) (survey-of c s ∙ k .fit) .good) in
+      let few : surveyOf (s .registers) (s .threads) .count ≤ 16 = let a = number-low (s .threads) in let r = f .records in omega arith in
       let short = k .short in
-      let p : Progress = beginning 0 (surveyOf (s .threads) .count) (length is) in
+      let p : Progress = beginning 0 (surveyOf (s .registers) (s .threads) .count) (length is) in
       let room : Room (length is) p = record { threads = omega arith; steps = omega arith; idle = omega arith; commits = omega arith; back = omega arith; over = omega arith } in
       let ran : runOf code s is ≡ done (run wrapping code s is) = rw (k .read, k .fit, le-ltb 32768 (length is) (k .short)) in
       answers (driven code (length is) is (record { state = s; progress = p })) (run wrapping code s is) (numberOf (run wrapping code s is .state .threads)) (driven-refusal code (length is) is (record { state = s; progress = p })) (drive-runs c is s f y p (ap (λ (m : ℕ). record { threads = m; counts = uncounted }) n) room)
@@ -107,9 +117,9 @@ module _ (code : List ℕ) (s : State) (is : List ℕ) (b : Bytes code) (y : Typ
   unfolding ranBy
   run-by-value = ap from admitted ∙ go (refusalOf (readCode code) (fits code s) (length is)) refl
     where
-      go : (r : ℕ) → refusalOf (readCode code) (fits code s) (length is) ≡ r → from (beginning (refusalOf (readCode code) (fits code s) (length is)) (surveyOf (s .threads) .count) (length is)) ≡ runCall code s is
-      go zero e = ap (λ (r : ℕ). from (beginning r (surveyOf (s .threads) .count) (length is))) e ∙ taken-run e
-      go (suc n) e = ap (λ (r : ℕ). from (beginning r (surveyOf (s .threads) .count) (length is))) e ∙ refused-run n e
+      go : (r : ℕ) → refusalOf (readCode code) (fits code s) (length is) ≡ r → from (beginning (refusalOf (readCode code) (fits code s) (length is)) (surveyOf (s .registers) (s .threads) .count) (length is)) ≡ runCall code s is
+      go zero e = ap (λ (r : ℕ). from (beginning r (surveyOf (s .registers) (s .threads) .count) (length is))) e ∙ taken-run e
+      go (suc n) e = ap (λ (r : ℕ). from (beginning r (surveyOf (s .registers) (s .threads) .count) (length is))) e ∙ refused-run n e
 
 -- ---- a step
 answers-step : (s : State) (who : ℕ) (g : Given) (r : Stepped) → settledBy s who g .state ≡ r .state → g .picked .progress .refusal ≡ 0 → Tells (r .event) (g .picked .progress) → g .picked .progress .over ≡ r .over → _≡_ {A = Returned StepReply} (record { state = settledBy s who g .state; reply = stepReplyOf (g .picked .progress) }) (record { state = r .state; reply = stepReply (done r) })
@@ -127,28 +137,28 @@ step-refuses code s i n e = go (readCode code) refl (fits code s) refl e
     go (done k) x true z e = absurd (omega arith)
 
 module _ (code : List ℕ) (s : State) (i : ℕ) (b : Bytes code) (y : Typed s) where
-  admitted-one : admitting code s 1 ≡ beginning (refusalOf (readCode code) (fits code s) 1) (surveyOf (s .threads) .count) 1
+  admitted-one : admitting code s 1 ≡ beginning (refusalOf (readCode code) (fits code s) 1) (surveyOf (s .registers) (s .threads) .count) 1
   unfolding admitting
-  admitted-one = ap (λ (x : Bool). beginning (refusalOf (readCode code) x 1) (surveyOf (s .threads) .count) 1) (survey-fits code s)
+  admitted-one = ap (λ (r : ℕ). beginning r (surveyOf (s .registers) (s .threads) .count) 1) (same-refusal code s 1 b)
 
   abbrev one-from : Progress → Returned StepReply
   one-from p =
       let d = driven code (p .limit) (i ∷ []) (record { state = s; progress = p }) in
       record { state = d .state; reply = stepReplyOf (d .progress) }
 
-  refused-step : (n : ℕ) → refusalOf (readCode code) (fits code s) 1 ≡ suc n → one-from (beginning (suc n) (surveyOf (s .threads) .count) 1) ≡ stepCall code s i
+  refused-step : (n : ℕ) → refusalOf (readCode code) (fits code s) 1 ≡ suc n → one-from (beginning (suc n) (surveyOf (s .registers) (s .threads) .count) 1) ≡ stepCall code s i
   unfolding beginning driven
   refused-step n e = rw (ne-eqb (suc n) 0 (λ e. absurd (omega arith))) (sym (step-refused code s i (suc n) 0 (step-refuses code s i n e)))
 
-  taken-step : refusalOf (readCode code) (fits code s) 1 ≡ 0 → one-from (beginning 0 (surveyOf (s .threads) .count) 1) ≡ stepCall code s i
+  taken-step : refusalOf (readCode code) (fits code s) 1 ≡ 0 → one-from (beginning 0 (surveyOf (s .registers) (s .threads) .count) 1) ≡ stepCall code s i
   unfolding beginning stepOf driven tally.turned events.tally
   taken-step e =
       let k = admits code s 1 e in
       let c = read-is-code code (k .job) b (k .read) in
       let f = fits-exactly code s y .0 (k .fit) in
-      let n : surveyOf (s .threads) .count ≡ numberOf (s .threads) = survey-count (s .threads) (survey-parts (surveyOf (s .threads)) code (length (s .registers)) (survey-fits code s ∙ k .fit) .good) in
-      let few : surveyOf (s .threads) .count ≤ 16 = let a = number-low (s .threads) in let r = f .records in omega arith in
-      let p : Progress = beginning 0 (surveyOf (s .threads) .count) 1 in
+      let n : surveyOf (s .registers) (s .threads) .count ≡ numberOf (s .threads) = survey-count (s .registers) (s .threads) (survey-parts (surveyOf (s .registers) (s .threads)) code (length (s .registers)) (survey-of c s ∙ k .fit) .good) in
+      let few : surveyOf (s .registers) (s .threads) .count ≤ 16 = let a = number-low (s .threads) in let r = f .records in omega arith in
+      let p : Progress = beginning 0 (surveyOf (s .registers) (s .threads) .count) 1 in
       let low : Low p = record { threads = omega arith; steps = omega arith; idle = omega arith; commits = omega arith; back = omega arith; over = omega arith } in
       let t = perform-turns c s f y i p low in
       let w = perform-tells c s f y i p in
@@ -164,6 +174,6 @@ module _ (code : List ℕ) (s : State) (i : ℕ) (b : Bytes code) (y : Typed s) 
   unfolding steppedBy
   step-by-value = ap one-from admitted-one ∙ go (refusalOf (readCode code) (fits code s) 1) refl
     where
-      go : (r : ℕ) → refusalOf (readCode code) (fits code s) 1 ≡ r → one-from (beginning (refusalOf (readCode code) (fits code s) 1) (surveyOf (s .threads) .count) 1) ≡ stepCall code s i
-      go zero e = ap (λ (r : ℕ). one-from (beginning r (surveyOf (s .threads) .count) 1)) e ∙ taken-step e
-      go (suc n) e = ap (λ (r : ℕ). one-from (beginning r (surveyOf (s .threads) .count) 1)) e ∙ refused-step n e
+      go : (r : ℕ) → refusalOf (readCode code) (fits code s) 1 ≡ r → one-from (beginning (refusalOf (readCode code) (fits code s) 1) (surveyOf (s .registers) (s .threads) .count) 1) ≡ stepCall code s i
+      go zero e = ap (λ (r : ℕ). one-from (beginning r (surveyOf (s .registers) (s .threads) .count) 1)) e ∙ taken-step e
+      go (suc n) e = ap (λ (r : ℕ). one-from (beginning r (surveyOf (s .registers) (s .threads) .count) 1)) e ∙ refused-step n e

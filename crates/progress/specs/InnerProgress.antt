@@ -59,7 +59,7 @@ whichOf pick = cond (ltb pick 16) pick 0
 unfoldable pub reachOf : (pick length : ℕ) → ℕ
 reachOf pick length = cond (ltb pick 16) length 0
 
--- whether it changes the stack and the note of its record and not its logs
+-- whether it changes the stack, the note and the last rule of its record and not its logs
 unfoldable pub plainPick : (code : List ℕ) (pick : ℕ) → Thread → Bool
 plainPick bytes pick t = plainIn (take (reachOf pick (length bytes)) bytes) t
 
@@ -199,8 +199,8 @@ unfoldable pub admitting : (code : List ℕ) → State → (picks : ℕ) → Pro
 admitting code s picks =
     admittedTo
     (readCode code)
-    (surveyFits (surveyOf (s .threads)) code (length (s .registers)))
-    (surveyOf (s .threads) .count)
+    (surveyFits (surveyOf (s .registers) (s .threads)) code (length (s .registers)))
+    (surveyOf (s .registers) (s .threads) .count)
     picks
 
 unfoldable pub ranBy : (code : List ℕ) → State → (picks : List ℕ) → Returned RunReply

@@ -145,7 +145,7 @@ pub fn perform(
     }
 }
 
-// Whether a pick changes the stack and the note of its record and not its logs.
+// Whether a pick changes the stack, the note and the last rule of its record and not its logs.
 pub fn is_plain(t: thread::Thread, code: &[u8], pick: u8) -> bool
     ensures { λ r. ⌜ r ≡ plainPick (now (code .entry)) pick t ⌝ }
 {
@@ -153,7 +153,7 @@ pub fn is_plain(t: thread::Thread, code: &[u8], pick: u8) -> bool
     t.is_plain(&code[..reach])
 }
 
-// A pick that changes the stack and the note of its record, without the copies of the logs that `perform` makes; any other pick is idle. The table
+// A pick that changes the stack, the note and the last rule of its record, without the copies of the logs that `perform` makes; any other pick is idle. The table
 // stays.
 pub fn plain(t: thread::Thread, code: &[u8], registers: &mut [i32], pick: u8, p: Progress) -> Picked
     ensures { λ r. ⌜ given r (now (registers .exit)) ≡ plainedBy (now (code .entry)) (now (registers .entry)) pick t p ⌝ }

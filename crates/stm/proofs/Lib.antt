@@ -1,5 +1,6 @@
 -- Theorems of the machine with logs.
 pub mod Counts
+pub mod Rules
 pub mod Codes
 pub mod Logs
 pub mod Sizes

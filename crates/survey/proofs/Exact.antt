@@ -1,30 +1,35 @@
--- The survey of any records says exactly what the test of machine/specs/FitTest says of them. Assumes nothing.
-use Prim.Native.Nat.{ℕ, suc, _+_, _<_}
-use mathlib.Core.Bool.{Bool, true, false, not, _&&_, _||_}
-use mathlib.Core.Path.{_≡_, refl, sym, ap, _∙_}
+-- The survey of any records says exactly what the test of machine/specs/FitTest says of them, for code of fewer than 2 ^ 60 bytes. Assumes
+-- nothing else.
+use Prim.Native.Nat.{ℕ, zero, suc, _+_, _*_, _≤_, _<_}
+use mathlib.Core.Bool.{Bool, true, false, cond, not, _&&_, _||_}
+use mathlib.Core.Path.{_≡_, refl, sym, ap, subst, _∙_}
 use mathlib.Core.List.{List, [], _∷_, _++_}
 use mathlib.Core.Option.{Option, none, some}
 use native.Mathlib.Omega.{arith}
-use borrow.Author.Tests.{eqb-true, eq-eqb}
-use lib.Dec.{eqb, leb}
+use native.Mathlib.Numerals.{add-one}
+use borrow.Author.Tests.{eqb-true, eq-eqb, ltb-true, lt-leb}
+use lib.Dec.{eqb, leb, ltb}
 use lib.IntN.{ℤ}
-use lib.ListN.{length, drop, take}
-use lib.Seq.{take-suc}
+use lib.ListN.{length, drop, getD, take, drop-of-length-le}
+use lib.Seq.{drop-cons, take-suc}
 use Rattle.thread.specs.declared.Thread.{Thread}
-use Rattle.thread.specs.Threads.{blank, exists}
+use Rattle.thread.specs.InnerStep.{staleRead}
+use Rattle.thread.specs.Threads.{blank, exists, firstStale}
 use Rattle.machine.specs.Steps.{State, threadAt, Child, numberOf}
 use Rattle.machine.specs.Fits.{Walked, ownCode}
-use Rattle.machine.specs.FitTest.{walkTo, free, agreesWith, placed, allZero, noneBehind, inFront, same, passedBy, among, allAmong, oneEach, fits}
+use Rattle.machine.specs.FitTest.{walkTo, free, agreesWith, placed, allZero, noneBehind, inFront, same, passedBy, among, allAmong, oneEach, commitsPassed, needs, allTallied, fits}
 use Rattle.survey.specs.declared.Survey.{Survey}
 use Rattle.survey.specs.declared.Row.{Row}
-use Rattle.survey.specs.InnerRecords.{emptySurvey, zeroFrom, tidy, withTo, surveyFrom, surveyOf}
-use Rattle.survey.specs.InnerWalk.{ownAt, firstVerdict, rowAt, judgeAll, allAsked, surveyFits}
+use Rattle.survey.specs.InnerRecords.{emptySurvey, zeroFrom, tidy, needIn, withTo, surveyFrom, surveyOf}
+use Rattle.survey.specs.InnerWalk.{ownAt, firstVerdict, rowAt, judgeAll, allAsked, allMet, surveyFits}
 use Rattle.survey.proofs.Yes.{never, alike, first, second, both}
 use Rattle.survey.proofs.Records.{zeros-of, shut, tidy-of, is-tidy}
 use Rattle.survey.proofs.Judging.{survey-parts, survey-whole}
 use Rattle.survey.proofs.Shows.{tidyFront, at, Shows, survey-shows, survey-good}
 use Rattle.survey.proofs.Asking.{asked-among}
 use Rattle.survey.proofs.Judges.{agrees, agreeAll, AllJudged, all-judged, judged-all}
+use Rattle.machine.proofs.Passing.{found-low}
+use Rattle.word.specs.InnerCount.{saturated}
 use Rattle.word.specs.Registers.{member}
 use Rattle.word.specs.Registers as registers
 use Rattle.word.proofs.Sets.{member-none}
@@ -104,6 +109,35 @@ parts-front bytes (t ∷ ts) e a = go (exists t) e a (λ f g. parts-front bytes 
     go true f a ih = both (parts-placed bytes t (first (tidy t) _ f) (first (agrees t (walkTo bytes t)) _ a)) (ih (second (tidy t) _ f) (second (agrees t (walkTo bytes t)) _ a))
     go false f a ih = f
 
+-- ---- what a record needs
+need-same : (table : List ℤ) (t : Thread) (n : ℕ) → length table ≡ 64 → n < 18446744073709551615 → leb (needIn table t) n ≡ leb (needs table t) n
+unfolding needIn needs staleRead saturated
+need-same table t n wide small =
+    ap (λ (b : Bool). leb (cond (cond b found false) (saturated (t .backs) 1) (t .backs)) n) (eq-eqb (length table) 64 wide) ∙ go found
+  where
+    found : Bool
+    found = ltb (firstStale 64 0 t table) 64
+
+    one : (c : Bool) → ltb 18446744073709551615 (t .backs + 1) ≡ c → leb (cond c 18446744073709551615 (t .backs + 1)) n ≡ leb (suc (t .backs)) n
+    one true e =
+        let l = ltb-true 18446744073709551615 (t .backs + 1) e in
+        lt-leb 18446744073709551615 n small ∙ sym (lt-leb (suc (t .backs)) n (omega arith))
+    one false e = ap (λ (k : ℕ). leb k n) (add-one (t .backs))
+
+    go : (b : Bool) → leb (cond b (saturated (t .backs) 1) (t .backs)) n ≡ leb (cond b (suc (t .backs)) (t .backs)) n
+    go true = one (ltb 18446744073709551615 (t .backs + 1)) refl
+    go false = refl
+
+module _ (table : List ℤ) (wide : length table ≡ 64) (ts : List Thread) (long : length ts ≡ 16) (ns : List ℕ) (are : (i : ℕ) → getD ns i 0 ≡ needIn table (at ts i)) (n : ℕ) (small : n < 18446744073709551615) where
+  met-tallied : (left i : ℕ) → i + left ≡ 16 → allMet left i ns n ≡ allTallied n table (drop i ts)
+  unfolding allMet allTallied
+  met-tallied zero i e = ap (allTallied n table) (sym (drop-of-length-le ts {i = i} (omega arith)))
+  met-tallied (suc left) i e =
+      ap (λ (k : ℕ). leb k n && allMet left (suc i) ns n) (are i)
+      ∙ (ap (λ (b : Bool). b && allMet left (suc i) ns n) (need-same table (at ts i) n wide small)
+      ∙ (ap (λ (b : Bool). leb (needs table (at ts i)) n && b) (met-tallied left (suc i) (omega arith))
+      ∙ ap (allTallied n table) (sym (drop-cons ts i blank (omega arith)))))
+
 -- ---- the whole test
 module _ (bytes : List ℕ) (ts : List Thread) (table : List ℤ) where
   abbrev state : State
@@ -119,6 +153,7 @@ module _ (bytes : List ℕ) (ts : List Thread) (table : List ℤ) where
     front : inFront bytes ts ≡ true
     children : allAmong (passedBy bytes ts) (drop 1 ts) ≡ true
     one : oneEach (passedBy bytes ts) ts ≡ true
+    tallied : allTallied (commitsPassed bytes ts) table ts ≡ true
 
   fit-parts : fits bytes state ≡ true → FitParts
   unfolding fits
@@ -127,25 +162,27 @@ module _ (bytes : List ℕ) (ts : List Thread) (table : List ℤ) where
       let e2 = second (eqb (length table) 64) _ e1 in
       let e3 = second (same (ownCode (threadAt state 0)) whole) _ e2 in
       let e4 = second (inFront bytes ts) _ e3 in
+      let e5 = second (allAmong (passedBy bytes ts) (drop 1 ts)) _ e4 in
       record {
         records = eqb-true (length ts) 16 (first _ _ e);
         registers = eqb-true (length table) 64 (first _ _ e1);
         root = first _ _ e2;
         front = first _ _ e3;
         children = first _ _ e4;
-        one = second (allAmong (passedBy bytes ts) (drop 1 ts)) _ e4;
+        one = first _ _ e5;
+        tallied = second (oneEach (passedBy bytes ts) ts) _ e5;
       }
 
   parts-fit : FitParts → fits bytes state ≡ true
   unfolding fits
   parts-fit p =
       both (eq-eqb (length ts) 16 (p .records))
-      (both (eq-eqb (length table) 64 (p .registers)) (both (p .root) (both (p .front) (both (p .children) (p .one)))))
+      (both (eq-eqb (length table) 64 (p .registers)) (both (p .root) (both (p .front) (both (p .children) (both (p .one) (p .tallied))))))
 
   abbrev s : Survey
-  s = surveyOf ts
+  s = surveyOf table ts
 
-  module _ (sh : Shows ts s) (long : length ts ≡ 16) where
+  module _ (sh : Shows table ts s) (long : length ts ≡ 16) where
     owns : (i : ℕ) → ownAt (s .starts) (s .ends) i ≡ ownCode (at ts i)
     owns i = ap (λ (r : Row). record { start = r .start; end = r .end }) (sh .rows i)
 
@@ -160,13 +197,25 @@ module _ (bytes : List ℕ) (ts : List Thread) (table : List ℤ) where
     asked-is : judgeAll bytes s .good ≡ true → allAsked 15 1 (s .starts) (judgeAll bytes s .asked) ≡ allAmong (passedBy bytes ts) (drop 1 ts)
     asked-is g = asked-among ts long (s .starts) (s .ends) owns (passedBy bytes ts) (judgeAll bytes s .asked) (members g) 15 1 refl
 
+    -- the COMMITs passed, and the records for which they are enough
+    commits-are : 16 * length bytes < 18446744073709551615 → judgeAll bytes s .good ≡ true → judgeAll bytes s .commits ≡ commitsPassed bytes ts
+    unfolding firstVerdict
+    commits-are short g =
+        let a : commitsPassed bytes ts ≤ 16 * length bytes = subst (λ (n : ℕ). commitsPassed bytes ts ≤ n * length bytes) long (found-low bytes ts) in
+        judged g .counts (omega arith) ∙ (let z : 0 + commitsPassed bytes ts ≡ commitsPassed bytes ts = omega arith in z)
+
+    met-is : 16 * length bytes < 18446744073709551615 → length table ≡ 64 → judgeAll bytes s .good ≡ true → allMet 16 0 (s .needs) (judgeAll bytes s .commits) ≡ allTallied (commitsPassed bytes ts) table ts
+    met-is short wide g =
+        let a : commitsPassed bytes ts ≤ 16 * length bytes = subst (λ (n : ℕ). commitsPassed bytes ts ≤ n * length bytes) long (found-low bytes ts) in
+        ap (allMet 16 0 (s .needs)) (commits-are short g) ∙ met-tallied table wide ts long (s .needs) (sh .needs) (commitsPassed bytes ts) (omega arith) 16 0 refl
+
     root-is : same (ownAt (s .starts) (s .ends) 0) whole ≡ same (ownCode (threadAt state 0)) whole
     root-is = ap (λ (c : Child). same c whole) (owns 0)
 
-  there : surveyFits s bytes (length table) ≡ true → fits bytes state ≡ true
-  there e =
+  there : 16 * length bytes < 18446744073709551615 → surveyFits s bytes (length table) ≡ true → fits bytes state ≡ true
+  there short e =
       let p = survey-parts s bytes (length table) e in
-      let sh = survey-shows ts (p .good) in
+      let sh = survey-shows table ts (p .good) in
       let long : length ts ≡ 16 = sym (sh .seen) ∙ p .seen in
       let j = judged sh long (p .judged) in
       parts-fit
@@ -177,15 +226,16 @@ module _ (bytes : List ℕ) (ts : List Thread) (table : List ℤ) where
         front = parts-front bytes ts (sh .front) (j .agree);
         children = sym (asked-is sh long (p .judged)) ∙ p .asked;
         one = j .one;
+        tallied = sym (met-is sh long short (p .table) (p .judged)) ∙ p .met;
       })
 
-  back : fits bytes state ≡ true → surveyFits s bytes (length table) ≡ true
+  back : 16 * length bytes < 18446744073709551615 → fits bytes state ≡ true → surveyFits s bytes (length table) ≡ true
   unfolding judgeAll firstVerdict
-  back e =
+  back short e =
       let p = fit-parts e in
       let f = front-parts bytes ts (p .front) in
       let long = p .records in
-      let sh = survey-shows ts (survey-good ts (omega arith) (f .0)) in
+      let sh = survey-shows table ts (survey-good table ts (omega arith) (f .0)) in
       let g : judgeAll bytes s .good ≡ true = judged-all bytes ts long (s .starts) (s .ends) (owns sh long) (rowAt s) (sh .rows) 16 0 firstVerdict refl refl (f .1) (p .one) in
       survey-whole s bytes (length table)
       (record {
@@ -195,22 +245,23 @@ module _ (bytes : List ℕ) (ts : List Thread) (table : List ℤ) where
         root = root-is sh long ∙ p .root;
         judged = g;
         asked = asked-is sh long g ∙ p .children;
+        met = met-is sh long short (p .registers) g ∙ p .tallied;
       })
 
--- the survey of any records, any code and any register table says what `fits` says
-pub survey-fits : (bytes : List ℕ) (s : State) → surveyFits (surveyOf (s .threads)) bytes (length (s .registers)) ≡ fits bytes s
-survey-fits bytes s = alike _ _ (there bytes (s .threads) (s .registers)) (back bytes (s .threads) (s .registers))
+-- the survey of any records, any register table and any code short enough for its COMMITs to be counted says what `fits` says
+pub survey-fits : (bytes : List ℕ) (s : State) → 16 * length bytes < 18446744073709551615 → surveyFits (surveyOf (s .registers) (s .threads)) bytes (length (s .registers)) ≡ fits bytes s
+survey-fits bytes s short = alike _ _ (there bytes (s .threads) (s .registers) short) (back bytes (s .threads) (s .registers) short)
 
 -- a good survey has the number of threads
-pub survey-count : (ts : List Thread) → surveyOf ts .good ≡ true → surveyOf ts .count ≡ numberOf ts
-survey-count ts g = survey-shows ts g .count
+pub survey-count : (table : List ℤ) (ts : List Thread) → surveyOf table ts .good ≡ true → surveyOf table ts .count ≡ numberOf ts
+survey-count table ts g = survey-shows table ts g .count
 
 -- ---- the survey, record after record
-from-more : (s : Survey) (ts : List Thread) (t : Thread) → surveyFrom s (ts ++ t ∷ []) ≡ withTo (surveyFrom s ts) t
+from-more : (s : Survey) (table : List ℤ) (ts : List Thread) (t : Thread) → surveyFrom s table (ts ++ t ∷ []) ≡ withTo (surveyFrom s table ts) table t
 unfolding surveyFrom
-from-more s [] t = refl
-from-more s (p ∷ ts) t = from-more (withTo s p) ts t
+from-more s table [] t = refl
+from-more s table (p ∷ ts) t = from-more (withTo s table p) table ts t
 
-pub survey-more : (ts : List Thread) (i : ℕ) → i < length ts → surveyOf (take (suc i) ts) ≡ withTo (surveyOf (take i ts)) (at ts i)
+pub survey-more : (table : List ℤ) (ts : List Thread) (i : ℕ) → i < length ts → surveyOf table (take (suc i) ts) ≡ withTo (surveyOf table (take i ts)) table (at ts i)
 unfolding surveyOf
-survey-more ts i h = ap surveyOf (take-suc ts i blank h) ∙ from-more emptySurvey (take i ts) (at ts i)
+survey-more table ts i h = ap (surveyOf table) (take-suc ts i blank h) ∙ from-more emptySurvey table (take i ts) (at ts i)

@@ -1,6 +1,6 @@
 -- What the walks of all threads come to: each record agrees with its walk, each FORK passed has exactly one thread, and the records asked
 -- for are those whose own code a FORK passed has. Assumes nothing.
-use Prim.Native.Nat.{ℕ, zero, suc, _+_, _<_}
+use Prim.Native.Nat.{ℕ, zero, suc, _+_, _≤_, _<_}
 use mathlib.Core.Bool.{Bool, true, false, cond, not, _&&_, _||_}
 use mathlib.Core.Path.{_≡_, refl, sym, ap, subst, _∙_}
 use mathlib.Core.List.{List, [], _∷_, _++_}
@@ -16,7 +16,7 @@ use Rattle.thread.specs.declared.Thread.{Thread}
 use Rattle.thread.specs.Threads.{blank, exists}
 use Rattle.machine.specs.Steps.{Child}
 use Rattle.machine.specs.Fits.{Walked, unmoved, walkOp, nextPlace, ownCode}
-use Rattle.machine.specs.FitTest.{goingOn, walk, walkTo, childrenOf, passedBy, same, among, threadsOf, oneEach}
+use Rattle.machine.specs.FitTest.{goingOn, walk, walkTo, childrenOf, commitsOf, commitsPassed, passedBy, same, among, threadsOf, oneEach}
 use Rattle.survey.specs.declared.Row.{Row}
 use Rattle.survey.specs.declared.Walk.{Walk}
 use Rattle.survey.specs.declared.Verdict.{Verdict}
@@ -24,7 +24,9 @@ use Rattle.survey.specs.InnerWalk.{ownAt, lostWalk, marks, ones, walkOf,
 use Rattle.survey.proofs.Yes.{never, first, second, both}
 use Rattle.survey.proofs.Shows.{at, rowOf}
 use Rattle.survey.proofs.Asking.{or-left, Behind, no-more, one-more, marked, ones-each}
+use Rattle.word.specs.InnerCount.{saturated}
 use Rattle.word.specs.Registers.{member}
+use Rattle.word.proofs.Counting.{saturated-exact}
 
 -- ---- the child codes of FORKs do not start at 0
 op-behind : (op : code.Op) (place : ℕ) (v : Walked) → Behind (v .children) → Behind (walkOp op place v .children)
@@ -105,6 +107,10 @@ one-each-more (x ∷ xs) ys ts = ap (λ (b : Bool). eqb (threadsOf x ts) 1 && b)
     go true y z = refl
     go false y z = refl
 
+-- the COMMITs that a record's thread has passed
+abbrev commitsBy : List ℕ → Thread → ℕ
+commitsBy bytes t = cond (exists t) (commitsOf (walkTo bytes t)) 0
+
 -- each thread's record agrees with its walk
 unfoldable pub agreeAll : List ℕ → List Thread → Bool
 agreeAll bytes [] = true
@@ -119,6 +125,7 @@ module _ (bytes : List ℕ) (ts : List Thread) (long : length ts ≡ 16) (starts
     agree : agrees t o ≡ true
     one : oneEach (childrenOf o) ts ≡ true
     all : w .asked ≡ marks starts ends (childrenOf o) asked
+    passed : w .commits ≡ commitsOf o
 
   told-agrees : (t : Thread) (asked : ℕ) (o : Option Walked) → Behind (childrenOf o) → agreeing (told starts ends asked (t .place) o) (rowOf t) ≡ true → Agreed t asked o (told starts ends asked (t .place) o)
   unfolding told agreeing walkOf lostWalk
@@ -126,7 +133,7 @@ module _ (bytes : List ℕ) (ts : List Thread) (long : length ts ≡ 16) (starts
   told-agrees t asked (some w) b e = go (ones starts ends (w .children) asked) refl e
     where
       go : (x : Bool) → ones starts ends (w .children) asked ≡ x → agreeing (cond x (walkOf starts ends asked (t .place) w) lostWalk) (rowOf t) ≡ true → Agreed t asked (some w) (cond x (walkOf starts ends asked (t .place) w) lostWalk)
-      go true k f = record { agree = f; one = sym (ones-each ts long starts ends owns (w .children) b asked) ∙ k; all = refl }
+      go true k f = record { agree = f; one = sym (ones-each ts long starts ends owns (w .children) b asked) ∙ k; all = refl; passed = refl }
       go false k f = never (sym f)
 
   agrees-told : (t : Thread) (asked : ℕ) (o : Option Walked) → Behind (childrenOf o) → agrees t o ≡ true → oneEach (childrenOf o) ts ≡ true → agreeing (told starts ends asked (t .place) o) (rowOf t) ≡ true
@@ -142,6 +149,7 @@ module _ (bytes : List ℕ) (ts : List Thread) (long : length ts ≡ 16) (starts
     agree : (not (exists t) || agrees t (walkTo bytes t)) ≡ true
     one : oneEach (passedOf bytes t) ts ≡ true
     all : (j : ℕ) → j < 16 → member (r .asked) j ≡ (member (v .asked) j || among (Own j) (passedOf bytes t))
+    counts : v .commits + commitsBy bytes t ≤ 18446744073709551615 → r .commits ≡ v .commits + commitsBy bytes t
 
   abbrev judge : Thread → Verdict → Verdict
   judge t v = judgeTo bytes starts ends (rowOf t) v
@@ -156,7 +164,7 @@ module _ (bytes : List ℕ) (ts : List Thread) (long : length ts ≡ 16) (starts
       w : Walk
       w = told starts ends (v .asked) (t .place) o
 
-      walked : v .good ≡ true → exists t ≡ true → (x : Bool) → agreeing w (rowOf t) ≡ x → cond x (record { asked = w .asked; good = true }) unfit .good ≡ true → Judged t v (cond x (record { asked = w .asked; good = true }) unfit)
+      walked : v .good ≡ true → exists t ≡ true → (x : Bool) → agreeing w (rowOf t) ≡ x → cond x (record { asked = w .asked; commits = saturated (v .commits) (w .commits); good = true }) unfit .good ≡ true → Judged t v (cond x (record { asked = w .asked; commits = saturated (v .commits) (w .commits); good = true }) unfit)
       walked h e true a f =
           let y = told-agrees t (v .asked) o (thread-behind bytes t) a in
           record {
@@ -164,10 +172,11 @@ module _ (bytes : List ℕ) (ts : List Thread) (long : length ts ≡ 16) (starts
             agree = subst (λ (b : Bool). (not b || agrees t o) ≡ true) (sym e) (y .agree);
             one = subst (λ (b : Bool). oneEach (cond b (childrenOf o) []) ts ≡ true) (sym e) (y .one);
             all = λ j l. ap (λ (m : ℕ). member m j) (y .all) ∙ (marked starts ends (childrenOf o) (v .asked) j l ∙ ap (λ (b : Bool). member (v .asked) j || among (Own j) (cond b (childrenOf o) [])) (sym e));
+            counts = λ l. ap (saturated (v .commits)) (y .passed ∙ ap (λ (b : Bool). cond b (commitsOf o) 0) (sym e)) ∙ saturated-exact (v .commits) (commitsBy bytes t) l;
           }
       walked h e false a f = never (sym f)
 
-      kind : (x : Bool) → eqb (t .start) 0 ≡ x → v .good ≡ true → cond x v (judgedBy (rowOf t) w) .good ≡ true → Judged t v (cond x v (judgedBy (rowOf t) w))
+      kind : (x : Bool) → eqb (t .start) 0 ≡ x → v .good ≡ true → cond x v (judgedBy (v .commits) (rowOf t) w) .good ≡ true → Judged t v (cond x v (judgedBy (v .commits) (rowOf t) w))
       kind true e h f =
           let x : exists t ≡ false = ap not e in
           record {
@@ -175,10 +184,11 @@ module _ (bytes : List ℕ) (ts : List Thread) (long : length ts ≡ 16) (starts
             agree = subst (λ (b : Bool). (not b || agrees t o) ≡ true) (sym x) refl;
             one = subst (λ (b : Bool). oneEach (cond b (childrenOf o) []) ts ≡ true) (sym x) refl;
             all = λ j l. or-left (member (v .asked) j) ∙ ap (λ (b : Bool). member (v .asked) j || among (Own j) (cond b (childrenOf o) [])) (sym x);
+            counts = λ l. (let z : v .commits ≡ v .commits + 0 = omega arith in z) ∙ ap (λ (b : Bool). v .commits + cond b (commitsOf o) 0) (sym x);
           }
       kind false e h f = walked h (ap not e) (agreeing w (rowOf t)) refl f
 
-      start : (x : Bool) → v .good ≡ x → cond x (cond (eqb (t .start) 0) v (judgedBy (rowOf t) w)) v .good ≡ true → Judged t v (cond x (cond (eqb (t .start) 0) v (judgedBy (rowOf t) w)) v)
+      start : (x : Bool) → v .good ≡ x → cond x (cond (eqb (t .start) 0) v (judgedBy (v .commits) (rowOf t) w)) v .good ≡ true → Judged t v (cond x (cond (eqb (t .start) 0) v (judgedBy (v .commits) (rowOf t) w)) v)
       start true h f = kind (eqb (t .start) 0) refl h f
       start false h f = never (sym f ∙ h)
 
@@ -192,7 +202,7 @@ module _ (bytes : List ℕ) (ts : List Thread) (long : length ts ≡ 16) (starts
       w : Walk
       w = told starts ends (v .asked) (t .place) o
 
-      kind : (x : Bool) → eqb (t .start) 0 ≡ x → cond x v (judgedBy (rowOf t) w) .good ≡ true
+      kind : (x : Bool) → eqb (t .start) 0 ≡ x → cond x v (judgedBy (v .commits) (rowOf t) w) .good ≡ true
       kind true s = h
       kind false s =
           let x : exists t ≡ true = ap not s in
@@ -201,7 +211,7 @@ module _ (bytes : List ℕ) (ts : List Thread) (long : length ts ≡ 16) (starts
           let y : agreeing w (rowOf t) ≡ true = agrees-told t (v .asked) o (thread-behind bytes t) a′ e′ in
           rw y
 
-      start : (x : Bool) → x ≡ true → cond x (cond (eqb (t .start) 0) v (judgedBy (rowOf t) w)) v .good ≡ true
+      start : (x : Bool) → x ≡ true → cond x (cond (eqb (t .start) 0) v (judgedBy (v .commits) (rowOf t) w)) v .good ≡ true
       start true s = kind (eqb (t .start) 0) refl
       start false s = never (sym s)
 
@@ -211,16 +221,17 @@ module _ (bytes : List ℕ) (ts : List Thread) (long : length ts ≡ 16) (starts
     pub agree : agreeAll bytes ds ≡ true
     pub one : oneEach (passedBy bytes ds) ts ≡ true
     pub all : (j : ℕ) → j < 16 → member (r .asked) j ≡ (member (v .asked) j || among (Own j) (passedBy bytes ds))
+    pub counts : v .commits + commitsPassed bytes ds ≤ 18446744073709551615 → r .commits ≡ v .commits + commitsPassed bytes ds
 
   module _ (rows : ℕ → Row) (are : (i : ℕ) → rows i ≡ rowOf (at ts i)) where
     abbrev judgeBy : ℕ → ℕ → Verdict → Verdict
     judgeBy left i v = judgeFrom bytes starts ends rows left i v
 
     pub all-judged : (left i : ℕ) (v : Verdict) → i + left ≡ 16 → judgeBy left i v .good ≡ true → AllJudged (drop i ts) v (judgeBy left i v)
-    unfolding judgeFrom agreeAll passedBy among oneEach
+    unfolding judgeFrom agreeAll passedBy among oneEach commitsPassed
     all-judged zero i v e g =
         subst (λ (ds : List Thread). AllJudged ds v v) (sym (drop-of-length-le ts {i = i} (omega arith)))
-        (record { good = g; agree = refl; one = refl; all = λ j l. or-left (member (v .asked) j) })
+        (record { good = g; agree = refl; one = refl; all = λ j l. or-left (member (v .asked) j); counts = λ l. omega arith })
     all-judged (suc left) i v e g = go (all-judged left (suc i) (judgeTo bytes starts ends (rows i) v) (omega arith) g)
       where
         t : Thread
@@ -251,7 +262,15 @@ module _ (bytes : List ℕ) (ts : List Thread) (long : length ts ≡ 16) (starts
               agree = both (y .agree) (a .agree);
               one = ap (λ (cs : List Child). oneEach cs ts) (passed-more bytes t ds) ∙ (one-each-more (passedOf bytes t) (passedBy bytes ds) ts ∙ both (y .one) (a .one));
               all = λ j l. a .all j l ∙ (ap (λ (b : Bool). b || among (Own j) (passedBy bytes ds)) (y .all j l) ∙ (or-more (member (v .asked) j) (among (Own j) (passedOf bytes t)) (among (Own j) (passedBy bytes ds)) ∙ ap (λ (b : Bool). member (v .asked) j || b) (sym (ap (among (Own j)) (passed-more bytes t ds) ∙ among-more (Own j) (passedOf bytes t) (passedBy bytes ds)))));
+              counts = λ l. more l;
             })
+          where
+            more : v .commits + (commitsBy bytes t + commitsPassed bytes ds) ≤ 18446744073709551615 → judgeBy left (suc i) r .commits ≡ v .commits + (commitsBy bytes t + commitsPassed bytes ds)
+            more l =
+                let y : Judged t v r = subst (Judged t v) (sym r-is) (one-judged t v (sym (ap (λ (x : Verdict). x .good) r-is) ∙ a .good)) in
+                let b : r .commits ≡ v .commits + commitsBy bytes t = y .counts (omega arith) in
+                let d = a .counts (omega arith) in
+                omega arith
 
     pub judged-all : (left i : ℕ) (v : Verdict) → i + left ≡ 16 → v .good ≡ true → agreeAll bytes (drop i ts) ≡ true → oneEach (passedBy bytes (drop i ts)) ts ≡ true → judgeBy left i v .good ≡ true
     unfolding judgeFrom agreeAll

@@ -1,6 +1,6 @@
 -- What `judgeTo` is in each branch, and the parts of `surveyFits`. Assumes nothing.
 use Prim.Native.Nat.{ℕ}
-use mathlib.Core.Bool.{true, false}
+use mathlib.Core.Bool.{true, false, _&&_}
 use mathlib.Core.Path.{_≡_, ap, _∙_}
 use mathlib.Core.List.{List}
 use borrow.Author.Tests.{eqb-true, eq-eqb, ne-eqb}
@@ -11,7 +11,8 @@ use Rattle.survey.specs.declared.Survey.{Survey}
 use Rattle.survey.specs.declared.Row.{Row}
 use Rattle.survey.specs.declared.Walk.{Walk}
 use Rattle.survey.specs.declared.Verdict.{Verdict}
-use Rattle.survey.specs.InnerWalk.{ownAt, walkFrom, agreeing, unfit, judgedBy, judgeTo, judgeAll, allAsked, surveyFits}
+use Rattle.survey.specs.InnerWalk.{ownAt, walkFrom, agreeing, unfit, judgedBy, judgeTo, judgeAll, allAsked, allMet, surveyFits}
+use Rattle.word.specs.InnerCount.{saturated}
 use Rattle.survey.proofs.Yes.{first, second, both, when-true, when-false}
 
 module _ (bytes starts ends : List ℕ) (r : Row) (v : Verdict) where
@@ -25,17 +26,17 @@ module _ (bytes starts ends : List ℕ) (r : Row) (v : Verdict) where
     judge-none e = when-true _ v _ (eq-eqb (r .start) 0 e) ∙ when-true (v .good) _ v g
 
     module _ (n : r .start ≡ 0 → ⊥) (w : Walk) (e : w ≡ walkFrom bytes starts ends (r .start) (r .end) (r .place) (v .asked)) where
-      judge-by : judgedBy r w ≡ judgeTo bytes starts ends r v
+      judge-by : judgedBy (v .commits) r w ≡ judgeTo bytes starts ends r v
       unfolding judgeTo
-      judge-by = ap (judgedBy r) e ∙ (when-false _ v _ (ne-eqb (r .start) 0 n) ∙ when-true (v .good) _ v g)
+      judge-by = ap (judgedBy (v .commits) r) e ∙ (when-false _ v _ (ne-eqb (r .start) 0 n) ∙ when-true (v .good) _ v g)
 
       pub judge-differs : agreeing w r ≡ false → unfit ≡ judgeTo bytes starts ends r v
       unfolding judgedBy
       judge-differs f = when-false (agreeing w r) _ unfit f ∙ judge-by
 
-      pub judge-agrees : agreeing w r ≡ true → record { asked = w .asked; good = true } ≡ judgeTo bytes starts ends r v
+      pub judge-agrees : agreeing w r ≡ true → (n : ℕ) → n ≡ saturated (v .commits) (w .commits) → record { asked = w .asked; commits = n; good = true } ≡ judgeTo bytes starts ends r v
       unfolding judgedBy
-      judge-agrees f = when-true (agreeing w r) _ unfit f ∙ judge-by
+      judge-agrees f n q = ap (λ (k : ℕ). record { asked = w .asked; commits = k; good = true }) q ∙ (when-true (agreeing w r) _ unfit f ∙ judge-by)
 
 -- ---- the whole test
 pub record SurveyFits (s : Survey) (bytes : List ℕ) (registers : ℕ) : Type 0 where
@@ -45,6 +46,7 @@ pub record SurveyFits (s : Survey) (bytes : List ℕ) (registers : ℕ) : Type 0
   pub root : same (ownAt (s .starts) (s .ends) 0) (record { start = 5; end = length bytes }) ≡ true
   pub judged : judgeAll bytes s .good ≡ true
   pub asked : allAsked 15 1 (s .starts) (judgeAll bytes s .asked) ≡ true
+  pub met : allMet 16 0 (s .needs) (judgeAll bytes s .commits) ≡ true
 
 module _ (s : Survey) (bytes : List ℕ) (registers : ℕ) where
   pub survey-parts : surveyFits s bytes registers ≡ true → SurveyFits s bytes registers
@@ -59,8 +61,9 @@ module _ (s : Survey) (bytes : List ℕ) (registers : ℕ) where
         seen = eqb-true (s .seen) 16 (first _ _ e1);
         table = eqb-true registers 64 (first _ _ e2);
         root = first _ _ e3;
-        judged = first _ _ e4;
-        asked = second (judgeAll bytes s .good) _ e4;
+        judged = first _ _ (first _ _ e4);
+        asked = second (judgeAll bytes s .good) _ (first _ _ e4);
+        met = second (judgeAll bytes s .good && allAsked 15 1 (s .starts) (judgeAll bytes s .asked)) _ e4;
       }
 
   pub survey-whole : SurveyFits s bytes registers → surveyFits s bytes registers ≡ true
@@ -68,4 +71,4 @@ module _ (s : Survey) (bytes : List ℕ) (registers : ℕ) where
   survey-whole p =
       both (p .good)
       (both (eq-eqb (s .seen) 16 (p .seen))
-      (both (eq-eqb registers 64 (p .table)) (both (p .root) (both (p .judged) (p .asked)))))
+      (both (eq-eqb registers 64 (p .table)) (both (p .root) (both (both (p .judged) (p .asked)) (p .met)))))

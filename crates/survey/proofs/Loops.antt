@@ -5,7 +5,8 @@ use mathlib.Core.Path.{_≡_, refl, sym, ap, _∙_}
 use mathlib.Core.List.{List}
 use native.Mathlib.Numerals.{add-one}
 use native.Mathlib.Omega.{arith}
-use lib.Dec.{eqb}
+use borrow.Author.Tests.{le-leb, lt-leb}
+use lib.Dec.{eqb, leb}
 use lib.IntN.{ℤ, pos}
 use lib.ListN.{getD}
 use Rattle.machine.specs.Steps.{Child}
@@ -13,7 +14,7 @@ use Rattle.machine.specs.FitTest.{freeFrom, isZero, same}
 use Rattle.survey.specs.declared.Row.{Row}
 use Rattle.survey.specs.declared.Asked.{Asked}
 use Rattle.survey.specs.declared.Verdict.{Verdict}
-use Rattle.survey.specs.InnerWalk.{ownAt, noted, asks, judgeTo, judgeFrom, allAsked}
+use Rattle.survey.specs.InnerWalk.{ownAt, noted, asks, judgeTo, judgeFrom, allAsked, allMet}
 use Rattle.word.specs.Registers.{member}
 
 -- how many are left
@@ -73,6 +74,26 @@ module _ (starts : List ℕ) (asked : ℕ) where
   pub asked-done : (i : ℕ) → 16 ≤ i → askedAt i ≡ askedAt 1 → true ≡ askedAt 1
   unfolding allAsked
   asked-done i h inv = sym (ap (λ (k : ℕ). allAsked k i starts asked) (none-left 16 i h)) ∙ inv
+
+-- ---- records for which the COMMITs passed are enough
+module _ (needs : List ℕ) (commits : ℕ) where
+  abbrev pub metAt : ℕ → Bool
+  metAt i = allMet (16 - i) i needs commits
+
+  met-step : (i : ℕ) → i < 16 → metAt i ≡ (leb (getD needs i 0) commits && metAt (i + 1))
+  unfolding allMet
+  met-step i h =
+      ap (λ (k : ℕ). allMet k i needs commits) (fewer 16 i h) ∙ ap (λ (j : ℕ). leb (getD needs i 0) commits && allMet (16 - (i + 1)) j needs commits) (sym (add-one i))
+
+  pub met-fails : (i : ℕ) → i < 16 → metAt i ≡ metAt 0 → commits < getD needs i 0 → false ≡ metAt 0
+  met-fails i h inv k = sym (met-step i h ∙ ap (λ (b : Bool). b && metAt (i + 1)) (lt-leb (getD needs i 0) commits k)) ∙ inv
+
+  pub met-again : (i : ℕ) → i < 16 → metAt i ≡ metAt 0 → getD needs i 0 ≤ commits → metAt (i + 1) ≡ metAt 0
+  met-again i h inv k = sym (met-step i h ∙ ap (λ (b : Bool). b && metAt (i + 1)) (le-leb (getD needs i 0) commits k)) ∙ inv
+
+  pub met-done : (i : ℕ) → 16 ≤ i → metAt i ≡ metAt 0 → true ≡ metAt 0
+  unfolding allMet
+  met-done i h inv = sym (ap (λ (k : ℕ). allMet k i needs commits) (none-left 16 i h)) ∙ inv
 
 -- ---- records that have a child code
 noted-few : (a : Asked) (i : ℕ) (hit : Bool) → a .number ≤ i → noted a i hit .number ≤ i + 1

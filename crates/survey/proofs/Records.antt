@@ -11,7 +11,7 @@ use Rattle.thread.specs.declared.Thread.{Thread}
 use Rattle.machine.specs.FitTest.{free, allZero}
 use Rattle.word.specs.Registers.{member}
 use Rattle.survey.specs.declared.Survey.{Survey}
-use Rattle.survey.specs.InnerRecords.{unfitTo, passTo, putTo, zeroFrom, tidy, withTo}
+use Rattle.survey.specs.InnerRecords.{unfitTo, passTo, putTo, needIn, zeroFrom, tidy, withTo}
 use Rattle.survey.proofs.Yes.{first, second, both, when-true, when-false}
 
 -- ---- a record of no thread
@@ -25,6 +25,8 @@ pub record Zeros (t : Thread) : Type 0 where
   pub over : t .over ≡ 0
   pub reads : t .reads ≡ 0
   pub writes : t .writes ≡ 0
+  pub rule : t .rule ≡ 0
+  pub backs : t .backs ≡ 0
   pub cells : zeroFrom 0 (t .cells) ≡ true
   pub readlog : zeroFrom 0 (t .readlog) ≡ true
   pub writelog : zeroFrom 0 (t .writelog) ≡ true
@@ -45,7 +47,9 @@ zeros-of t e =
     let e0 = second (eqb (t .base) 0) _ e5 in
     let e6 = second (eqb (t .over) 0) _ e0 in
     let e7 = second (eqb (t .reads) 0) _ e6 in
-    let e8 = second (eqb (t .writes) 0) _ e7 in
+    let ex = second (eqb (t .writes) 0) _ e7 in
+    let ey = second (eqb (t .rule) 0) _ ex in
+    let e8 = second (eqb (t .backs) 0) _ ey in
     let e9 = second (free (λ n. false) (t .cells)) _ e8 in
     record {
       start = eqb-true (t .start) 0 (first _ _ e);
@@ -57,6 +61,8 @@ zeros-of t e =
       over = eqb-true (t .over) 0 (first _ _ e0);
       reads = eqb-true (t .reads) 0 (first _ _ e6);
       writes = eqb-true (t .writes) 0 (first _ _ e7);
+      rule = eqb-true (t .rule) 0 (first _ _ ex);
+      backs = eqb-true (t .backs) 0 (first _ _ ey);
       cells = none-below (t .cells) ∙ first _ _ e8;
       readlog = none-below (t .readlog) ∙ first _ _ e9;
       writelog = none-below (t .writelog) ∙ second (free (λ n. false) (t .readlog)) _ e9;
@@ -74,7 +80,9 @@ all-zero t z =
     (both (eq-eqb (t .over) 0 (z .over))
     (both (eq-eqb (t .reads) 0 (z .reads))
     (both (eq-eqb (t .writes) 0 (z .writes))
-    (both (sym (none-below (t .cells)) ∙ z .cells) (both (sym (none-below (t .readlog)) ∙ z .readlog) (sym (none-below (t .writelog)) ∙ z .writelog)))))))))))
+    (both (eq-eqb (t .rule) 0 (z .rule))
+    (both (eq-eqb (t .backs) 0 (z .backs))
+    (both (sym (none-below (t .cells)) ∙ z .cells) (both (sym (none-below (t .readlog)) ∙ z .readlog) (sym (none-below (t .writelog)) ∙ z .writelog)))))))))))))
 
 -- ---- a thread's record
 abbrev pub shut : Thread → Bool
@@ -98,38 +106,38 @@ unfolding tidy
 is-tidy t y = both (y .shut) (both (y .readlog) (both (y .writelog) (y .cells)))
 
 -- ---- the branches of `withTo`
-module _ (s : Survey) (t : Thread) where
-  pub with-bad : s .good ≡ false → s ≡ withTo s t
+module _ (s : Survey) (table : List ℤ) (t : Thread) where
+  pub with-bad : s .good ≡ false → s ≡ withTo s table t
   unfolding withTo
   with-bad g = when-false (s .good) _ s g
 
   module _ (g : s .good ≡ true) where
-    pub with-many : 16 ≤ s .seen → unfitTo s ≡ withTo s t
+    pub with-many : 16 ≤ s .seen → unfitTo s ≡ withTo s table t
     unfolding withTo
     with-many h = when-false _ _ (unfitTo s) (le-ltb (s .seen) 16 h) ∙ when-true (s .good) _ s g
 
     module _ (h : s .seen < 16) where
-      pub with-blank : t .start ≡ 0 → allZero t ≡ true → passTo s ≡ withTo s t
+      pub with-blank : t .start ≡ 0 → allZero t ≡ true → passTo s ≡ withTo s table t
       unfolding withTo
       with-blank e z =
           when-true _ (passTo s) (unfitTo s) z ∙ (when-true _ _ _ (eq-eqb (t .start) 0 e) ∙ (when-true _ _ (unfitTo s) (lt-ltb (s .seen) 16 h) ∙ when-true (s .good) _ s g))
 
-      pub with-marred : t .start ≡ 0 → allZero t ≡ false → unfitTo s ≡ withTo s t
+      pub with-marred : t .start ≡ 0 → allZero t ≡ false → unfitTo s ≡ withTo s table t
       unfolding withTo
       with-marred e z =
           when-false _ (passTo s) (unfitTo s) z ∙ (when-true _ _ _ (eq-eqb (t .start) 0 e) ∙ (when-true _ _ (unfitTo s) (lt-ltb (s .seen) 16 h) ∙ when-true (s .good) _ s g))
 
-      pub with-gap : (t .start ≡ 0 → ⊥) → (s .count ≡ s .seen → ⊥) → unfitTo s ≡ withTo s t
+      pub with-gap : (t .start ≡ 0 → ⊥) → (s .count ≡ s .seen → ⊥) → unfitTo s ≡ withTo s table t
       unfolding withTo
       with-gap e n =
           when-false _ _ (unfitTo s) (ne-eqb (s .count) (s .seen) n) ∙ (when-false _ _ _ (ne-eqb (t .start) 0 e) ∙ (when-true _ _ (unfitTo s) (lt-ltb (s .seen) 16 h) ∙ when-true (s .good) _ s g))
 
-      pub with-untidy : (t .start ≡ 0 → ⊥) → s .count ≡ s .seen → tidy t ≡ false → unfitTo s ≡ withTo s t
+      pub with-untidy : (t .start ≡ 0 → ⊥) → s .count ≡ s .seen → tidy t ≡ false → unfitTo s ≡ withTo s table t
       unfolding withTo
       with-untidy e n y =
-          when-false _ (putTo s t) (unfitTo s) y ∙ (when-true _ _ (unfitTo s) (eq-eqb (s .count) (s .seen) n) ∙ (when-false _ _ _ (ne-eqb (t .start) 0 e) ∙ (when-true _ _ (unfitTo s) (lt-ltb (s .seen) 16 h) ∙ when-true (s .good) _ s g)))
+          when-false _ (putTo s t (needIn table t)) (unfitTo s) y ∙ (when-true _ _ (unfitTo s) (eq-eqb (s .count) (s .seen) n) ∙ (when-false _ _ _ (ne-eqb (t .start) 0 e) ∙ (when-true _ _ (unfitTo s) (lt-ltb (s .seen) 16 h) ∙ when-true (s .good) _ s g)))
 
-      pub with-put : (t .start ≡ 0 → ⊥) → s .count ≡ s .seen → tidy t ≡ true → putTo s t ≡ withTo s t
+      pub with-put : (t .start ≡ 0 → ⊥) → s .count ≡ s .seen → tidy t ≡ true → putTo s t (needIn table t) ≡ withTo s table t
       unfolding withTo
       with-put e n y =
-          when-true _ (putTo s t) (unfitTo s) y ∙ (when-true _ _ (unfitTo s) (eq-eqb (s .count) (s .seen) n) ∙ (when-false _ _ _ (ne-eqb (t .start) 0 e) ∙ (when-true _ _ (unfitTo s) (lt-ltb (s .seen) 16 h) ∙ when-true (s .good) _ s g)))
+          when-true _ (putTo s t (needIn table t)) (unfitTo s) y ∙ (when-true _ _ (unfitTo s) (eq-eqb (s .count) (s .seen) n) ∙ (when-false _ _ _ (ne-eqb (t .start) 0 e) ∙ (when-true _ _ (unfitTo s) (lt-ltb (s .seen) 16 h) ∙ when-true (s .good) _ s g)))

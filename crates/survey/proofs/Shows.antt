@@ -6,18 +6,23 @@ use mathlib.Core.Path.{_≡_, refl, sym, ap, subst, _∙_}
 use mathlib.Core.List.{List, [], _∷_, _++_, append-assoc, append-nil}
 use native.Mathlib.Decide.{decLt, ℕ-discrete}
 use native.Mathlib.Omega.{arith}
-use borrow.Author.Tests.{eqb-false, eq-eqb, ne-eqb, not-true}
-use lib.Dec.{eqb}
+use borrow.Author.Tests.{eqb-false, eq-eqb, ne-eqb, ltb-true, not-true}
+use lib.Dec.{eqb, ltb}
+use lib.IntN.{ℤ}
 use lib.ListN.{length, getD, set, replicate, getD-replicate, length-append, length-set, List·getD-append, List·getD-eq-default}
 use lib.Seq.{getD-append-seam, getD-set-same, getD-set-other}
 use Rattle.thread.specs.declared.Thread.{Thread}
-use Rattle.thread.specs.Threads.{blank, exists}
+use Rattle.thread.specs.InnerStep.{staleRead}
+use Rattle.thread.specs.Threads.{blank, exists, firstStale}
 use Rattle.machine.specs.Steps.{numberOf}
 use Rattle.machine.specs.FitTest.{allZero, noneBehind}
 use Rattle.survey.specs.declared.Survey.{Survey}
 use Rattle.survey.specs.declared.Row.{Row}
-use Rattle.survey.specs.InnerRecords.{emptySurvey, unfitTo, passTo, putTo, tidy, withTo, surveyFrom, surveyOf}
+use Rattle.survey.specs.InnerRecords.{emptySurvey, unfitTo, passTo, putTo, tidy, needIn, withTo, surveyFrom, surveyOf}
 use Rattle.survey.specs.InnerWalk.{rowAt}
+use Rattle.machine.proofs.Stale.{found-stale, stale-none}
+use Rattle.word.specs.InnerCount.{saturated}
+use Rattle.word.specs.Registers as registers
 use Rattle.survey.proofs.Yes.{never, first, second, both, clash}
 use Rattle.survey.proofs.Records.{Zeros, zeros-of, with-bad, with-many, with-blank, with-marred, with-gap, with-untidy, with-put}
 
@@ -95,14 +100,16 @@ pub record Long (s : Survey) : Type 0 where
   begins : length (s .begins) ≡ 16
   bases : length (s .bases) ≡ 16
   overs : length (s .overs) ≡ 16
+  needs : length (s .needs) ≡ 16
 
-pub record Shows (ts : List Thread) (s : Survey) : Type 0 where
+pub record Shows (table : List ℤ) (ts : List Thread) (s : Survey) : Type 0 where
   pub good : s .good ≡ true
   pub seen : s .seen ≡ length ts
   pub few : length ts ≤ 16
   pub count : s .count ≡ numberOf ts
   pub front : tidyFront ts ≡ true
   pub rows : (i : ℕ) → rowAt s i ≡ rowOf (at ts i)
+  pub needs : (i : ℕ) → getD (s .needs) i 0 ≡ needIn table (at ts i)
   pub long : Long s
 
 stored : (xs : List ℕ) (k v i : ℕ) → length xs ≡ 16 → k < 16 → i ≡ k → getD (set xs k v) i 0 ≡ v
@@ -111,8 +118,20 @@ stored xs k v i n h e = rw e (getD-set-same xs k v 0 (omega arith))
 set-long : (xs : List ℕ) (k v : ℕ) → length xs ≡ 16 → length (set xs k v) ≡ 16
 set-long xs k v n = length-set xs k v ∙ n
 
+-- a record of no thread needs none
+no-need : (table : List ℤ) (t : Thread) → t .reads ≡ 0 → t .backs ≡ 0 → needIn table t ≡ 0
+unfolding needIn staleRead registers.none
+no-need table t r b = go (eqb (length table) 64) (ltb (firstStale 64 0 t table) 64) refl
+  where
+    go : (x y : Bool) → ltb (firstStale 64 0 t table) 64 ≡ y → cond (cond x y false) (saturated (t .backs) 1) (t .backs) ≡ 0
+    go false y e = b
+    go true false e = b
+    go true true e =
+        let f = found-stale t table (ltb-true (firstStale 64 0 t table) 64 e) in
+        never (sym (f .its) ∙ stale-none t table r (firstStale 64 0 t table))
+
 -- one record more
-module _ (ts : List Thread) (s : Survey) (sh : Shows ts s) (t : Thread) where
+module _ (table : List ℤ) (ts : List Thread) (s : Survey) (sh : Shows table ts s) (t : Thread) where
   more : length (ts ++ last t) ≡ length ts + 1
   more = length-append ts (last t)
 
@@ -121,7 +140,7 @@ module _ (ts : List Thread) (s : Survey) (sh : Shows ts s) (t : Thread) where
     room = omega (arith, sh .seen)
 
     abbrev put : Survey
-    put = putTo s t
+    put = putTo s t (needIn table t)
 
     put-rows : (i : ℕ) → rowAt put i ≡ rowOf (at (ts ++ last t) i)
     unfolding putTo
@@ -154,7 +173,20 @@ module _ (ts : List Thread) (s : Survey) (sh : Shows ts s) (t : Thread) where
             })
             ∙ (sh .rows i ∙ ap rowOf f)
 
-    put-shows : exists t ≡ true → s .count ≡ s .seen → tidy t ≡ true → Shows (ts ++ last t) put
+    put-needs : (i : ℕ) → getD (put .needs) i 0 ≡ needIn table (at (ts ++ last t) i)
+    unfolding putTo
+    put-needs i = go (ℕ-discrete i (s .seen))
+      where
+        go : Dec (i ≡ s .seen) → getD (set (s .needs) (s .seen) (needIn table t)) i 0 ≡ needIn table (at (ts ++ last t) i)
+        go (yes e) =
+            let l : Long s = sh .long in
+            let f : t ≡ at (ts ++ last t) i = sym (ap (at (ts ++ last t)) (e ∙ sh .seen) ∙ at-last ts t) in
+            stored (s .needs) (s .seen) (needIn table t) i (l .needs) h e ∙ ap (needIn table) f
+        go (no n) =
+            let f : at ts i ≡ at (ts ++ last t) i = sym (at-other ts t i (λ x. n (x ∙ sym (sh .seen)))) in
+            getD-set-other (s .needs) (s .seen) i (needIn table t) 0 n ∙ (sh .needs i ∙ ap (needIn table) f)
+
+    put-shows : exists t ≡ true → s .count ≡ s .seen → tidy t ≡ true → Shows table (ts ++ last t) put
     unfolding putTo
     put-shows x c y =
         let l : Long s = sh .long in
@@ -166,6 +198,7 @@ module _ (ts : List Thread) (s : Survey) (sh : Shows ts s) (t : Thread) where
           count = omega (arith, sh .count, all, number-more ts t all x);
           front = tidy-more ts t (sh .front) all x y;
           rows = put-rows;
+          needs = put-needs;
           long = record {
             starts = set-long (s .starts) (s .seen) (t .start) (l .starts);
             ends = set-long (s .ends) (s .seen) (t .end) (l .ends);
@@ -174,6 +207,7 @@ module _ (ts : List Thread) (s : Survey) (sh : Shows ts s) (t : Thread) where
             begins = set-long (s .begins) (s .seen) (t .begin) (l .begins);
             bases = set-long (s .bases) (s .seen) (t .base) (l .bases);
             overs = set-long (s .overs) (s .seen) (t .over) (l .overs);
+            needs = set-long (s .needs) (s .seen) (needIn table t) (l .needs);
           };
         }
 
@@ -189,7 +223,18 @@ module _ (ts : List Thread) (s : Survey) (sh : Shows ts s) (t : Thread) where
             sh .rows i ∙ (ap rowOf f ∙ (k ∙ ap rowOf g))
         go (no n) = sh .rows i ∙ ap rowOf (sym (at-other ts t i n))
 
-    pass-shows : exists t ≡ false → allZero t ≡ true → Shows (ts ++ last t) (passTo s)
+    pass-needs : Zeros t → (i : ℕ) → getD (s .needs) i 0 ≡ needIn table (at (ts ++ last t) i)
+    unfolding blank registers.none
+    pass-needs z i = go (ℕ-discrete i (length ts))
+      where
+        go : Dec (i ≡ length ts) → getD (s .needs) i 0 ≡ needIn table (at (ts ++ last t) i)
+        go (yes e) =
+            let f : at ts i ≡ blank = List·getD-eq-default ts blank {n = i} (omega arith) in
+            let g : t ≡ at (ts ++ last t) i = sym (ap (at (ts ++ last t)) e ∙ at-last ts t) in
+            sh .needs i ∙ (ap (needIn table) f ∙ (no-need table blank refl refl ∙ (sym (no-need table t (z .reads) (z .backs)) ∙ ap (needIn table) g)))
+        go (no n) = sh .needs i ∙ ap (needIn table) (sym (at-other ts t i n))
+
+    pass-shows : exists t ≡ false → allZero t ≡ true → Shows table (ts ++ last t) (passTo s)
     unfolding passTo
     pass-shows x z =
         let l : Long s = sh .long in
@@ -200,57 +245,58 @@ module _ (ts : List Thread) (s : Survey) (sh : Shows ts s) (t : Thread) where
           count = sh .count ∙ sym (number-none ts t x);
           front = tidy-none ts t (sh .front) x z;
           rows = pass-rows (zeros-of t z);
-          long = record { starts = l .starts; ends = l .ends; places = l .places; heights = l .heights; begins = l .begins; bases = l .bases; overs = l .overs };
+          needs = pass-needs (zeros-of t z);
+          long = record { starts = l .starts; ends = l .ends; places = l .places; heights = l .heights; begins = l .begins; bases = l .bases; overs = l .overs; needs = l .needs };
         }
 
-  unfit-bad : {A : Type 0} → unfitTo s ≡ withTo s t → withTo s t .good ≡ true → A
+  unfit-bad : {A : Type 0} → unfitTo s ≡ withTo s table t → withTo s table t .good ≡ true → A
   unfolding unfitTo
   unfit-bad e g = never (sym g ∙ sym (ap (λ (r : Survey). r .good) e))
 
-  with-shows : withTo s t .good ≡ true → Shows (ts ++ last t) (withTo s t)
+  with-shows : withTo s table t .good ≡ true → Shows table (ts ++ last t) (withTo s table t)
   with-shows g = few (decLt (s .seen) 16)
     where
-      blanks : s .seen < 16 → t .start ≡ 0 → (b : Bool) → allZero t ≡ b → Shows (ts ++ last t) (withTo s t)
-      blanks h e true z = subst (Shows (ts ++ last t)) (with-blank s t (sh .good) h e z) (pass-shows h (ap not (eq-eqb (t .start) 0 e)) z)
-      blanks h e false z = unfit-bad (with-marred s t (sh .good) h e z) g
+      blanks : s .seen < 16 → t .start ≡ 0 → (b : Bool) → allZero t ≡ b → Shows table (ts ++ last t) (withTo s table t)
+      blanks h e true z = subst (Shows table (ts ++ last t)) (with-blank s table t (sh .good) h e z) (pass-shows h (ap not (eq-eqb (t .start) 0 e)) z)
+      blanks h e false z = unfit-bad (with-marred s table t (sh .good) h e z) g
 
-      tidies : s .seen < 16 → (t .start ≡ 0 → ⊥) → s .count ≡ s .seen → (b : Bool) → tidy t ≡ b → Shows (ts ++ last t) (withTo s t)
-      tidies h n c true y = subst (Shows (ts ++ last t)) (with-put s t (sh .good) h n c y) (put-shows h (ap not (ne-eqb (t .start) 0 n)) c y)
-      tidies h n c false y = unfit-bad (with-untidy s t (sh .good) h n c y) g
+      tidies : s .seen < 16 → (t .start ≡ 0 → ⊥) → s .count ≡ s .seen → (b : Bool) → tidy t ≡ b → Shows table (ts ++ last t) (withTo s table t)
+      tidies h n c true y = subst (Shows table (ts ++ last t)) (with-put s table t (sh .good) h n c y) (put-shows h (ap not (ne-eqb (t .start) 0 n)) c y)
+      tidies h n c false y = unfit-bad (with-untidy s table t (sh .good) h n c y) g
 
-      gaps : s .seen < 16 → (t .start ≡ 0 → ⊥) → Dec (s .count ≡ s .seen) → Shows (ts ++ last t) (withTo s t)
+      gaps : s .seen < 16 → (t .start ≡ 0 → ⊥) → Dec (s .count ≡ s .seen) → Shows table (ts ++ last t) (withTo s table t)
       gaps h n (yes c) = tidies h n c (tidy t) refl
-      gaps h n (no c) = unfit-bad (with-gap s t (sh .good) h n c) g
+      gaps h n (no c) = unfit-bad (with-gap s table t (sh .good) h n c) g
 
-      kinds : s .seen < 16 → Dec (t .start ≡ 0) → Shows (ts ++ last t) (withTo s t)
+      kinds : s .seen < 16 → Dec (t .start ≡ 0) → Shows table (ts ++ last t) (withTo s table t)
       kinds h (yes e) = blanks h e (allZero t) refl
       kinds h (no n) = gaps h n (ℕ-discrete (s .count) (s .seen))
 
-      few : Dec (s .seen < 16) → Shows (ts ++ last t) (withTo s t)
+      few : Dec (s .seen < 16) → Shows table (ts ++ last t) (withTo s table t)
       few (yes h) = kinds h (ℕ-discrete (t .start) 0)
-      few (no h) = unfit-bad (with-many s t (sh .good) (omega arith)) g
+      few (no h) = unfit-bad (with-many s table t (sh .good) (omega arith)) g
 
 -- a survey that is not good stays so
-stays : (ts : List Thread) (s : Survey) → s .good ≡ false → surveyFrom s ts .good ≡ false
+stays : (table : List ℤ) (ts : List Thread) (s : Survey) → s .good ≡ false → surveyFrom s table ts .good ≡ false
 unfolding surveyFrom
-stays [] s g = g
-stays (t ∷ ts) s g = stays ts (withTo s t) (ap (λ (r : Survey). r .good) (sym (with-bad s t g)) ∙ g)
+stays table [] s g = g
+stays table (t ∷ ts) s g = stays table ts (withTo s table t) (ap (λ (r : Survey). r .good) (sym (with-bad s table t g)) ∙ g)
 
 -- all the records
-from-shows : (ps ts : List Thread) (s : Survey) → Shows ps s → surveyFrom s ts .good ≡ true → Shows (ps ++ ts) (surveyFrom s ts)
+from-shows : (table : List ℤ) (ps ts : List Thread) (s : Survey) → Shows table ps s → surveyFrom s table ts .good ≡ true → Shows table (ps ++ ts) (surveyFrom s table ts)
 unfolding surveyFrom
-from-shows ps [] s sh g = subst (λ (l : List Thread). Shows l s) (sym (append-nil ps)) sh
-from-shows ps (t ∷ ts) s sh g =
-    subst (λ (l : List Thread). Shows l (surveyFrom (withTo s t) ts)) (append-assoc ps (last t) ts)
-    (from-shows (ps ++ last t) ts (withTo s t) (go (withTo s t .good) refl) g)
+from-shows table ps [] s sh g = subst (λ (l : List Thread). Shows table l s) (sym (append-nil ps)) sh
+from-shows table ps (t ∷ ts) s sh g =
+    subst (λ (l : List Thread). Shows table l (surveyFrom (withTo s table t) table ts)) (append-assoc ps (last t) ts)
+    (from-shows table (ps ++ last t) ts (withTo s table t) (go (withTo s table t .good) refl) g)
   where
-    go : (b : Bool) → withTo s t .good ≡ b → Shows (ps ++ last t) (withTo s t)
-    go true e = with-shows ps s sh t e
-    go false e = absurd (clash (stays ts (withTo s t) e) g)
+    go : (b : Bool) → withTo s table t .good ≡ b → Shows table (ps ++ last t) (withTo s table t)
+    go true e = with-shows table ps s sh t e
+    go false e = absurd (clash (stays table ts (withTo s table t) e) g)
 
-empty-shows : Shows [] emptySurvey
-unfolding emptySurvey tidyFront numberOf blank
-empty-shows =
+empty-shows : (table : List ℤ) → Shows table [] emptySurvey
+unfolding emptySurvey tidyFront numberOf blank registers.none
+empty-shows table =
     record {
       good = refl;
       seen = refl;
@@ -258,7 +304,8 @@ empty-shows =
       count = refl;
       front = refl;
       rows = rows;
-      long = record { starts = refl; ends = refl; places = refl; heights = refl; begins = refl; bases = refl; overs = refl };
+      needs = λ i. none i ∙ sym (no-need table blank refl refl);
+      long = record { starts = refl; ends = refl; places = refl; heights = refl; begins = refl; bases = refl; overs = refl; needs = refl };
     }
   where
     none : (i : ℕ) → _≡_ {A = ℕ} (getD (replicate 16 0) i 0) 0
@@ -271,31 +318,31 @@ empty-shows =
     rows : (i : ℕ) → rowAt emptySurvey i ≡ rowOf (at [] i)
     rows i j = record { start = none i j; end = none i j; place = none i j; height = none i j; begin = none i j; base = none i j; over = none i j }
 
-pub survey-shows : (ts : List Thread) → surveyOf ts .good ≡ true → Shows ts (surveyOf ts)
+pub survey-shows : (table : List ℤ) (ts : List Thread) → surveyOf table ts .good ≡ true → Shows table ts (surveyOf table ts)
 unfolding surveyOf
-survey-shows ts g = from-shows [] ts emptySurvey empty-shows g
+survey-shows table ts g = from-shows table [] ts emptySurvey (empty-shows table) g
 
 -- ---- and it is good if the records are so
-blank-good : (ts : List Thread) (s : Survey) → s .good ≡ true → s .seen + length ts ≤ 16 → noneBehind ts ≡ true → surveyFrom s ts .good ≡ true
+blank-good : (table : List ℤ) (ts : List Thread) (s : Survey) → s .good ≡ true → s .seen + length ts ≤ 16 → noneBehind ts ≡ true → surveyFrom s table ts .good ≡ true
 unfolding surveyFrom noneBehind passTo
-blank-good [] s g l e = g
-blank-good (t ∷ ts) s g l e =
+blank-good table [] s g l e = g
+blank-good table (t ∷ ts) s g l e =
     let z : allZero t ≡ true = first (allZero t) _ e in
-    let w = with-blank s t g (omega arith) (zeros-of t z .start) z in
-    subst (λ (r : Survey). surveyFrom r ts .good ≡ true) w (blank-good ts (passTo s) g (omega arith) (second (allZero t) _ e))
+    let w = with-blank s table t g (omega arith) (zeros-of t z .start) z in
+    subst (λ (r : Survey). surveyFrom r table ts .good ≡ true) w (blank-good table ts (passTo s) g (omega arith) (second (allZero t) _ e))
 
-tidy-good : (ts : List Thread) (s : Survey) → s .good ≡ true → s .count ≡ s .seen → s .seen + length ts ≤ 16 → tidyFront ts ≡ true → surveyFrom s ts .good ≡ true
+tidy-good : (table : List ℤ) (ts : List Thread) (s : Survey) → s .good ≡ true → s .count ≡ s .seen → s .seen + length ts ≤ 16 → tidyFront ts ≡ true → surveyFrom s table ts .good ≡ true
 unfolding surveyFrom tidyFront putTo
-tidy-good [] s g c l e = g
-tidy-good (t ∷ ts) s g c l e = go (exists t) refl e (λ f. tidy-good ts (putTo s t) g (omega arith) (omega arith) f)
+tidy-good table [] s g c l e = g
+tidy-good table (t ∷ ts) s g c l e = go (exists t) refl e (λ f. tidy-good table ts (putTo s t (needIn table t)) g (omega arith) (omega arith) f)
   where
-    go : (b : Bool) → exists t ≡ b → elim b [ true ↦ tidy t && tidyFront ts | false ↦ noneBehind (t ∷ ts) ] ≡ true → (tidyFront ts ≡ true → surveyFrom (putTo s t) ts .good ≡ true) → surveyFrom (withTo s t) ts .good ≡ true
+    go : (b : Bool) → exists t ≡ b → elim b [ true ↦ tidy t && tidyFront ts | false ↦ noneBehind (t ∷ ts) ] ≡ true → (tidyFront ts ≡ true → surveyFrom (putTo s t (needIn table t)) table ts .good ≡ true) → surveyFrom (withTo s table t) table ts .good ≡ true
     go true x f ih =
         let n : t .start ≡ 0 → ⊥ = eqb-false (t .start) 0 (not-true (eqb (t .start) 0) x) in
-        let w = with-put s t g (omega arith) n c (first (tidy t) _ f) in
-        subst (λ (r : Survey). surveyFrom r ts .good ≡ true) w (ih (second (tidy t) _ f))
-    go false x f ih = blank-good (t ∷ ts) s g l f
+        let w = with-put s table t g (omega arith) n c (first (tidy t) _ f) in
+        subst (λ (r : Survey). surveyFrom r table ts .good ≡ true) w (ih (second (tidy t) _ f))
+    go false x f ih = blank-good table (t ∷ ts) s g l f
 
-pub survey-good : (ts : List Thread) → length ts ≤ 16 → tidyFront ts ≡ true → surveyOf ts .good ≡ true
+pub survey-good : (table : List ℤ) (ts : List Thread) → length ts ≤ 16 → tidyFront ts ≡ true → surveyOf table ts .good ≡ true
 unfolding surveyOf emptySurvey
-survey-good ts l e = tidy-good ts emptySurvey refl refl (omega arith) e
+survey-good table ts l e = tidy-good table ts emptySurvey refl refl (omega arith) e

@@ -1,5 +1,5 @@
 -- One instruction of a walk: what `stepTo` is for each. Assumes nothing.
-use Prim.Native.Nat.{ℕ, _≤_, _<_}
+use Prim.Native.Nat.{ℕ, _+_, _≤_, _<_}
 use mathlib.Core.Path.{_≡_}
 use mathlib.Core.List.{List}
 use borrow.Author.Tests.{lt-ltb, le-ltb}
@@ -38,11 +38,11 @@ module _ (starts ends : List ℕ) (target : ℕ) (w : Walk) (o : Op) where
   unfolding stepTo
   a-write v e = rw e
 
-  pub a-begin : o ≡ op.Begin → noteTo w (w .place) (w .height) ≡ stepped
+  pub a-begin : o ≡ op.Begin → noteTo w (w .place) (w .height) (w .commits) ≡ stepped
   unfolding stepTo
   a-begin e = rw e
 
-  pub a-commit : o ≡ op.Commit → noteTo w 0 0 ≡ stepped
+  pub a-commit : o ≡ op.Commit → noteTo w 0 0 (w .commits + 1) ≡ stepped
   unfolding stepTo
   a-commit e = rw e
 

@@ -99,7 +99,7 @@ module _ (bytes starts ends : List ℕ) (end target asked : ℕ) where
   rises : (place size : ℕ) (v : Walked) → rose (walkOf starts ends asked place v) size ≡ walkOf starts ends asked (place + size) (risen (suc (v .height)) v)
   unfolding rose walkOf
   rises place size v =
-      ap (λ (h : ℕ). record { place = place + size; height = h; begin = v .begin; base = v .base; adds = v .adds; asked = marks starts ends (v .children) asked; good = true }) (add-one (v .height))
+      ap (λ (h : ℕ). record { place = place + size; height = h; begin = v .begin; base = v .base; adds = v .adds; commits = v .commits; asked = marks starts ends (v .children) asked; good = true }) (add-one (v .height))
 
   module _ (place : ℕ) (v : Walked) (all : ones starts ends (v .children) asked ≡ true) (l : place < target) where
     abbrev here : Walk
@@ -107,7 +107,7 @@ module _ (bytes starts ends : List ℕ) (end target asked : ℕ) where
 
     abbrev behind : (size height : ℕ) → Walk
     behind size height =
-        record { place = place + 3 + size; height = height; begin = v .begin; base = v .base; adds = v .adds; asked = asking starts ends place size (marks starts ends (v .children) asked) .asked; good = true }
+        record { place = place + 3 + size; height = height; begin = v .begin; base = v .base; adds = v .adds; commits = v .commits; asked = asking starts ends place size (marks starts ends (v .children) asked) .asked; good = true }
 
     abbrev stepsTo : code.Op → Type 0
     stepsTo op = stepTo starts ends target here (showOp op) ≡ cond (ltb target (nextPlace op place)) lostWalk (toldAt (nextPlace op place) (walkOp op place v))
@@ -116,12 +116,14 @@ module _ (bytes starts ends : List ℕ) (end target asked : ℕ) where
     unfolding stepTo nextPlace walkOp ones riseTo forkTo forked fallTo addsAfter stayTo noteTo walkOf marks
     one-op (code.push n) = ap (cond (ltb target (place + 5)) lostWalk) (rises place 5 v ∙ when-true _ _ lostWalk all)
     one-op code.add =
-        ap (λ (n : ℕ). record { place = place + 1; height = v .height - 1; begin = v .begin; base = v .base; adds = cond (eqb (v .begin) 0) 0 n; asked = marks starts ends (v .children) asked; good = true }) (add-one (v .adds))
+        ap (λ (n : ℕ). record { place = place + 1; height = v .height - 1; begin = v .begin; base = v .base; adds = cond (eqb (v .begin) 0) 0 n; commits = v .commits; asked = marks starts ends (v .children) asked; good = true }) (add-one (v .adds))
         ∙ (when-true (ones starts ends (v .children) asked) _ lostWalk all ∙ near target (place + 1) _ (omega arith))
     one-op (code.read r) = ap (cond (ltb target (place + 2)) lostWalk) (rises place 2 v ∙ when-true _ _ lostWalk all)
     one-op (code.write r) = ap (cond (ltb target (place + 2)) lostWalk) (when-true (ones starts ends (v .children) asked) _ lostWalk all)
     one-op code.begin = when-true (ones starts ends (v .children) asked) _ lostWalk all ∙ near target (place + 1) _ (omega arith)
-    one-op code.commit = when-true (ones starts ends (v .children) asked) _ lostWalk all ∙ near target (place + 1) _ (omega arith)
+    one-op code.commit =
+        ap (λ (n : ℕ). record { place = place + 1; height = v .height; begin = 0; base = 0; adds = 0; commits = n; asked = marks starts ends (v .children) asked; good = true }) (add-one (v .commits))
+        ∙ (when-true (ones starts ends (v .children) asked) _ lostWalk all ∙ near target (place + 1) _ (omega arith))
     one-op (code.fork size) =
         let n = alone starts ends place size (marks starts ends (v .children) asked) in
         ap
@@ -137,6 +139,7 @@ pub record Loop (bytes starts ends : List ℕ) (start end target asked : ℕ) (w
   pub all : ones starts ends (walked .children) asked ≡ true
   pub low : walked .height ≤ w .place
   pub few : walked .adds ≤ w .place
+  pub rare : walked .commits ≤ w .place
   pub enough : target < w .place + fuel
   pub same : told starts ends asked target (walk fuel bytes end target (w .place) walked) ≡ walkFrom bytes starts ends start end target asked
 
@@ -147,9 +150,9 @@ module _ (bytes starts ends : List ℕ) (start end target asked : ℕ) where
   abbrev At : Walk → Type 0
   At w = Loop bytes starts ends start end target asked w
 
-  pub begins : At (record { place = start; height = 0; begin = 0; base = 0; adds = 0; asked = asked; good = true })
+  pub begins : At (record { place = start; height = 0; begin = 0; base = 0; adds = 0; commits = 0; asked = asked; good = true })
   unfolding walkOf marks ones walkFrom
-  begins = record { walked = unmoved; fuel = suc target; is = refl; all = refl; low = omega arith; few = omega arith; enough = omega arith; same = refl }
+  begins = record { walked = unmoved; fuel = suc target; is = refl; all = refl; low = omega arith; few = omega arith; rare = omega arith; enough = omega arith; same = refl }
 
   module _ (w : Walk) (a : At w) where
     pub low-height : w .height ≤ w .place
@@ -159,6 +162,10 @@ module _ (bytes starts ends : List ℕ) (start end target asked : ℕ) where
     pub few-adds : w .adds ≤ w .place
     unfolding walkOf
     few-adds = rw (ap (λ (x : Walk). x .adds) (a .is)) (a .few)
+
+    pub few-commits : w .commits ≤ w .place
+    unfolding walkOf
+    few-commits = rw (ap (λ (x : Walk). x .commits) (a .is)) (a .rare)
 
     abbrev from : ℕ → Walk
     from fuel = told starts ends asked target (walk fuel bytes end target (w .place) (a .walked))
@@ -230,6 +237,16 @@ module _ (bytes starts ends : List ℕ) (start end target asked : ℕ) where
         counts-less code.commit = omega arith
         counts-less (code.fork size) = omega (arith, a .few)
 
+        passes-less : (op : code.Op) → walkOp op (w .place) (a .walked) .commits ≤ nextPlace op (w .place)
+        unfolding walkOp nextPlace
+        passes-less (code.push n) = omega (arith, a .rare)
+        passes-less code.add = omega (arith, a .rare)
+        passes-less (code.read r) = omega (arith, a .rare)
+        passes-less (code.write r) = omega (arith, a .rare)
+        passes-less code.begin = omega (arith, a .rare)
+        passes-less code.commit = omega (arith, a .rare)
+        passes-less (code.fork size) = omega (arith, a .rare)
+
         has-op : (op : code.Op) (fuel : ℕ) → target < w .place + suc fuel → Rest fuel op → Next (cond (ltb target (nextPlace op (w .place))) lostWalk (toldAt bytes starts ends end target asked (nextPlace op (w .place)) (walkOp op (w .place) (a .walked))))
         unfolding told walkOf
         has-op op fuel f s = far (ltb target q) refl
@@ -243,7 +260,7 @@ module _ (bytes starts ends : List ℕ) (start end target asked : ℕ) where
             one : (b : Bool) → ones starts ends (u .children) asked ≡ b → Next (cond b (walkOf starts ends asked q u) lostWalk)
             one true e =
                 let n = next-after op (w .place) in
-                goes (record { walked = u; fuel = fuel; is = refl; all = e; low = rises-less op; few = counts-less op; enough = omega arith; same = s }) n
+                goes (record { walked = u; fuel = fuel; is = refl; all = e; low = rises-less op; few = counts-less op; rare = passes-less op; enough = omega arith; same = s }) n
             one false e = stops (sym (fails bytes starts ends end target asked fuel q u e) ∙ s)
 
             far : (b : Bool) → ltb target q ≡ b → Next (cond b lostWalk (toldAt bytes starts ends end target asked q u))

@@ -7,7 +7,9 @@ use lib.IntN.{ℤ}
 use lib.ListN.{set, replicate}
 use Rattle.survey.specs.declared.Survey.{Survey}
 use Rattle.thread.specs.declared.Thread.{Thread}
+use Rattle.thread.specs.InnerStep.{staleRead}
 use Rattle.machine.specs.FitTest.{free, allZero}
+use Rattle.word.specs.InnerCount.{saturated}
 use Rattle.word.specs.Registers.{member}
 
 -- no record came yet
@@ -21,6 +23,7 @@ emptySurvey =
       begins = replicate 16 0;
       bases = replicate 16 0;
       overs = replicate 16 0;
+      needs = replicate 16 0;
       count = 0;
       seen = 0;
       good = true;
@@ -37,6 +40,7 @@ unfitTo s =
       begins = s .begins;
       bases = s .bases;
       overs = s .overs;
+      needs = s .needs;
       count = s .count;
       seen = s .seen;
       good = false;
@@ -53,14 +57,15 @@ passTo s =
       begins = s .begins;
       bases = s .bases;
       overs = s .overs;
+      needs = s .needs;
       count = s .count;
       seen = s .seen + 1;
       good = s .good;
     }
 
--- a thread's record came
-unfoldable pub putTo : Survey → Thread → Survey
-putTo s t =
+-- a thread's record came, which needs so many COMMITs passed
+unfoldable pub putTo : Survey → Thread → (need : ℕ) → Survey
+putTo s t need =
     record {
       starts = set (s .starts) (s .seen) (t .start);
       ends = set (s .ends) (s .seen) (t .end);
@@ -69,6 +74,7 @@ putTo s t =
       begins = set (s .begins) (s .seen) (t .begin);
       bases = set (s .bases) (s .seen) (t .base);
       overs = set (s .overs) (s .seen) (t .over);
+      needs = set (s .needs) (s .seen) need;
       count = s .count + 1;
       seen = s .seen + 1;
       good = s .good;
@@ -84,9 +90,13 @@ tidy t =
     (not (eqb (t .begin) 0) || (eqb (t .reads) 0 && eqb (t .writes) 0))
     && (free (member (t .reads)) (t .readlog) && (free (member (t .writes)) (t .writelog) && zeroFrom (t .height) (t .cells)))
 
+-- the fewest COMMITs passed with which a record fits; the greatest number stays
+unfoldable pub needIn : (table : List ℤ) → Thread → ℕ
+needIn table t = cond (staleRead table t) (saturated (t .backs) 1) (t .backs)
+
 -- the next record
-unfoldable pub withTo : Survey → Thread → Survey
-withTo s t =
+unfoldable pub withTo : Survey → (table : List ℤ) → Thread → Survey
+withTo s table t =
     cond
     (s .good)
     (cond
@@ -94,15 +104,15 @@ withTo s t =
     (cond
     (eqb (t .start) 0)
     (cond (allZero t) (passTo s) (unfitTo s))
-    (cond (eqb (s .count) (s .seen)) (cond (tidy t) (putTo s t) (unfitTo s)) (unfitTo s)))
+    (cond (eqb (s .count) (s .seen)) (cond (tidy t) (putTo s t (needIn table t)) (unfitTo s)) (unfitTo s)))
     (unfitTo s))
     s
 
 -- more records, one after the other
-unfoldable pub surveyFrom : Survey → List Thread → Survey
-surveyFrom s [] = s
-surveyFrom s (t ∷ ts) = surveyFrom (withTo s t) ts
+unfoldable pub surveyFrom : Survey → (table : List ℤ) → List Thread → Survey
+surveyFrom s table [] = s
+surveyFrom s table (t ∷ ts) = surveyFrom (withTo s table t) table ts
 
--- the survey of these records
-unfoldable pub surveyOf : List Thread → Survey
-surveyOf ts = surveyFrom emptySurvey ts
+-- the survey of these records, with this register table
+unfoldable pub surveyOf : (table : List ℤ) → List Thread → Survey
+surveyOf table ts = surveyFrom emptySurvey table ts

@@ -15,6 +15,7 @@ use Rattle.ops.specs.declared.Op.the-variants as op
 use Rattle.machine.specs.Steps.{Child}
 use Rattle.machine.specs.Fits.{Walked, unmoved}
 use Rattle.machine.specs.FitTest.{walk, same}
+use Rattle.word.specs.InnerCount.{saturated}
 use Rattle.word.specs.Registers.{member, with}
 
 -- ---- a FORK that was passed
@@ -40,7 +41,7 @@ askedFor starts ends c asked = asks 16 0 starts ends c (record { number = 0; ask
 
 -- the thread's place is not reached
 unfoldable pub lostWalk : Walk
-lostWalk = record { place = 0; height = 0; begin = 0; base = 0; adds = 0; asked = 0; good = false }
+lostWalk = record { place = 0; height = 0; begin = 0; base = 0; adds = 0; commits = 0; asked = 0; good = false }
 
 -- what goes on at a place, unless that is behind the target
 abbrev pub upTo : (target place : ℕ) → Walk → Walk
@@ -49,7 +50,7 @@ upTo target place w = cond (ltb target place) lostWalk w
 -- PUSH and READ: so many bytes further, and one number more on the stack
 unfoldable pub rose : Walk → (size : ℕ) → Walk
 rose w size =
-    record { place = w .place + size; height = w .height + 1; begin = w .begin; base = w .base; adds = w .adds; asked = w .asked; good = true }
+    record { place = w .place + size; height = w .height + 1; begin = w .begin; base = w .base; adds = w .adds; commits = w .commits; asked = w .asked; good = true }
 
 -- the same, if that is not behind the target
 unfoldable pub riseTo : Walk → (target size : ℕ) → Walk
@@ -68,6 +69,7 @@ fallTo w =
       begin = w .begin;
       base = w .base;
       adds = addsAfter (w .begin) (w .adds);
+      commits = w .commits;
       asked = w .asked;
       good = true;
     }
@@ -76,19 +78,19 @@ fallTo w =
 unfoldable pub stayTo : Walk → (target : ℕ) → Walk
 stayTo w target =
     upTo target (w .place + 2)
-    (record { place = w .place + 2; height = w .height; begin = w .begin; base = w .base; adds = w .adds; asked = w .asked; good = true })
+    (record { place = w .place + 2; height = w .height; begin = w .begin; base = w .base; adds = w .adds; commits = w .commits; asked = w .asked; good = true })
 
--- BEGIN and COMMIT: other notes
-unfoldable pub noteTo : Walk → (begin base : ℕ) → Walk
-noteTo w begin base =
-    record { place = w .place + 1; height = w .height; begin = begin; base = base; adds = 0; asked = w .asked; good = true }
+-- BEGIN and COMMIT: other notes, and so many COMMITs passed
+unfoldable pub noteTo : Walk → (begin base commits : ℕ) → Walk
+noteTo w begin base commits =
+    record { place = w .place + 1; height = w .height; begin = begin; base = base; adds = 0; commits = commits; asked = w .asked; good = true }
 
 -- FORK: exactly one record has its child code
 unfoldable pub forked : Walk → (size : ℕ) → Asked → Walk
 forked w size a =
     cond
     (eqb (a .number) 1)
-    (record { place = w .place + 3 + size; height = w .height + 1; begin = w .begin; base = w .base; adds = w .adds; asked = a .asked; good = true })
+    (record { place = w .place + 3 + size; height = w .height + 1; begin = w .begin; base = w .base; adds = w .adds; commits = w .commits; asked = a .asked; good = true })
     lostWalk
 
 -- the same, with the records whose own code it is, if the parent does not go on behind the target
@@ -103,8 +105,8 @@ stepTo starts ends target w (op.Push n) = riseTo w target 5
 stepTo starts ends target w op.Add = fallTo w
 stepTo starts ends target w (op.Read v) = riseTo w target 2
 stepTo starts ends target w (op.Write v) = stayTo w target
-stepTo starts ends target w op.Begin = noteTo w (w .place) (w .height)
-stepTo starts ends target w op.Commit = noteTo w 0 0
+stepTo starts ends target w op.Begin = noteTo w (w .place) (w .height) (w .commits)
+stepTo starts ends target w op.Commit = noteTo w 0 0 (w .commits + 1)
 stepTo starts ends target w (op.Fork size) = forkTo starts ends w target size
 stepTo starts ends target w op.Foreign = lostWalk
 
@@ -130,6 +132,7 @@ walkOf starts ends asked place w =
       begin = w .begin;
       base = w .base;
       adds = w .adds;
+      commits = w .commits;
       asked = marks starts ends (w .children) asked;
       good = true;
     }
@@ -153,15 +156,15 @@ agreeing w r = w .good && (eqb (w .height) (r .height) && (eqb (w .begin) (r .be
 
 -- no thread was judged yet
 unfoldable pub firstVerdict : Verdict
-firstVerdict = record { asked = 0; good = true }
+firstVerdict = record { asked = 0; commits = 0; good = true }
 
 -- a thread does not fit the code
 unfoldable pub unfit : Verdict
-unfit = record { asked = 0; good = false }
+unfit = record { asked = 0; commits = 0; good = false }
 
--- a thread whose walk this is
-unfoldable pub judgedBy : Row → Walk → Verdict
-judgedBy r w = cond (agreeing w r) (record { asked = w .asked; good = true }) unfit
+-- a thread whose walk this is, so many COMMITs being passed by those before it
+unfoldable pub judgedBy : (commits : ℕ) → Row → Walk → Verdict
+judgedBy commits r w = cond (agreeing w r) (record { asked = w .asked; commits = saturated commits (w .commits); good = true }) unfit
 
 -- one record more: a record of no thread changes nothing, nor does any behind a thread that does not fit
 unfoldable pub judgeTo : (bytes starts ends : List ℕ) → Row → Verdict → Verdict
@@ -171,7 +174,7 @@ judgeTo bytes starts ends r v =
     (cond
     (eqb (r .start) 0)
     v
-    (judgedBy r (walkFrom bytes starts ends (r .start) (r .end) (r .place) (v .asked))))
+    (judgedBy (v .commits) r (walkFrom bytes starts ends (r .start) (r .end) (r .place) (v .asked))))
     v
 
 -- the numbers of record i
@@ -205,6 +208,11 @@ allAsked (suc left) i starts asked = (eqb (getD starts i 0) 0 || member asked i)
 abbrev pub allJudged : Verdict → (starts : List ℕ) → Bool
 allJudged v starts = v .good && allAsked 15 1 starts (v .asked)
 
+-- so many COMMITs passed are enough for each record from i on
+unfoldable pub allMet : (left i : ℕ) (needs : List ℕ) (commits : ℕ) → Bool
+allMet zero i needs commits = true
+allMet (suc left) i needs commits = leb (getD needs i 0) commits && allMet left (suc i) needs commits
+
 -- the whole test: 16 records, 64 registers, thread 0 with the whole code, and the threads
 unfoldable pub surveyFits : Survey → (bytes : List ℕ) (registers : ℕ) → Bool
 surveyFits s bytes registers =
@@ -212,4 +220,4 @@ surveyFits s bytes registers =
     && (eqb (s .seen) 16
     && (eqb registers 64
     && (same (ownAt (s .starts) (s .ends) 0) (record { start = 5; end = length bytes })
-    && allJudged (judgeAll bytes s) (s .starts))))
+    && (allJudged (judgeAll bytes s) (s .starts) && allMet 16 0 (s .needs) (judgeAll bytes s .commits)))))

@@ -4,8 +4,8 @@ ghost use lib.Dec.{eqb};
 ghost use mathlib.Core.Bool.{_&&_, _||_, not};
 ghost use mathlib.Core.Path.{_≡_};
 ghost use Rattle.machine.specs.FitTest.{allZero, free, isZero};
-ghost use Rattle.survey.specs.InnerRecords.{zeroFrom, emptySurvey, unfitTo, passTo, putTo, tidy, withTo};
-ghost use Rattle.survey.specs.InnerWalk.{addsAfter, agreeing, allAsked, askedFor, fallTo, forkTo, judgeAll, judgeTo, lostWalk, noteTo, noted, riseTo, stayTo, stepTo, surveyFits, walkFrom};
+ghost use Rattle.survey.specs.InnerRecords.{zeroFrom, needIn, emptySurvey, unfitTo, passTo, putTo, tidy, withTo};
+ghost use Rattle.survey.specs.InnerWalk.{addsAfter, agreeing, allAsked, allMet, askedFor, fallTo, forkTo, judgeAll, judgeTo, lostWalk, noteTo, noted, riseTo, stayTo, stepTo, surveyFits, walkFrom};
 ghost use Rattle.word.specs.Registers.{member};
 
 // What the records that came so far leave: the numbers of each thread, how many threads there are, how many records came, and whether
@@ -18,6 +18,8 @@ pub struct Survey {
     pub begins: [usize; 16],
     pub bases: [usize; 16],
     pub overs: [usize; 16],
+    // the fewest COMMITs passed by all threads with which each fits
+    pub needs: [usize; 16],
     pub count: usize,
     pub seen: usize,
     pub good: bool,
@@ -49,13 +51,16 @@ struct Walk {
     base: usize,
     // ADDs passed since the BEGIN of an open transaction
     adds: usize,
+    // COMMITs passed
+    commits: usize,
     asked: u64,
     good: bool,
 }
 
-// Whether the threads so far fit the code, and the records that they ask for.
+// Whether the threads so far fit the code, the records that they ask for, and the COMMITs that they have passed.
 struct Verdict {
     asked: u64,
+    commits: usize,
     good: bool,
 }
 
@@ -149,6 +154,12 @@ fn is_blank(t: thread::Thread) -> bool
     if t.writes != 0 {
         return false;
     }
+    if t.rule != 0 {
+        return false;
+    }
+    if t.backs != 0 {
+        return false;
+    }
     let cells = t.cells;
     if !is_zero_from(0, &cells) {
         return false;
@@ -193,6 +204,17 @@ fn is_tidy(t: thread::Thread) -> bool
     is_zero_from(t.height, &cells)
 }
 
+// The fewest COMMITs passed by all threads with which a record fits: its number of send-backs, and one more if it has a stale read.
+fn need(t: thread::Thread, registers: &[i32]) -> usize
+    ensures { λ r. ⌜ r ≡ needIn (now (registers .entry)) t ⌝ }
+{
+    let backs = t.backs;
+    if t.has_stale(registers) {
+        return word::saturating_add(backs, 1);
+    }
+    backs
+}
+
 impl Survey {
     // No record came yet.
     pub fn start() -> Survey
@@ -206,6 +228,7 @@ impl Survey {
             begins: [0; 16],
             bases: [0; 16],
             overs: [0; 16],
+            needs: [0; 16],
             count: 0,
             seen: 0,
             good: true,
@@ -230,10 +253,10 @@ impl Survey {
         self
     }
 
-    // A thread's record came.
-    fn put(mut self, t: thread::Thread) -> Survey
+    // A thread's record came, which needs so many COMMITs passed.
+    fn put(mut self, t: thread::Thread, need: usize) -> Survey
         requires { ⌜ (self .seen < 16) × (self .count < 16) ⌝ }
-        ensures { λ r. ⌜ r ≡ putTo self t ⌝ }
+        ensures { λ r. ⌜ r ≡ putTo self t need ⌝ }
     {
         let seen = self.seen;
         let count = self.count;
@@ -244,14 +267,15 @@ impl Survey {
         self.begins[seen] = t.begin;
         self.bases[seen] = t.base;
         self.overs[seen] = t.over;
+        self.needs[seen] = need;
         self.count = count + 1;
         self.seen = seen + 1;
         self
     }
 
-    // The next record, with every test that needs no code.
-    pub fn with(self, t: thread::Thread) -> Survey
-        ensures { λ r. ⌜ r ≡ withTo self t ⌝ }
+    // The next record, with every test that needs no code; the registers say whether it has a stale read.
+    pub fn with(self, t: thread::Thread, registers: &[i32]) -> Survey
+        ensures { λ r. ⌜ r ≡ withTo self (now (registers .entry)) t ⌝ }
     {
         if !self.good {
             return self;
@@ -271,7 +295,8 @@ impl Survey {
         if !is_tidy(t) {
             return self.refuse();
         }
-        self.put(t)
+        let n = need(t, registers);
+        self.put(t, n)
     }
 }
 
@@ -351,6 +376,7 @@ fn lost() -> Walk
         begin: 0,
         base: 0,
         adds: 0,
+        commits: 0,
         asked: 0,
         good: false,
     }
@@ -373,6 +399,7 @@ impl Walk {
             begin: self.begin,
             base: self.base,
             adds: self.adds,
+            commits: self.commits,
             asked: self.asked,
             good: true,
         }
@@ -389,6 +416,7 @@ impl Walk {
             begin: self.begin,
             base: self.base,
             adds: adds_after(self.begin, self.adds),
+            commits: self.commits,
             asked: self.asked,
             good: true,
         }
@@ -409,15 +437,16 @@ impl Walk {
             begin: self.begin,
             base: self.base,
             adds: self.adds,
+            commits: self.commits,
             asked: self.asked,
             good: true,
         }
     }
 
-    // BEGIN and COMMIT: other notes.
-    fn note(self, begin: usize, base: usize) -> Walk
+    // BEGIN and COMMIT: other notes, and so many COMMITs passed.
+    fn note(self, begin: usize, base: usize, commits: usize) -> Walk
         requires { ⌜ self .place < 2 ^ 64 - 1 ⌝ }
-        ensures { λ r. ⌜ r ≡ noteTo self begin base ⌝ }
+        ensures { λ r. ⌜ r ≡ noteTo self begin base commits ⌝ }
     {
         Walk {
             place: self.place + 1,
@@ -425,6 +454,7 @@ impl Walk {
             begin,
             base,
             adds: 0,
+            commits,
             asked: self.asked,
             good: true,
         }
@@ -455,6 +485,7 @@ impl Walk {
             begin: self.begin,
             base: self.base,
             adds: self.adds,
+            commits: self.commits,
             asked: a.asked,
             good: true,
         }
@@ -462,7 +493,7 @@ impl Walk {
 
     // One instruction. The walk is lost if the next one is behind the target.
     fn step(self, starts: &[usize; 16], ends: &[usize; 16], target: usize, op: ops::Op) -> Walk
-        requires { ⌜ (self .place < target) × (self .height ≤ self .place) × (self .adds ≤ self .place) ⌝ }
+        requires { ⌜ (self .place < target) × (self .height ≤ self .place) × (self .adds ≤ self .place) × (self .commits ≤ self .place) ⌝ }
         ensures { λ r. ⌜ r ≡ stepTo (now (starts .entry)) (now (ends .entry)) target self op ⌝ }
     {
         match op {
@@ -473,9 +504,13 @@ impl Walk {
             ops::Op::Begin => {
                 let place = self.place;
                 let height = self.height;
-                self.note(place, height)
+                let commits = self.commits;
+                self.note(place, height, commits)
             }
-            ops::Op::Commit => self.note(0, 0),
+            ops::Op::Commit => {
+                let commits = self.commits + 1;
+                self.note(0, 0, commits)
+            }
             ops::Op::Fork(size) => self.fork(starts, ends, target, size),
             ops::Op::Foreign => lost(),
         }
@@ -500,6 +535,7 @@ fn walk_to(
         begin: 0,
         base: 0,
         adds: 0,
+        commits: 0,
         asked,
         good: true,
     };
@@ -566,11 +602,14 @@ impl Verdict {
         if !is_agreeing(w, row) {
             return Verdict {
                 asked: 0,
+                commits: 0,
                 good: false,
             };
         }
+        let commits = word::saturating_add(self.commits, w.commits);
         Verdict {
             asked: w.asked,
+            commits,
             good: true,
         }
     }
@@ -601,6 +640,20 @@ fn is_wanted(start: usize, asked: bool) -> bool
     asked
 }
 
+// Whether so many COMMITs passed are enough for each record.
+fn is_all_met(needs: &[usize; 16], commits: usize) -> bool
+    ensures { λ r. ⌜ r ≡ allMet 16 0 (now (needs .entry)) commits ⌝ }
+{
+    let mut i: usize = 0;
+    while i < 16 {
+        if needs[i] > commits {
+            return false;
+        }
+        i += 1;
+    }
+    true
+}
+
 impl Survey {
     // Every thread's walk.
     fn judged(self, code: &[u8]) -> Verdict
@@ -615,6 +668,7 @@ impl Survey {
         let overs = self.overs;
         let mut v = Verdict {
             asked: 0,
+            commits: 0,
             good: true,
         };
         let mut i: usize = 0;
@@ -656,6 +710,10 @@ impl Survey {
         if !v.good {
             return false;
         }
-        is_all_asked(&starts, v.asked)
+        if !is_all_asked(&starts, v.asked) {
+            return false;
+        }
+        let needs = self.needs;
+        is_all_met(&needs, v.commits)
     }
 }

@@ -14,7 +14,7 @@ use Rattle.thread.specs.declared.Action.{Action}
 use Rattle.thread.specs.declared.Thread.{Thread}
 use Rattle.thread.specs.declared.Plan.{Plan}
 use Rattle.thread.specs.Threads.{withPlace, withStack, withNotes, below, push}
-use Rattle.thread.specs.InnerStep.{Due, Stackable, handed, unacted, acting, enoughFor, takesOp, performed, ableOp, dueOp, attempted, stepped, stackedOp, stackEvent, numberOp, plainIn, stackOnly, plainOp, planOf, valueOf, noteAfter, overAtOnce, summing, stackedBy, stackTurn}
+use Rattle.thread.specs.InnerStep.{Due, Stackable, handed, unacted, acting, enoughFor, takesOp, performed, ableOp, dueOp, attempted, stepped, stackedOp, stackEvent, numberOp, plainIn, stackOnly, plainOp, planOf, valueOf, noteAfter, overAtOnce, summing, stackedBy, stackTurn, ruleAt}
 use Rattle.code.specs.Ops.{opAt}
 use Rattle.ops.specs.Shown.{shownOp}
 use Rattle.ops.specs.declared.Op.{Op}
@@ -376,7 +376,7 @@ stack-acts table t left (op.Fork size) q = never q
 stack-acts table t left op.Foreign q = never q
 
 pub plain-acts : (bytes : List ℕ) (table : List ℤ) (t : Thread) → handed (plainAction t (plainOp bytes t)) table ≡ performed wrapping table t (plainOp bytes t)
-unfolding plainOp stackOnly stackEvent stackTurn stackedBy numberOp performed
+unfolding plainOp stackOnly stackEvent stackTurn stackedBy numberOp performed ruleAt
 plain-acts bytes table t = go (eqb (t .start) 0 || eqb (t .place) (t .end))
   where
     able : Op

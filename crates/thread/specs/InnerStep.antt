@@ -11,7 +11,7 @@ use lib.ListN.{length, drop, getD, set, take, replicate}
 use Rattle.thread.specs.declared.Action.{Action}
 use Rattle.thread.specs.declared.Plan.{Plan}
 use Rattle.thread.specs.declared.Thread.{Thread}
-use Rattle.thread.specs.Threads.{below, adding, push, begin, noted, read, write, closed, firstStale, overlaid}
+use Rattle.thread.specs.Threads.{withRule, below, adding, push, begin, noted, read, write, closed, firstStale, overlaid}
 use Rattle.code.specs.Ops.{opAt}
 use Rattle.ops.specs.Shown.{shownOp}
 use Rattle.ops.specs.declared.Op.{Op}
@@ -39,6 +39,10 @@ unfoldable pub firstStaleIn : (left v : ℕ) (reads : ℕ) (readlog table : List
 firstStaleIn zero v reads readlog table = v
 firstStaleIn (suc left) v reads readlog table =
     elim (staleIn reads readlog table v) [ true ↦ v | false ↦ firstStaleIn left (suc v) reads readlog table ]
+
+-- whether a register of a record's read log is stale, in a table of 64
+unfoldable pub staleRead : (table : List ℤ) → Thread → Bool
+staleRead table t = cond (eqb (length table) 64) (ltb (firstStale 64 0 t table) 64) false
 
 unfoldable pub storedIn : (left v : ℕ) (writes : ℕ) (writelog table : List ℤ) → List ℤ
 storedIn zero v writes writelog table = table
@@ -69,8 +73,21 @@ handed a table = record { acted = a; table = table }
 abbrev pub unacted : Thread → Action
 unacted t = record { thread = t; event = 0; register = 0; turn = 0; over = 0; start = 0; end = 0 }
 
+-- the last rule after an event of this number
+unfoldable pub ruleAt : (event rule : ℕ) → ℕ
+ruleAt event rule = cond (eqb event 0) rule event
+
 abbrev pub acting : (event turn over : ℕ) → Thread → Action
-acting event turn over t = record { thread = t; event = event; register = 0; turn = turn; over = over; start = 0; end = 0 }
+acting event turn over t =
+    record {
+      thread = withRule (ruleAt event (t .rule)) (t .backs) t;
+      event = event;
+      register = 0;
+      turn = turn;
+      over = over;
+      start = 0;
+      end = 0;
+    }
 
 -- the note after a sum that left the range or not, the greatest note staying; and what the sum counts at once
 unfoldable pub noteAfter : (begin over : ℕ) → Bool → ℕ
@@ -87,7 +104,17 @@ summing sum t =
 
 abbrev pub committedBy : (stale : Bool) (v : ℕ) (table : List ℤ) → Thread → Handed
 committedBy true v table t =
-    handed (record { thread = closed (t .begin) (t .base) t; event = 10; register = v; turn = 0; over = 0; start = 0; end = 0 }) table
+    handed
+    (record {
+      thread = withRule (10 + v) (saturated (t .backs) 1) (closed (t .begin) (t .base) t);
+      event = 10;
+      register = v;
+      turn = 0;
+      over = 0;
+      start = 0;
+      end = 0;
+    })
+    table
 committedBy false v table t = handed (acting 9 1 (t .over) (closed (t .place + 1) (t .height) t)) (overlaid 64 0 t table)
 
 unfoldable pub committed : (table : List ℤ) → Thread → Handed
@@ -121,7 +148,7 @@ performed sum table t op.Commit = committed table t
 performed sum table t (op.Fork size) =
     handed
     (record {
-      thread = push (pos 0) (t .place + 3 + size) t;
+      thread = withRule 3 (t .backs) (push (pos 0) (t .place + 3 + size) t);
       event = 3;
       register = 0;
       turn = 1;
@@ -165,7 +192,7 @@ stepped sum bytes table t =
       | false ↦ attempted sum bytes table t (shownOp (opAt (drop (t .place) bytes)))
     ]
 
--- ---- PUSH and ADD, which change the stack and the note, not the logs
+-- ---- PUSH and ADD, which change the stack, the note and the last rule, not the logs
 -- its event, 0 if it is none of them
 unfoldable pub stackEvent : Op → ℕ
 stackEvent (op.Push n) = 1

@@ -33,6 +33,8 @@ blank =
       readlog = zeros;
       writes = registers.none;
       writelog = zeros;
+      rule = 0;
+      backs = 0;
     }
 
 -- a record of a thread has a start
@@ -50,7 +52,7 @@ readLog t = logOf (t .reads) (t .readlog)
 abbrev pub writeLog : Thread → ℕ → Option ℤ
 writeLog t = logOf (t .writes) (t .writelog)
 
--- ---- a record with another place, another stack, other notes, other logs
+-- ---- a record with another place, another stack, other notes, other logs, another last rule and number of send-backs
 abbrev pub withPlace : ℕ → Thread → Thread
 withPlace place t =
     record {
@@ -66,6 +68,8 @@ withPlace place t =
       readlog = t .readlog;
       writes = t .writes;
       writelog = t .writelog;
+      rule = t .rule;
+      backs = t .backs;
     }
 
 abbrev pub withStack : (height : ℕ) (cells : List ℤ) → Thread → Thread
@@ -83,6 +87,8 @@ withStack height cells t =
       readlog = t .readlog;
       writes = t .writes;
       writelog = t .writelog;
+      rule = t .rule;
+      backs = t .backs;
     }
 
 abbrev pub withNotes : (begin base over : ℕ) → Thread → Thread
@@ -100,6 +106,8 @@ withNotes begin base over t =
       readlog = t .readlog;
       writes = t .writes;
       writelog = t .writelog;
+      rule = t .rule;
+      backs = t .backs;
     }
 
 abbrev pub withLogs : (reads : ℕ) (readlog : List ℤ) (writes : ℕ) (writelog : List ℤ) → Thread → Thread
@@ -117,6 +125,27 @@ withLogs reads readlog writes writelog t =
       readlog = readlog;
       writes = writes;
       writelog = writelog;
+      rule = t .rule;
+      backs = t .backs;
+    }
+
+abbrev pub withRule : (rule backs : ℕ) → Thread → Thread
+withRule rule backs t =
+    record {
+      start = t .start;
+      end = t .end;
+      place = t .place;
+      height = t .height;
+      cells = t .cells;
+      begin = t .begin;
+      base = t .base;
+      over = t .over;
+      reads = t .reads;
+      readlog = t .readlog;
+      writes = t .writes;
+      writelog = t .writelog;
+      rule = rule;
+      backs = backs;
     }
 
 -- both logs empty
@@ -139,6 +168,8 @@ spawned start end =
       readlog = zeros;
       writes = registers.none;
       writelog = zeros;
+      rule = 0;
+      backs = 0;
     }
 
 -- the number so many below the top of the stack, the topmost being 1 below

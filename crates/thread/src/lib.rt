@@ -4,7 +4,7 @@ ghost use lib.ListN.{length};
 ghost use mathlib.Core.List.{List};
 ghost use mathlib.Core.Path.{_≡_};
 ghost use lib.IntN.{ℤ};
-ghost use Rattle.thread.specs.InnerStep.{Due, Marked, Stackable, acting, cleared, committed, dueOp, enoughFor, firstStaleIn, handed, logged, noteAfter, numberOp, outsideTurn, overAtOnce, performed, plainIn, plainOp, planOf, sourceNumber, stackEvent, stackTurn, stackedBy, stackedOp, staleIn, stepped, storedIn, summing, takesOp, unacted, valueOf};
+ghost use Rattle.thread.specs.InnerStep.{Due, Marked, Stackable, acting, cleared, committed, dueOp, enoughFor, firstStaleIn, handed, logged, noteAfter, numberOp, outsideTurn, overAtOnce, performed, plainIn, plainOp, planOf, ruleAt, sourceNumber, stackEvent, stackTurn, stackedBy, stackedOp, staleIn, staleRead, stepped, storedIn, summing, takesOp, unacted, valueOf};
 ghost use Rattle.thread.specs.Threads as threads;
 ghost use Rattle.word.specs.Sum.{wrapping};
 
@@ -29,6 +29,11 @@ pub struct Thread {
     pub readlog: [i32; 64],
     pub writes: u64,
     pub writelog: [i32; 64],
+    // the last rule that moved it: 0 none, 1 push, 2 sum, 3 fork, 4 begin, 5, 6, 7 read from the write log, the read log, the table, 8 write,
+    // 9 commit, 10 + v sent back with lowest stale register v
+    pub rule: usize,
+    // how often it was sent back
+    pub backs: usize,
 }
 
 // What a step hands back.
@@ -343,10 +348,22 @@ fn value(event: usize, n: i32, a: i32, b: i32) -> word::Added
     }
 }
 
+// The last rule after an event: an idle pick leaves it.
+fn rule_at(event: usize, rule: usize) -> usize
+    ensures { λ r. ⌜ r ≡ ruleAt event rule ⌝ }
+{
+    if event == 0 {
+        return rule;
+    }
+    event
+}
+
 // The record after an instruction that forks nothing and is not sent back.
-fn did(thread: Thread, event: usize, turn: usize, over: usize) -> Action
+fn did(mut thread: Thread, event: usize, turn: usize, over: usize) -> Action
     ensures { λ r. ⌜ r ≡ acting event turn over thread ⌝ }
 {
+    let rule = thread.rule;
+    thread.rule = rule_at(event, rule);
     Action {
         thread,
         event,
@@ -508,7 +525,20 @@ impl Thread {
             readlog: [0; 64],
             writes: word::empty(),
             writelog: [0; 64],
+            rule: self.rule,
+            backs: self.backs,
         }
+    }
+
+    // Whether a register of the read log is stale; in a table of other than 64 registers none is.
+    pub fn has_stale(self, registers: &[i32]) -> bool
+        ensures { λ r. ⌜ r ≡ staleRead (now (registers .entry)) self ⌝ }
+    {
+        if registers.len() != 64 {
+            return false;
+        }
+        let readlog = self.readlog;
+        first_stale(self.reads, &readlog, registers) < 64
     }
 
     // COMMIT
@@ -519,7 +549,9 @@ impl Thread {
         let readlog = self.readlog;
         let v = first_stale(self.reads, &readlog, registers);
         if v < 64 {
-            let t = self.closed(self.begin, self.base);
+            let mut t = self.closed(self.begin, self.base);
+            t.rule = 10 + v;
+            t.backs = word::saturating_add(self.backs, 1);
             return Action {
                 thread: t,
                 event: 10,
@@ -532,16 +564,9 @@ impl Thread {
         }
         let writelog = self.writelog;
         store(self.writes, &writelog, registers);
+        let over = self.over;
         let t = self.closed(self.place + 1, self.height);
-        Action {
-            thread: t,
-            event: 9,
-            register: 0,
-            turn: 1,
-            over: self.over,
-            start: 0,
-            end: 0,
-        }
+        did(t, 9, 1, over)
     }
 
     // The instruction at the record's place; Foreign if there is none, or the record has not what it takes.
@@ -595,7 +620,8 @@ impl Thread {
             }
             ops::Op::Commit => self.commit(registers),
             ops::Op::Fork(size) => {
-                let t = self.push(0, place + 3 + size);
+                let mut t = self.push(0, place + 3 + size);
+                t.rule = 3;
                 Action {
                     thread: t,
                     event: 3,
@@ -636,7 +662,7 @@ impl Thread {
         op
     }
 
-    // Whether a step is a PUSH or an ADD, which changes the stack and the note and not the logs, or is idle because there is no such thread or it has ended.
+    // Whether a step is a PUSH or an ADD, which changes the stack, the note and the last rule and not the logs, or is idle because there is no such thread or it has ended.
     pub fn is_plain(self, code: &[u8]) -> bool
         ensures { λ r. ⌜ r ≡ plainIn (now (code .entry)) self ⌝ }
     {
@@ -649,7 +675,7 @@ impl Thread {
         stack_event(self.plain_op(code)) != 0
     }
 
-    // A PUSH, an ADD or none of them, in one way: the stack and the note are changed, not the logs.
+    // A PUSH, an ADD or none of them, in one way: the stack, the note and the last rule are changed, not the logs.
     fn stacked(mut self, event: usize, n: i32) -> Action
         requires { ⌜ Stackable event (self .height) (self .place) ⌝ }
         ensures { λ r. ⌜ r ≡ stackedBy event n self ⌝ }

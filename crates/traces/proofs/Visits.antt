@@ -15,7 +15,7 @@ use Rattle.code.specs.Bytes.{IsCode}
 use Rattle.code.specs.Ops.{Op}
 use Rattle.code.specs.Ops as code
 use Rattle.machine.specs.Fits.{Walked, nextPlace, Walks, ownCode, Exists, ThreadOf, Fits, Typed}
-use Rattle.machine.specs.Steps.{State, Stepped, Acted, Child, threadAt, numberOf, committing, commit, act, seated, settle, instruction, pick, fresh, run, DoesOne}
+use Rattle.machine.specs.Steps.{State, Stepped, Acted, Child, threadAt, numberOf, committing, commit, movedBy, ruled, act, perform, seated, settle, instruction, pick, fresh, run, DoesOne}
 use Rattle.machine.proofs.Agrees.{step-fits, does-one}
 use Rattle.machine.proofs.Fresh.{no-record}
 use Rattle.machine.proofs.Picks.{missing-idle, ended-idle}
@@ -36,24 +36,24 @@ record Moved (t : Thread) (op : Op) (t′ : Thread) : Type 0 where
   place : (t′ .place ≡ nextPlace op (t .place)) ⊎ (t′ .place ≡ t .begin)
 
 acts : (sum : Rule) (table : List ℤ) (t : Thread) (op : Op) → Moved t op (act sum table t op .thread)
-unfolding act push add begin read write commit closed nextPlace
+unfolding act perform push add begin read write commit closed nextPlace
 acts sum table t (code.push n) = record { own = refl; place = inl refl }
 acts sum table t code.add = record { own = refl; place = inl refl }
 acts sum table t (code.fork size) = record { own = refl; place = inl refl }
 acts sum table t code.begin = record { own = refl; place = inl refl }
 acts sum table t (code.read v) = looked (sourceOf t v) refl
   where
-    looked : (o : Source) → sourceOf t v ≡ o → Moved t (code.read v) (read table v t)
+    looked : (o : Source) → sourceOf t v ≡ o → Moved t (code.read v) (movedBy (perform sum table t (code.read v) .event) (read table v t))
     looked fromWrites e = record { own = rw e; place = inl refl }
     looked fromReads e = record { own = rw e; place = inl refl }
     looked fromTable e = record { own = rw e; place = inl refl }
 acts sum table t (code.write v) = record { own = refl; place = inl refl }
 acts sum table t code.commit = tried (firstStale 64 0 t table)
   where
-    tried : (v : ℕ) → Moved t code.commit (commit table t v .thread)
+    tried : (v : ℕ) → Moved t code.commit (ruled (commit table t v) .thread)
     tried v = go (ltb v 64)
       where
-        go : (b : Bool) → Moved t code.commit (committing b table t v .thread)
+        go : (b : Bool) → Moved t code.commit (ruled (committing b table t v) .thread)
         go true = record { own = refl; place = inr refl }
         go false = record { own = refl; place = inl refl }
 

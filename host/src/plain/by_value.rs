@@ -84,7 +84,7 @@ impl Thread {
             Op::Commit => match first_stale(&self, registers) {
                 Some(register) => {
                     place = self.begin;
-                    self.send_back();
+                    self.send_back(register);
                     Step { stale: Some(register as u8), ..Step::of(Event::SentBack) }
                 }
                 None => {
@@ -95,6 +95,9 @@ impl Thread {
             },
         };
         self.place = place;
+        if step.event != Event::SentBack {
+            self.rule = step.event as usize;
+        }
         Action { thread: self, step, child }
     }
 
@@ -144,9 +147,11 @@ impl Thread {
         self.close();
     }
 
-    fn send_back(&mut self) {
+    fn send_back(&mut self, stale: usize) {
         self.cells[self.base..self.height].fill(0);
         self.height = self.base;
+        self.rule = 10 + stale;
+        self.backs += 1;
         self.close();
     }
 

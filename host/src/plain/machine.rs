@@ -42,7 +42,7 @@ pub type Admitted<'a> = (&'a mut [i32; REGISTERS], &'a mut [Thread; RECORDS]);
 /// The tests of a call on a state: 11, then 12.
 pub fn admit<'a>(code: &[u8], registers: &'a mut [i32], threads: &'a mut [Thread]) -> Result<Admitted<'a>, Refusal> {
     let outline = code::outline(code)?;
-    if !fits(code, &outline, registers.len(), threads) {
+    if !fits(code, &outline, registers, threads) {
         return unfit_state();
     }
     match (registers.try_into(), threads.try_into()) {
@@ -56,9 +56,25 @@ pub fn starting(start: usize, end: usize) -> Thread {
     Thread { start, end, place: start, ..Thread::ABSENT }
 }
 
-/// One pick in a state that fits. Inlined, for its answer would be passed through memory.
+/// One pick in a state that fits; the thread's record keeps its rule, and counts a send-back.
 #[inline(always)]
 fn act(code: &[u8], registers: &mut [i32; REGISTERS], threads: &mut [Thread; RECORDS], pick: u8) -> Step {
+    let step = instruct(code, registers, threads, pick);
+    if step.event == Event::Idle {
+        return step;
+    }
+    let thread = &mut threads[usize::from(pick)];
+    thread.rule = step.event as usize;
+    if let Some(register) = step.stale {
+        thread.rule += usize::from(register);
+        thread.backs += 1;
+    }
+    step
+}
+
+/// The instruction of a pick. Inlined, for its answer would be passed through memory.
+#[inline(always)]
+fn instruct(code: &[u8], registers: &mut [i32; REGISTERS], threads: &mut [Thread; RECORDS], pick: u8) -> Step {
     let Some(thread) = threads.get_mut(usize::from(pick)) else {
         return Step::IDLE;
     };

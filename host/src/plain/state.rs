@@ -1,12 +1,15 @@
 //! Whether a state fits its code.
 
 use super::code::{self, Op, Outline};
+use super::machine::first_stale;
 use super::{INSTRUCTIONS, MOST_FORKS, RECORDS, REGISTERS};
 use crate::Thread;
 
 /// Where a thread stands, by its code.
 struct Standing {
     height: usize,
+    /// The COMMITs passed.
+    commits: usize,
     /// While a transaction is open.
     notes: Option<Notes>,
 }
@@ -19,8 +22,11 @@ struct Notes {
 }
 
 /// Tests a state against a tested code.
-pub fn fits(code: &[u8], outline: &Outline, registers: usize, threads: &[Thread]) -> bool {
-    if registers != REGISTERS || threads.len() != RECORDS {
+pub fn fits(code: &[u8], outline: &Outline, registers: &[i32], threads: &[Thread]) -> bool {
+    let Ok(registers) = registers.try_into() else {
+        return false;
+    };
+    if threads.len() != RECORDS {
         return false;
     }
     let existing = threads.iter().take_while(|thread| thread.start != 0).count();
@@ -41,6 +47,7 @@ pub fn fits(code: &[u8], outline: &Outline, registers: usize, threads: &[Thread]
         }
     }
     let mut passed = [false; MOST_FORKS];
+    let mut commits = 0;
     for thread in threads {
         let Some(standing) = walk(code, thread, |child| {
             if let Some(fork) = children.iter().position(|c| c.start == child) {
@@ -52,14 +59,21 @@ pub fn fits(code: &[u8], outline: &Outline, registers: usize, threads: &[Thread]
         if !holds(thread, &standing) {
             return false;
         }
+        commits += standing.commits;
     }
-    started == passed
+    started == passed && threads.iter().all(|thread| send_backs_fit(thread, registers, commits))
+}
+
+/// Whether its number of send-backs is possible if all threads together have passed so many COMMITs.
+fn send_backs_fit(thread: &Thread, registers: &[i32; REGISTERS], commits: usize) -> bool {
+    thread.backs < commits || thread.backs == commits && first_stale(thread, registers).is_none()
 }
 
 /// Goes through a thread's own code up to its place, if that is one; each FORK on the way is told by its child's start.
 fn walk(code: &[u8], thread: &Thread, mut passing: impl FnMut(usize)) -> Option<Standing> {
     let mut at = thread.start;
     let mut height = 0;
+    let mut commits = 0;
     let mut notes: Option<Notes> = None;
     while at < thread.place && at < thread.end {
         let (op, next) = code::decode(code, at)?;
@@ -73,7 +87,10 @@ fn walk(code: &[u8], thread: &Thread, mut passing: impl FnMut(usize)) -> Option<
             }
             Op::Write(_) => {}
             Op::Begin => notes = Some(Notes { begin: at, base: height, adds: 0 }),
-            Op::Commit => notes = None,
+            Op::Commit => {
+                notes = None;
+                commits += 1;
+            }
             Op::Fork(length) => {
                 passing(next);
                 height += 1;
@@ -83,7 +100,7 @@ fn walk(code: &[u8], thread: &Thread, mut passing: impl FnMut(usize)) -> Option<
         }
         at = next;
     }
-    (at == thread.place).then_some(Standing { height, notes })
+    (at == thread.place).then_some(Standing { height, commits, notes })
 }
 
 /// Whether the record's stack, notes and logs are those of where it stands.

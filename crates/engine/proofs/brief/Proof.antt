@@ -281,7 +281,7 @@ module _ {M : Type 1} (𝓤 : URA M) (H : Heap 𝓤) (A : Atoms 𝓤) (W : Given
           land ! (from ! (stop !)) (init ! 11 refl (thread-typed 𝓤 H A W child _ new .0)) $ rewrite ! 11 (λ (v : Val). ‵ (fat fullShare T′.mir l₁₇ 0 v)) (ap only (thread-tells child _ new)) refl $ drop ! $
           assigns ! (bin ! (load ! (from ! (stop !)) (look ! 26 refl)) (lit ! tt) (record { fits = omega (arith, room .1, ltb→lt (r .seat) (length ys) h) })) (from ! (stop !)) (init ! 8 refl (tt, record { fits = omega (arith, room .1, ltb→lt (r .seat) (length ys) h) })) $
           assigns ! (bin ! (load ! (from ! (fld ! refl (stop !))) (look-in ! 38 (sub ! 0 refl (whole !)))) (load ! (from ! (stop !)) (look ! 8 refl)) tt) (from ! (stop !)) (init ! 6 refl (tt, tt)) $
-          rewrite ! 6 (λ (n : ℕ). ‵ (fat fullShare tyPtr l₁₉ 0 (vptr b n))) (sym (place-is 840 o (r .seat))) refl $
+          rewrite ! 6 (λ (n : ℕ). ‵ (fat fullShare tyPtr l₁₉ 0 (vptr b n))) (sym (place-is 856 o (r .seat))) refl $
           elem-out ! ThreadR (Is ThreadR) (shows 𝓤 H A ThreadR) thread-vals thread-tells fullShare (put r) (r .seat) blank b o (within h) (λ _.
           assigns-last ! (of-opd ! (load ! (from ! (stop !)) (look ! 12 refl))) (from ! (hop ! (look ! 8 refl) (stop !))) (store-raw ! 0 refl (thread-typed 𝓤 H A W child _ (known new) .0)) $
           exec ! C Λ En mir′.t-16 (atRet En Post) $
@@ -327,7 +327,7 @@ module _ {M : Type 1} (𝓤 : URA M) (H : Heap 𝓤) (A : Atoms 𝓤) (W : Given
         land ! (from ! (stop !)) (init ! 27 refl (uint-lawful 𝓤 H A W w64 .typed who _ iw .0)) $ rewrite ! 27 (λ (u : Val). ‵ (fat fullShare word l₆ 0 u)) (ap only (iw .0)) refl $ drop ! $
         assigns ! (bin ! (load ! (from ! (stop !)) (look ! 26 refl)) (lit ! tt) (record { fits = omega (arith, room .1, within) })) (from ! (stop !)) (init ! 18 refl (tt, record { fits = omega (arith, room .1, within) })) $
         assigns ! (bin ! (load ! (from ! (fld ! refl (stop !))) (look-in ! 32 (sub ! 0 refl (whole !)))) (load ! (from ! (stop !)) (look ! 18 refl)) tt) (from ! (stop !)) (init ! 16 refl (tt, tt)) $
-        rewrite ! 16 (λ (m : ℕ). ‵ (fat fullShare tyPtr l₁₁ 0 (vptr b m))) (sym (place-is 840 o who)) refl $
+        rewrite ! 16 (λ (m : ℕ). ‵ (fat fullShare tyPtr l₁₁ 0 (vptr b m))) (sym (place-is 856 o who)) refl $
         move ! (41 ∷ []) $ fsplit ! $ move ! (1 ∷ []) $ fsplit ! $ move ! (1 ∷ []) $ fsplit ! $ move ! (1 ∷ []) $ drop ! $ fsplit ! $ move ! (1 ∷ []) $ fsplit ! $ move ! (2 ∷ []) $ drop ! $
         -- [obs; the borrow; the registers; the code; _19; …; the tokens]
         move ! (44 ∷ []) $ split ! $ move ! (1 ∷ []) $ split ! $ move ! (1 ∷ []) $ split ! $ move ! (4 ∷ 5 ∷ 0 ∷ []) $
@@ -348,7 +348,7 @@ module _ {M : Type 1} (𝓤 : URA M) (H : Heap 𝓤) (A : Atoms 𝓤) (W : Given
         land ! (from ! (stop !)) (init ! 33 refl (picked-typed 𝓤 H A W r _ is .0)) $ rewrite ! 33 (λ (u : Val). ‵ (fat fullShare A′.mir l₈ 0 u)) (ap only (picked-tells r _ is)) refl $ drop ! $
         assigns ! (bin ! (load ! (from ! (stop !)) (look ! 36 refl)) (lit ! tt) (record { fits = omega (arith, room .1, within) })) (from ! (stop !)) (store ! 28 refl (tt, record { fits = omega (arith, room .1, within) })) $
         assigns ! (bin ! (load ! (from ! (fld ! refl (stop !))) (look-in ! 42 (sub ! 0 refl (whole !)))) (load ! (from ! (stop !)) (look ! 28 refl)) tt) (from ! (stop !)) (init ! 18 refl (tt, tt)) $
-        rewrite ! 18 (λ (n : ℕ). ‵ (fat fullShare tyPtr l₁₅ 0 (vptr b n))) (sym (place-is 840 o who)) refl $
+        rewrite ! 18 (λ (n : ℕ). ‵ (fat fullShare tyPtr l₁₅ 0 (vptr b n))) (sym (place-is 856 o who)) refl $
         assigns ! (of-opd ! (load ! (from ! (fld ! refl (stop !))) (look-in ! 32 (sub ! 0 refl (whole !))))) (from ! (hop ! (look ! 18 refl) (stop !))) (store-raw ! 3 refl (thread-typed 𝓤 H A W (r .thread) _ (picked-thread r _ is) .0)) $
         move ! (4 ∷ []) $ drop ! $ owned ! ThreadR (Is ThreadR) (thread-makes 𝓤 H A) (r .thread) _ (picked-thread r _ is) $ move ! (4 ∷ 0 ∷ 5 ∷ []) $ elem-put ! ThreadR fullShare ys who (r .thread) (thread-vals (r .thread)) b o within $
         -- [the row; the tokens; the last registers; true; the open borrow; obs; auth; true; _19; …]: _i at 46 - 2 i

@@ -1,4 +1,4 @@
--- `engine::kuspigo_run` meets its contract: a walk of its MIR, by hand, with no branch and no loop of its own. The records are lent on to `gather`, to be read, and come back; then registers and records are given to `drive` for good. `admit` and `run_reply` are covered.
+-- `engine::kuspigo_run` meets its contract: a walk of its MIR, by hand, with no branch and no loop of its own. Records and registers are lent on to `gather`, to be read, and come back; then registers and records are given to `drive` for good. `admit` and `run_reply` are covered.
 -- Assumes nothing.
 use mathlib.Core.Path.{_≡_, refl, sym, _∙_, ap, subst}
 use mathlib.Core.Bool.{Bool, true, false, cond}
@@ -110,8 +110,8 @@ module _ {M : Type 1} (𝓤 : URA M) (H : Heap 𝓤) (A : Atoms 𝓤) (W : Given
   x₀ = record { ptr = (b₀, o₀); name = γ₀; now = cd }
 
   -- the registers
-  abbrev x₁ : RefT (List ℤ)
-  x₁ = record { ptr = (b₁, o₁); name = γ₁; now = rs }
+  abbrev x₁ : GName → RefT (List ℤ)
+  x₁ δ = record { ptr = (b₁, o₁); name = δ; now = rs }
 
   -- the records
   abbrev x : GName → List Thread → RefT (List Thread)
@@ -123,7 +123,7 @@ module _ {M : Type 1} (𝓤 : URA M) (H : Heap 𝓤) (A : Atoms 𝓤) (W : Given
 
   -- what is passed
   abbrev a : RefT (List ℕ) × (RefT (List ℤ) × (RefT (List Thread) × (RefT (List ℕ) × Unit {0})))
-  a = (x₀, (x₁, (x γ ys, (x₃, tt))))
+  a = (x₀, (x₁ γ₁, (x γ ys, (x₃, tt))))
 
   -- the code's machine value
   abbrev s₀ : Val
@@ -159,7 +159,7 @@ module _ {M : Type 1} (𝓤 : URA M) (H : Heap 𝓤) (A : Atoms 𝓤) (W : Given
 
   -- what the registers own
   abbrev Own₁ : Fml
-  Own₁ = MutSlice (named 1) κ₁ i32 .own x₁ (s₁ ∷ [])
+  Own₁ = MutSlice (named 1) κ₁ i32 .own (x₁ γ₁) (s₁ ∷ [])
 
   -- what the records own
   abbrev Own₂ : List Thread → Fml
@@ -174,8 +174,8 @@ module _ {M : Type 1} (𝓤 : URA M) (H : Heap 𝓤) (A : Atoms 𝓤) (W : Given
   first v = admittedTo (readCode cd) (surveyFits v cd (length rs)) (v .count) (length ps)
 
   -- what the triple of `gather` binds outside
-  abbrev to-gather : ℕ → GName → Gather 𝓤 H A mem rn .Ghost
-  to-gather ν δ = (((ν ∷ [], tt), (fullShare, tt), tt, (x δ ys, tt), (s ∷ [], tt)), tt)
+  abbrev to-gather : ℕ → ℕ → GName → GName → Gather 𝓤 H A mem rn .Ghost
+  to-gather ν ν′ δ δ₁ = (((ν ∷ [], (ν′ ∷ [], tt)), (fullShare, (fullShare, tt)), tt, (x δ ys, (x₁ δ₁, tt)), (s ∷ [], (s₁ ∷ [], tt))), tt)
 
   -- that of `admit`
   abbrev to-admit : Survey → Admit 𝓤 H A mem rn .Ghost
@@ -183,20 +183,24 @@ module _ {M : Type 1} (𝓤 : URA M) (H : Heap 𝓤) (A : Atoms 𝓤) (W : Given
 
   -- that of `drive`
   abbrev to-drive : Progress → Drive 𝓤 H A mem rn .Ghost
-  to-drive p = (((κ₀, (κ₁, (κ₂, (κ₃, tt)))), (q₀, (q₁, (q₂, (q₃, tt)))), tt, (x₀, (x₁, (x γ ys, (x₃, (p, tt))))), (s₀ ∷ [], (s₁ ∷ [], (s ∷ [], (s₃ ∷ [], (progress-vals p, tt)))))), tt)
+  to-drive p = (((κ₀, (κ₁, (κ₂, (κ₃, tt)))), (q₀, (q₁, (q₂, (q₃, tt)))), tt, (x₀, (x₁ γ₁, (x γ ys, (x₃, (p, tt))))), (s₀ ∷ [], (s₁ ∷ [], (s ∷ [], (s₃ ∷ [], (progress-vals p, tt)))))), tt)
 
   -- that of `run_reply`
   abbrev to-answer : Progress → Answer 𝓤 H A mem rn .Ghost
   to-answer p = ((tt, tt, tt, (p, tt), (progress-vals p, tt)), tt)
 
-  -- what `gather` asks
-  asks-gather : (ν : ℕ) (δ : GName) → ent 𝓤 (⋆ 𝓤 H A (‵ (flft (ν ∷ []) fullShare) ∷ ‵ (ShrSlice (named 0) (ν ∷ []) ThreadR .own (x δ ys) (s ∷ [])) ∷ [])) (Gather 𝓤 H A mem rn .pre (to-gather ν δ))
-  asks-gather ν δ =
-      qed W (‵ (flft (ν ∷ []) fullShare) ∷ ‵ (ShrSlice (named 0) (ν ∷ []) ThreadR .own (x δ ys) (s ∷ [])) ∷ []) ∵ nothing ! $ move ! (1 ∷ 0 ∷ []) $ join ! $ nothing ! $ move ! (2 ∷ 0 ∷ []) $ fjoin ! $ move ! (1 ∷ 0 ∷ []) $ join ! $ frame ! $ done !
+  -- what `gather` is lent, to be read
+  abbrev Read : ℕ → ℕ → GName → GName → List (Item 𝓤)
+  Read ν ν′ δ δ₁ = ‵ (flft (ν ∷ []) fullShare) ∷ ‵ (flft (ν′ ∷ []) fullShare) ∷ ‵ (ShrSlice (named 0) (ν ∷ []) ThreadR .own (x δ ys) (s ∷ [])) ∷ ‵ (ShrSlice (named 1) (ν′ ∷ []) i32 .own (x₁ δ₁) (s₁ ∷ [])) ∷ []
+
+  -- what it asks
+  asks-gather : (ν ν′ : ℕ) (δ δ₁ : GName) → ent 𝓤 (⋆ 𝓤 H A (Read ν ν′ δ δ₁)) (Gather 𝓤 H A mem rn .pre (to-gather ν ν′ δ δ₁))
+  asks-gather ν ν′ δ δ₁ =
+      qed W (Read ν ν′ δ δ₁) ∵ nothing ! $ move ! (2 ∷ 0 ∷ []) $ join ! $ move ! (1 ∷ 0 ∷ []) $ join ! $ nothing ! $ move ! (3 ∷ 0 ∷ []) $ fjoin ! $ move ! (2 ∷ 0 ∷ []) $ fjoin ! $ move ! (1 ∷ 0 ∷ []) $ join ! $ frame ! $ done !
 
   -- what `gather` tells
-  tells-gather : (ν : ℕ) (δ : GName) (r : Survey) → ent 𝓤 (ensured 𝓤 H A gather.ended (gather.clauses 𝓤 H A mem rn) (ν ∷ [], tt) (x δ ys, tt) tt r) (fact 𝓤 (Gathered ys r))
-  tells-gather ν δ r = exE 𝓤 _ (λ ws. snd∗ 𝓤 (sem 𝓤 H A (lasts gather.ended (ν ∷ [], tt) (x δ ys, tt) ws)) (fact 𝓤 (Gathered ys r)))
+  tells-gather : (ν ν′ : ℕ) (δ δ₁ : GName) (r : Survey) → ent 𝓤 (ensured 𝓤 H A gather.ended (gather.clauses 𝓤 H A mem rn) (ν ∷ [], (ν′ ∷ [], tt)) (x δ ys, (x₁ δ₁, tt)) tt r) (fact 𝓤 (Gathered rs ys r))
+  tells-gather ν ν′ δ δ₁ r = exE 𝓤 _ (λ ws. snd∗ 𝓤 (sem 𝓤 H A (lasts gather.ended (ν ∷ [], (ν′ ∷ [], tt)) (x δ ys, (x₁ δ₁, tt)) ws)) (fact 𝓤 (Gathered rs ys r)))
 
   -- what `admit` asks
   asks-admit : (v : Survey) → Is SurveyR v (survey-vals v) → length rs < 2 ^ 64 → length ps < 2 ^ 64 → ent 𝓤 (⋆ 𝓤 H A (‵ (flft κ₀ q₀) ∷ ‵ Own₀ ∷ [])) (Admit 𝓤 H A mem rn .pre (to-admit v))
@@ -213,9 +217,9 @@ module _ {M : Type 1} (𝓤 : URA M) (H : Heap 𝓤) (A : Atoms 𝓤) (W : Given
   Given′ = ‵ (flft κ₀ q₀) ∷ ‵ (flft κ₁ q₁) ∷ ‵ (flft κ₂ q₂) ∷ ‵ (flft κ₃ q₃) ∷ ‵ Own₀ ∷ ‵ Own₁ ∷ ‵ (Own₂ ys) ∷ ‵ Own₃ ∷ []
 
   -- what it asks
-  asks-drive : (v : Survey) → Gathered ys v → Is ProgressR (first v) (progress-vals (first v)) → ent 𝓤 (⋆ 𝓤 H A Given′) (Drive 𝓤 H A mem rn .pre (to-drive (first v)))
-  asks-drive v g gp =
-      qed W Given′ ∵ says ! (within cd rs ys (length ps) v (g .survey) (g .typed)) $ nothing ! $ move ! (4 ∷ 0 ∷ []) $ join ! $ move ! (3 ∷ 0 ∷ []) $ join ! $ move ! (2 ∷ 0 ∷ []) $ join ! $ move ! (1 ∷ 0 ∷ []) $ join ! $ frame ! $
+  asks-drive : (v : Survey) → Gathered rs ys v → Bytes cd → Is ProgressR (first v) (progress-vals (first v)) → ent 𝓤 (⋆ 𝓤 H A Given′) (Drive 𝓤 H A mem rn .pre (to-drive (first v)))
+  asks-drive v g small gp =
+      qed W Given′ ∵ says ! (within cd rs ys (length ps) v (g .survey) small (g .typed)) $ nothing ! $ move ! (4 ∷ 0 ∷ []) $ join ! $ move ! (3 ∷ 0 ∷ []) $ join ! $ move ! (2 ∷ 0 ∷ []) $ join ! $ move ! (1 ∷ 0 ∷ []) $ join ! $ frame ! $
       nothing ! $ owned ! ProgressR (Is ProgressR) (progress-makes 𝓤 H A) (first v) _ gp $ fjoin ! $ move ! (4 ∷ 0 ∷ []) $ fjoin ! $ move ! (3 ∷ 0 ∷ []) $ fjoin ! $ move ! (2 ∷ 0 ∷ []) $ fjoin ! $ move ! (1 ∷ 0 ∷ []) $ fjoin ! $ done !
 
   -- what `run_reply` asks
@@ -239,12 +243,12 @@ module _ {M : Type 1} (𝓤 : URA M) (H : Heap 𝓤) (A : Atoms 𝓤) (W : Given
   isfirst v {w = w} g = subst (λ (r : Progress). Is ProgressR r (w ∷ [])) (g .0 .progress) (g .1)
 
   -- the contract's equation
-  meets : (v : Survey) → Gathered ys v → Bytes cd → (p : Progress) (rs′ : List ℤ) (zs : List Thread) → Driven v p rs′ zs → answered rs′ zs (runReplyOf p) ≡ runCall cd (stateFrom rs ys) ps
+  meets : (v : Survey) → Gathered rs ys v → Bytes cd → (p : Progress) (rs′ : List ℤ) (zs : List Thread) → Driven v p rs′ zs → answered rs′ zs (runReplyOf p) ≡ runCall cd (stateFrom rs ys) ps
   unfolding ranBy admitting
   meets v g small p rs′ zs f = ap answering f ∙ ap (λ (u : Survey). answering (driven cd (first u .limit) ps (drove rs ys (first u)))) (g .survey) ∙ run-by-value cd (stateFrom rs ys) ps small (g .typed)
 
   -- what is had at the end is what is to be left
-  exits : (v : Survey) → Gathered ys v → Bytes cd → (p : Progress) (rs′ : List ℤ) (zs : List Thread) → Driven v p rs′ zs → length rs′ ≡ length rs → length zs ≡ length ys → Is RunR (runReplyOf p) (run-vals (runReplyOf p))
+  exits : (v : Survey) → Gathered rs ys v → Bytes cd → (p : Progress) (rs′ : List ℤ) (zs : List Thread) → Driven v p rs′ zs → length rs′ ≡ length rs → length zs ≡ length ys → Is RunR (runReplyOf p) (run-vals (runReplyOf p))
       → ent 𝓤 (⋆ 𝓤 H A (Tokens ∷ ‵ (finally ThreadR γ zs) ∷ ‵ (finally i32 γ₁ rs′) ∷ [])) (Post (run-val (runReplyOf p)))
   exits v g small p rs′ zs f l lz ga =
       qed W (Tokens ∷ ‵ (finally ThreadR γ zs) ∷ ‵ (finally i32 γ₁ rs′) ∷ []) ∵ suffices ! _ (ends-at 𝓤 H A run.ended stayed (run.clauses 𝓤 H A mem rn) W bound (run-val (runReplyOf p)) (runReplyOf p) (tt, (rs′, (zs, (tt, tt)))) (tt, (l, (lz, (tt, tt))))) $
@@ -259,56 +263,62 @@ module _ {M : Type 1} (𝓤 : URA M) (H : Heap 𝓤) (A : Atoms 𝓤) (W : Given
     walk room₀ room₁ room room₃ =
         qed W (Tokens ∷ ‵ (owns (ShrSlice (named 0) κ₀ u8 ∷ MutSlice (named 1) κ₁ i32 ∷ MutSlice (named 2) κ₂ ThreadR ∷ ShrSlice (named 3) κ₃ u8 ∷ []) a at) ∷ []) ∵
         enter ! C Λ code.function (s₀ ∷ s₁ ∷ s ∷ s₃ ∷ []) _ $
-        alloc1 ! (λ l₀. alloc1 ! (λ l₁. alloc1 ! (λ l₂. alloc1 ! (λ l₃. alloc1 ! (λ l₄. alloc1 ! (λ l₅. alloc1 ! (λ l₆. alloc1 ! (λ l₇. alloc1 ! (λ l₈. alloc1 ! (λ l₉. alloc1 ! (λ l₁₀. alloc1 ! (λ l₁₁. alloc1 ! (λ l₁₂. alloc1 ! (λ l₁₃. alloc1 ! (λ l₁₄. alloc1 ! (λ l₁₅. alloc0 ! $ params1 ! $
-        pass1 ! (init ! 28 refl (tt, (tt, (record { fits = room₀ .0 }, tt)))) $ pass1 ! (init ! 26 refl (tt, (tt, (record { fits = room₁ .0 }, tt)))) $ pass1 ! (init ! 24 refl (tt, (tt, (record { fits = room .0 }, tt)))) $ pass1 ! (init ! 22 refl (tt, (tt, (record { fits = room₃ .0 }, tt)))) $ pass0 ! $
-        -- [_15; …; _0; …; the tokens; what all own]: _i at 30 - 2 i
-        assigns ! (addr ! (from ! (fld ! refl (hop ! (look-in ! 24 (sub ! 0 refl (whole !))) (stop !))))) (from ! (stop !)) (init ! 14 refl (tt, tt)) $
-        assigns ! (agg ! (and-then ! (load ! (from ! (stop !)) (look ! 14 refl)) (and-then ! (load ! (from ! (fld ! refl (stop !))) (look-in ! 24 (sub ! 1 refl (whole !)))) (no-more !)))) (from ! (stop !)) (init ! 12 refl (tt, (tt, (record { fits = room .0 }, tt)))) $
-        move ! (33 ∷ []) $ fsplit ! $ move ! (1 ∷ []) $ fsplit ! $ move ! (1 ∷ []) $ fsplit ! $ move ! (1 ∷ []) $ fsplit ! $ move ! (1 ∷ []) $ drop ! $
-        move ! (36 ∷ []) $ split ! $ move ! (1 ∷ []) $ split ! $ move ! (1 ∷ []) $ split ! $ move ! (1 ∷ []) $ split ! $ move ! (1 ∷ []) $ drop ! $
-        -- [κ₃'s token; κ₂'s; κ₁'s; κ₀'s; the picks; the records; the registers; the code; _15; …]: _i at 38 - 2 i. The records are lent on to `gather`, to be read
+        alloc1 ! (λ l₀. alloc1 ! (λ l₁. alloc1 ! (λ l₂. alloc1 ! (λ l₃. alloc1 ! (λ l₄. alloc1 ! (λ l₅. alloc1 ! (λ l₆. alloc1 ! (λ l₇. alloc1 ! (λ l₈. alloc1 ! (λ l₉. alloc1 ! (λ l₁₀. alloc1 ! (λ l₁₁. alloc1 ! (λ l₁₂. alloc1 ! (λ l₁₃. alloc1 ! (λ l₁₄. alloc1 ! (λ l₁₅. alloc1 ! (λ l₁₆. alloc1 ! (λ l₁₇. alloc0 ! $ params1 ! $
+        pass1 ! (init ! 32 refl (tt, (tt, (record { fits = room₀ .0 }, tt)))) $ pass1 ! (init ! 30 refl (tt, (tt, (record { fits = room₁ .0 }, tt)))) $ pass1 ! (init ! 28 refl (tt, (tt, (record { fits = room .0 }, tt)))) $ pass1 ! (init ! 26 refl (tt, (tt, (record { fits = room₃ .0 }, tt)))) $ pass0 ! $
+        -- [_17; …; _0; …; the tokens; what all own]: _i at 34 - 2 i
+        assigns ! (addr ! (from ! (fld ! refl (hop ! (look-in ! 28 (sub ! 0 refl (whole !))) (stop !))))) (from ! (stop !)) (init ! 18 refl (tt, tt)) $
+        assigns ! (agg ! (and-then ! (load ! (from ! (stop !)) (look ! 18 refl)) (and-then ! (load ! (from ! (fld ! refl (stop !))) (look-in ! 28 (sub ! 1 refl (whole !)))) (no-more !)))) (from ! (stop !)) (init ! 16 refl (tt, (tt, (record { fits = room .0 }, tt)))) $
+        assigns ! (addr ! (from ! (fld ! refl (hop ! (look-in ! 30 (sub ! 0 refl (whole !))) (stop !))))) (from ! (stop !)) (init ! 14 refl (tt, tt)) $
+        assigns ! (agg ! (and-then ! (load ! (from ! (stop !)) (look ! 14 refl)) (and-then ! (load ! (from ! (fld ! refl (stop !))) (look-in ! 30 (sub ! 1 refl (whole !)))) (no-more !)))) (from ! (stop !)) (init ! 12 refl (tt, (tt, (record { fits = room₁ .0 }, tt)))) $
+        move ! (37 ∷ []) $ fsplit ! $ move ! (1 ∷ []) $ fsplit ! $ move ! (1 ∷ []) $ fsplit ! $ move ! (1 ∷ []) $ fsplit ! $ move ! (1 ∷ []) $ drop ! $
+        move ! (40 ∷ []) $ split ! $ move ! (1 ∷ []) $ split ! $ move ! (1 ∷ []) $ split ! $ move ! (1 ∷ []) $ split ! $ move ! (1 ∷ []) $ drop ! $
+        -- [κ₃'s token; κ₂'s; κ₁'s; κ₀'s; the picks; the records; the registers; the code; _17; …]: _i at 42 - 2 i. The records are lent on to `gather` for ν, the registers for ν′, both to be read
         lft-new ! tt (λ ν. move ! (6 ∷ 2 ∷ []) $
         use2 W (later (some (λ (δ : GName). ‵ (ShrSlice (named 0) (ν ∷ []) ThreadR .own (x δ ys) (s ∷ [])) ⊛ ‵ (Parked ThreadR κ₂ (ν ∷ []) q₂ γ b o ys)))) (share-on ThreadR κ₂ (ν ∷ []) q₂ γ b o ys 𝓤 H A W (named 2) (named 0)) $ await ! tt $ pick ! (λ δ. split ! $
-        move ! (2 ∷ 0 ∷ []) $ use2 W (raw (Gather 𝓤 H A mem rn .pre (to-gather ν δ))) (asks-gather ν δ) $
-        -- [what `gather` asks; what is kept; κ₃'s token; κ₁'s; κ₀'s; the picks; the registers; the code; _15; …]: _i at 38 - 2 i
-        calls-at ! fm (Gather 𝓤 H A mem rn) known-gather (to-gather ν δ) (and-then ! (load ! (from ! (stop !)) (look ! 20 refl)) (no-more !)) (λ w.
-        use1 W (later (some (λ (v : Survey). given (Gathered ys v × Is SurveyR v (w ∷ [])) (‵ (flft (ν ∷ []) fullShare) ⊛ ‵ ftrue))))
-        (heeded 𝓤 H A W SurveyR w (sep 𝓤 (A .lft (ν ∷ []) fullShare) (emp 𝓤)) (λ r. ensured 𝓤 H A gather.ended (gather.clauses 𝓤 H A mem rn) (ν ∷ [], tt) (x δ ys, tt) tt r) (Gathered ys) (tells-gather ν δ)) $ await ! tt $ pick ! (λ v. learn ! (λ g.
-        land ! (from ! (stop !)) (init ! 28 refl (survey-typed 𝓤 H A W v _ (g .1) .0)) $ rewrite ! 28 (λ (u : Val). ‵ (fat fullShare S′.mir l₅ 0 u)) (ap only (survey-tells v _ (g .1))) refl $
-        split ! $ lft-end ! tt $ move ! (0 ∷ 2 ∷ []) $
-        use2 W (later (‵ (Own₂ ys) ⊛ ‵ (flft κ₂ q₂))) (share-back ThreadR κ₂ (ν ∷ []) q₂ γ b o ys 𝓤 H A W (named 2) (named 0) room) $ await ! tt $ split ! $ move ! (2 ∷ []) $ drop ! $
-        -- [the records; κ₂'s token; κ₃'s; κ₁'s; κ₀'s; the picks; the registers; the code; _15; …]: _i at 38 - 2 i
-        assigns ! (of-opd ! (load ! (from ! (fld ! refl (stop !))) (look-in ! 34 (sub ! 1 refl (whole !))))) (from ! (stop !)) (init ! 18 refl (tt, record { fits = room₁ .0 })) $
-        assigns ! (of-opd ! (load ! (from ! (fld ! refl (stop !))) (look-in ! 30 (sub ! 1 refl (whole !))))) (from ! (stop !)) (init ! 16 refl (tt, record { fits = room₃ .0 })) $
+        lft-new ! tt (λ ν′. move ! (8 ∷ 5 ∷ []) $
+        use2 W (later (some (λ (δ₁ : GName). ‵ (ShrSlice (named 1) (ν′ ∷ []) i32 .own (x₁ δ₁) (s₁ ∷ [])) ⊛ ‵ (Parked i32 κ₁ (ν′ ∷ []) q₁ γ₁ b₁ o₁ rs)))) (share-on i32 κ₁ (ν′ ∷ []) q₁ γ₁ b₁ o₁ rs 𝓤 H A W (named 1) (named 1)) $ await ! tt $ pick ! (λ δ₁. split ! $
+        move ! (5 ∷ 2 ∷ 3 ∷ 0 ∷ []) $ group ! 4 $ use1 W (raw (Gather 𝓤 H A mem rn .pre (to-gather ν ν′ δ δ₁))) (asks-gather ν ν′ δ δ₁) $
+        -- [what `gather` asks; what is kept of the registers; of the records; κ₃'s token; κ₀'s; the picks; the code; _17; …]: _i at 41 - 2 i
+        calls-at ! fm (Gather 𝓤 H A mem rn) known-gather (to-gather ν ν′ δ δ₁) (and-then ! (load ! (from ! (stop !)) (look ! 23 refl)) (and-then ! (load ! (from ! (stop !)) (look ! 19 refl)) (no-more !))) (λ w.
+        use1 W (later (some (λ (v : Survey). given (Gathered rs ys v × Is SurveyR v (w ∷ [])) (‵ (flft (ν ∷ []) fullShare) ⊛ ‵ (flft (ν′ ∷ []) fullShare) ⊛ ‵ ftrue))))
+        (heeded 𝓤 H A W SurveyR w (sep 𝓤 (A .lft (ν ∷ []) fullShare) (sep 𝓤 (A .lft (ν′ ∷ []) fullShare) (emp 𝓤))) (λ r. ensured 𝓤 H A gather.ended (gather.clauses 𝓤 H A mem rn) (ν ∷ [], (ν′ ∷ [], tt)) (x δ ys, (x₁ δ₁, tt)) tt r) (Gathered rs ys) (tells-gather ν ν′ δ δ₁)) $ await ! tt $ pick ! (λ v. learn ! (λ g.
+        land ! (from ! (stop !)) (init ! 31 refl (survey-typed 𝓤 H A W v _ (g .1) .0)) $ rewrite ! 31 (λ (u : Val). ‵ (fat fullShare S′.mir l₅ 0 u)) (ap only (survey-tells v _ (g .1))) refl $
+        split ! $ lft-end ! tt $ move ! (0 ∷ 3 ∷ []) $
+        use2 W (later (‵ (Own₂ ys) ⊛ ‵ (flft κ₂ q₂))) (share-back ThreadR κ₂ (ν ∷ []) q₂ γ b o ys 𝓤 H A W (named 2) (named 0) room) $ await ! tt $ split ! $
+        move ! (2 ∷ []) $ split ! $ lft-end ! tt $ move ! (0 ∷ 4 ∷ []) $
+        use2 W (later (‵ Own₁ ⊛ ‵ (flft κ₁ q₁))) (share-back i32 κ₁ (ν′ ∷ []) q₁ γ₁ b₁ o₁ rs 𝓤 H A W (named 1) (named 1) room₁) $ await ! tt $ split ! $ move ! (2 ∷ []) $ drop ! $ move ! (2 ∷ 3 ∷ 4 ∷ 1 ∷ 5 ∷ 6 ∷ 0 ∷ []) $
+        -- [the records; κ₂'s token; κ₃'s; κ₁'s; κ₀'s; the picks; the registers; the code; _17; …]: _i at 42 - 2 i
+        assigns ! (of-opd ! (load ! (from ! (fld ! refl (stop !))) (look-in ! 38 (sub ! 1 refl (whole !))))) (from ! (stop !)) (init ! 18 refl (tt, record { fits = room₁ .0 })) $
+        assigns ! (of-opd ! (load ! (from ! (fld ! refl (stop !))) (look-in ! 34 (sub ! 1 refl (whole !))))) (from ! (stop !)) (init ! 16 refl (tt, record { fits = room₃ .0 })) $
         -- `admit`, with a copy of the code
         move ! (7 ∷ []) $ use1 W (‵ Own₀ ⊛ ‵ Own₀) (shr-slice-copy 𝓤 H A W (named 0) κ₀ u8 .twice x₀ (s₀ ∷ [])) $ split ! $ move ! (6 ∷ 0 ∷ []) $
         use2 W (raw (Admit 𝓤 H A mem rn .pre (to-admit v))) (asks-admit v (subst (Is SurveyR v) (survey-tells v _ (g .1)) (g .1)) (room₁ .0) (room₃ .0)) $
-        calls-at ! fm (Admit 𝓤 H A mem rn) known-admit (to-admit v) (and-then ! (load ! (from ! (stop !)) (look ! 36 refl)) (and-then ! (load ! (from ! (stop !)) (look ! 28 refl)) (and-then ! (load ! (from ! (stop !)) (look ! 18 refl)) (and-then ! (load ! (from ! (stop !)) (look ! 16 refl)) (no-more !))))) (λ w′.
+        calls-at ! fm (Admit 𝓤 H A mem rn) known-admit (to-admit v) (and-then ! (load ! (from ! (stop !)) (look ! 40 refl)) (and-then ! (load ! (from ! (stop !)) (look ! 32 refl)) (and-then ! (load ! (from ! (stop !)) (look ! 18 refl)) (and-then ! (load ! (from ! (stop !)) (look ! 16 refl)) (no-more !))))) (λ w′.
         use1 W (later (some (λ (p′ : Progress). given (Admitted cd v (length rs) (length ps) p′ × Is ProgressR p′ (w′ ∷ [])) (‵ (flft κ₀ q₀) ⊛ ‵ ftrue))))
         (heeded 𝓤 H A W ProgressR w′ (sep 𝓤 (A .lft κ₀ q₀) (emp 𝓤)) (λ r. ensured 𝓤 H A admit.ended (admit.clauses 𝓤 H A mem rn) (κ₀, tt) (x₀, (v, (length rs, (length ps, tt)))) tt r) (Admitted cd v (length rs) (length ps)) (tells-admit v)) $ await ! tt $ pick ! (λ p′. learn ! (λ ga.
-        land ! (from ! (stop !)) (init ! 26 refl (progress-typed 𝓤 H A W (first v) _ (isfirst v ga) .0)) $ rewrite ! 26 (λ (u : Val). ‵ (fat fullShare P′.mir l₆ 0 u)) (ap only (progress-tells (first v) _ (isfirst v ga))) refl $ split ! $ move ! (1 ∷ []) $ drop ! $
-        -- [κ₀'s token; the code; the records; κ₂'s token; κ₃'s; κ₁'s; the picks; the registers; _15; …]: _i at 38 - 2 i
-        assigns ! (addr ! (from ! (fld ! refl (hop ! (look-in ! 34 (sub ! 0 refl (whole !))) (stop !))))) (from ! (stop !)) (init ! 14 refl (tt, tt)) $
-        assigns ! (agg ! (and-then ! (load ! (from ! (stop !)) (look ! 14 refl)) (and-then ! (load ! (from ! (fld ! refl (stop !))) (look-in ! 34 (sub ! 1 refl (whole !)))) (no-more !)))) (from ! (stop !)) (init ! 12 refl (tt, (tt, (record { fits = room₁ .0 }, tt)))) $
-        assigns ! (addr ! (from ! (fld ! refl (hop ! (look-in ! 32 (sub ! 0 refl (whole !))) (stop !))))) (from ! (stop !)) (init ! 10 refl (tt, tt)) $
-        assigns ! (agg ! (and-then ! (load ! (from ! (stop !)) (look ! 10 refl)) (and-then ! (load ! (from ! (fld ! refl (stop !))) (look-in ! 32 (sub ! 1 refl (whole !)))) (no-more !)))) (from ! (stop !)) (init ! 8 refl (tt, (tt, (record { fits = room .0 }, tt)))) $
+        land ! (from ! (stop !)) (init ! 30 refl (progress-typed 𝓤 H A W (first v) _ (isfirst v ga) .0)) $ rewrite ! 30 (λ (u : Val). ‵ (fat fullShare P′.mir l₆ 0 u)) (ap only (progress-tells (first v) _ (isfirst v ga))) refl $ split ! $ move ! (1 ∷ []) $ drop ! $
+        -- [κ₀'s token; the code; the records; κ₂'s token; κ₃'s; κ₁'s; the picks; the registers; _17; …]: _i at 42 - 2 i
+        assigns ! (addr ! (from ! (fld ! refl (hop ! (look-in ! 38 (sub ! 0 refl (whole !))) (stop !))))) (from ! (stop !)) (init ! 14 refl (tt, tt)) $
+        assigns ! (agg ! (and-then ! (load ! (from ! (stop !)) (look ! 14 refl)) (and-then ! (load ! (from ! (fld ! refl (stop !))) (look-in ! 38 (sub ! 1 refl (whole !)))) (no-more !)))) (from ! (stop !)) (init ! 12 refl (tt, (tt, (record { fits = room₁ .0 }, tt)))) $
+        assigns ! (addr ! (from ! (fld ! refl (hop ! (look-in ! 36 (sub ! 0 refl (whole !))) (stop !))))) (from ! (stop !)) (init ! 10 refl (tt, tt)) $
+        assigns ! (agg ! (and-then ! (load ! (from ! (stop !)) (look ! 10 refl)) (and-then ! (load ! (from ! (fld ! refl (stop !))) (look-in ! 36 (sub ! 1 refl (whole !)))) (no-more !)))) (from ! (stop !)) (init ! 8 refl (tt, (tt, (record { fits = room .0 }, tt)))) $
         -- all goes to `drive`, for good
-        move ! (0 ∷ 5 ∷ 3 ∷ 4 ∷ 1 ∷ 7 ∷ 2 ∷ 6 ∷ []) $ group ! 8 $ use1 W (raw (Drive 𝓤 H A mem rn .pre (to-drive (first v)))) (asks-drive v (g .0) (subst (Is ProgressR (first v)) (progress-tells (first v) _ (isfirst v ga)) (isfirst v ga))) $
-        calls-at ! fm (Drive 𝓤 H A mem rn) known-drive (to-drive (first v)) (and-then ! (load ! (from ! (stop !)) (look ! 29 refl)) (and-then ! (load ! (from ! (stop !)) (look ! 5 refl)) (and-then ! (load ! (from ! (stop !)) (look ! 1 refl)) (and-then ! (load ! (from ! (stop !)) (look ! 23 refl)) (and-then ! (load ! (from ! (stop !)) (look ! 19 refl)) (no-more !)))))) (λ u.
-        use1 W (later (some (λ (p : Progress). (Tokens ⊛ ‵ (ProgressR .own p (u ∷ []))) ⊛ raw (ensured 𝓤 H A drive.ended (drive.clauses 𝓤 H A mem rn) (κ₀, (κ₁, (κ₂, (κ₃, tt)))) (x₀, (x₁, (x γ ys, (x₃, (first v, tt))))) tt p)))) (id⊢ 𝓤 _) $ await ! tt $ pick ! (λ p.
-        split ! $ move ! (1 ∷ []) $ use1 W (some (λ (ls : Unit {0} × (List ℤ × (List Thread × (Unit {0} × (Unit {0} × Unit {0}))))). ‵ (lasts drive.ended (κ₀, (κ₁, (κ₂, (κ₃, tt)))) (x₀, (x₁, (x γ ys, (x₃, (first v, tt))))) ls) ⊛ raw (fact 𝓤 (Driven v p (ls .1 .0) (ls .1 .1 .0))))) (id⊢ 𝓤 _) $ pick ! (λ ls.
+        move ! (0 ∷ 5 ∷ 3 ∷ 4 ∷ 1 ∷ 7 ∷ 2 ∷ 6 ∷ []) $ group ! 8 $ use1 W (raw (Drive 𝓤 H A mem rn .pre (to-drive (first v)))) (asks-drive v (g .0) (ga .0 .bytes) (subst (Is ProgressR (first v)) (progress-tells (first v) _ (isfirst v ga)) (isfirst v ga))) $
+        calls-at ! fm (Drive 𝓤 H A mem rn) known-drive (to-drive (first v)) (and-then ! (load ! (from ! (stop !)) (look ! 33 refl)) (and-then ! (load ! (from ! (stop !)) (look ! 5 refl)) (and-then ! (load ! (from ! (stop !)) (look ! 1 refl)) (and-then ! (load ! (from ! (stop !)) (look ! 27 refl)) (and-then ! (load ! (from ! (stop !)) (look ! 23 refl)) (no-more !)))))) (λ u.
+        use1 W (later (some (λ (p : Progress). (Tokens ⊛ ‵ (ProgressR .own p (u ∷ []))) ⊛ raw (ensured 𝓤 H A drive.ended (drive.clauses 𝓤 H A mem rn) (κ₀, (κ₁, (κ₂, (κ₃, tt)))) (x₀, (x₁ γ₁, (x γ ys, (x₃, (first v, tt))))) tt p)))) (id⊢ 𝓤 _) $ await ! tt $ pick ! (λ p.
+        split ! $ move ! (1 ∷ []) $ use1 W (some (λ (ls : Unit {0} × (List ℤ × (List Thread × (Unit {0} × (Unit {0} × Unit {0}))))). ‵ (lasts drive.ended (κ₀, (κ₁, (κ₂, (κ₃, tt)))) (x₀, (x₁ γ₁, (x γ ys, (x₃, (first v, tt))))) ls) ⊛ raw (fact 𝓤 (Driven v p (ls .1 .0) (ls .1 .1 .0))))) (id⊢ 𝓤 _) $ pick ! (λ ls.
         split ! $ move ! (1 ∷ []) $ heard ! (Driven v p (ls .1 .0) (ls .1 .1 .0)) (λ f. fsplit ! $ drop ! $ fsplit ! $ fsplit ! $ move ! (1 ∷ []) $ feqL ! (λ e₁. move ! (1 ∷ []) $ fsplit ! $ fsplit ! $ move ! (1 ∷ []) $ feqL ! (λ e₂.
         move ! (3 ∷ []) $ split ! $ move ! (1 ∷ []) $ peeks ! ProgressR (Is ProgressR) (shows 𝓤 H A ProgressR) p (u ∷ []) (λ iq.
-        -- [what the result owns; the tokens; the last threads; true; the last registers; _15; …]: _i at 35 - 2 i
-        land ! (from ! (stop !)) (init ! 21 refl (progress-typed 𝓤 H A W p _ iq .0)) $ rewrite ! 21 (λ (k : Val). ‵ (fat fullShare P′.mir l₇ 0 k)) (ap only (progress-tells p _ iq)) refl $ drop ! $ move ! (2 ∷ []) $ drop ! $
-        -- [the tokens; the last threads; the last registers; _15; …]: _i at 33 - 2 i. The answer
+        -- [what the result owns; the tokens; the last threads; true; the last registers; _17; …]: _i at 39 - 2 i
+        land ! (from ! (stop !)) (init ! 25 refl (progress-typed 𝓤 H A W p _ iq .0)) $ rewrite ! 25 (λ (k : Val). ‵ (fat fullShare P′.mir l₇ 0 k)) (ap only (progress-tells p _ iq)) refl $ drop ! $ move ! (2 ∷ []) $ drop ! $
+        -- [the tokens; the last threads; the last registers; _17; …]: _i at 37 - 2 i. The answer
         use0 W (raw (Answer 𝓤 H A mem rn .pre (to-answer p))) (asks-answer p (subst (Is ProgressR p) (progress-tells p _ iq) iq)) $
-        calls-at ! fm (Answer 𝓤 H A mem rn) known-answer (to-answer p) (and-then ! (load ! (from ! (stop !)) (look ! 20 refl)) (no-more !)) (λ c.
+        calls-at ! fm (Answer 𝓤 H A mem rn) known-answer (to-answer p) (and-then ! (load ! (from ! (stop !)) (look ! 24 refl)) (no-more !)) (λ c.
         use1 W (later (given (Is RunR (runReplyOf p) (c ∷ [])) (‵ ftrue))) (told 𝓤 H A W RunR c (emp 𝓤) (λ r. ensured 𝓤 H A answer.ended (answer.clauses 𝓤 H A mem rn) tt (p, tt) tt r) (runReplyOf p) (tells-answer p)) $ await ! tt $ learn ! (λ ia.
-        land ! (from ! (stop !)) (init ! 34 refl (run-typed 𝓤 H A W (runReplyOf p) _ ia .0)) $ rewrite ! 34 (λ (k : Val). ‵ (fat fullShare Y′.mir l₀ 0 k)) (ap only (run-tells (runReplyOf p) _ ia)) refl $ drop ! $
-        returns ! (look ! 33 refl) $ forget ! 3 refl $ forget ! 5 refl $ forget ! 7 refl $ forget ! 9 refl $ forget ! 11 refl $ forget ! 13 refl $ forget ! 15 refl $ forget ! 17 refl $ forget ! 19 refl $ forget ! 21 refl $ forget ! 23 refl $ forget ! 25 refl $ forget ! 27 refl $ forget ! 29 refl $ forget ! 31 refl $ forget ! 33 refl $
-        move ! (33 ∷ 34 ∷ []) $ free1 ! $ move ! (31 ∷ 32 ∷ []) $ free1 ! $ move ! (29 ∷ 30 ∷ []) $ free1 ! $ move ! (27 ∷ 28 ∷ []) $ free1 ! $ move ! (25 ∷ 26 ∷ []) $ free1 ! $ move ! (23 ∷ 24 ∷ []) $ free1 ! $ move ! (21 ∷ 22 ∷ []) $ free1 ! $ move ! (19 ∷ 20 ∷ []) $ free1 ! $ move ! (17 ∷ 18 ∷ []) $ free1 ! $ move ! (15 ∷ 16 ∷ []) $ free1 ! $ move ! (13 ∷ 14 ∷ []) $ free1 ! $ move ! (11 ∷ 12 ∷ []) $ free1 ! $ move ! (9 ∷ 10 ∷ []) $ free1 ! $ move ! (7 ∷ 8 ∷ []) $ free1 ! $ move ! (5 ∷ 6 ∷ []) $ free1 ! $ move ! (3 ∷ 4 ∷ []) $ free1 ! $ free0 ! $
-        by ! (exits v (g .0) (ga .0 .bytes) p (ls .1 .0) (ls .1 .1 .0) f e₁ e₂ (subst (Is RunR (runReplyOf p)) (run-tells (runReplyOf p) _ ia) ia)))))))))))))))))))))))))))))))))))
+        land ! (from ! (stop !)) (init ! 38 refl (run-typed 𝓤 H A W (runReplyOf p) _ ia .0)) $ rewrite ! 38 (λ (k : Val). ‵ (fat fullShare Y′.mir l₀ 0 k)) (ap only (run-tells (runReplyOf p) _ ia)) refl $ drop ! $
+        returns ! (look ! 37 refl) $ forget ! 3 refl $ forget ! 5 refl $ forget ! 7 refl $ forget ! 9 refl $ forget ! 11 refl $ forget ! 13 refl $ forget ! 15 refl $ forget ! 17 refl $ forget ! 19 refl $ forget ! 21 refl $ forget ! 23 refl $ forget ! 25 refl $ forget ! 27 refl $ forget ! 29 refl $ forget ! 31 refl $ forget ! 33 refl $ forget ! 35 refl $ forget ! 37 refl $
+        move ! (37 ∷ 38 ∷ []) $ free1 ! $ move ! (35 ∷ 36 ∷ []) $ free1 ! $ move ! (33 ∷ 34 ∷ []) $ free1 ! $ move ! (31 ∷ 32 ∷ []) $ free1 ! $ move ! (29 ∷ 30 ∷ []) $ free1 ! $ move ! (27 ∷ 28 ∷ []) $ free1 ! $ move ! (25 ∷ 26 ∷ []) $ free1 ! $ move ! (23 ∷ 24 ∷ []) $ free1 ! $ move ! (21 ∷ 22 ∷ []) $ free1 ! $ move ! (19 ∷ 20 ∷ []) $ free1 ! $ move ! (17 ∷ 18 ∷ []) $ free1 ! $ move ! (15 ∷ 16 ∷ []) $ free1 ! $ move ! (13 ∷ 14 ∷ []) $ free1 ! $ move ! (11 ∷ 12 ∷ []) $ free1 ! $ move ! (9 ∷ 10 ∷ []) $ free1 ! $ move ! (7 ∷ 8 ∷ []) $ free1 ! $ move ! (5 ∷ 6 ∷ []) $ free1 ! $ move ! (3 ∷ 4 ∷ []) $ free1 ! $ free0 ! $
+        by ! (exits v (g .0) (ga .0 .bytes) p (ls .1 .0) (ls .1 .1 .0) f e₁ e₂ (subst (Is RunR (runReplyOf p)) (run-tells (runReplyOf p) _ ia) ia)))))))))))))))))))))))))))))))))))))))
 
 module _ {M : Type 1} (𝓤 : URA M) (H : Heap 𝓤) (A : Atoms 𝓤) (W : Given 𝓤 H A) (mem : Memory → SProp 𝓤) (rn : Routine → Fun 𝓤) where
   -- the walk, at every parameter

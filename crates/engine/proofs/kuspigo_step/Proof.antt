@@ -1,4 +1,4 @@
--- `engine::kuspigo_step` meets its contract: a walk of its MIR, by hand, with no branch and no loop of its own. The records are lent on to `gather`, to be read, and come back; a local array of one pick is lent to be read; registers and records are given to `drive` for good. `admit` and `step_reply` are covered.
+-- `engine::kuspigo_step` meets its contract: a walk of its MIR, by hand, with no branch and no loop of its own. Records and registers are lent on to `gather`, to be read, and come back; a local array of one pick is lent to be read; registers and records are given to `drive` for good. `admit` and `step_reply` are covered.
 -- Assumes nothing.
 use mathlib.Core.Path.{_≡_, refl, sym, _∙_, ap, subst}
 use mathlib.Core.Bool.{Bool, true, false, cond}
@@ -113,8 +113,8 @@ module _ {M : Type 1} (𝓤 : URA M) (H : Heap 𝓤) (A : Atoms 𝓤) (W : Given
   x₀ = record { ptr = (b₀, o₀); name = γ₀; now = cd }
 
   -- the registers
-  abbrev x₁ : RefT (List ℤ)
-  x₁ = record { ptr = (b₁, o₁); name = γ₁; now = rs }
+  abbrev x₁ : GName → RefT (List ℤ)
+  x₁ δ = record { ptr = (b₁, o₁); name = δ; now = rs }
 
   -- the records
   abbrev x : GName → List Thread → RefT (List Thread)
@@ -126,7 +126,7 @@ module _ {M : Type 1} (𝓤 : URA M) (H : Heap 𝓤) (A : Atoms 𝓤) (W : Given
 
   -- what is passed
   abbrev a : RefT (List ℕ) × (RefT (List ℤ) × (RefT (List Thread) × (ℕ × Unit {0})))
-  a = (x₀, (x₁, (x γ ys, (k, tt))))
+  a = (x₀, (x₁ γ₁, (x γ ys, (k, tt))))
 
   -- the code's machine value
   abbrev s₀ : Val
@@ -162,7 +162,7 @@ module _ {M : Type 1} (𝓤 : URA M) (H : Heap 𝓤) (A : Atoms 𝓤) (W : Given
 
   -- what the registers own
   abbrev Own₁ : Fml
-  Own₁ = MutSlice (named 1) κ₁ i32 .own x₁ (s₁ ∷ [])
+  Own₁ = MutSlice (named 1) κ₁ i32 .own (x₁ γ₁) (s₁ ∷ [])
 
   -- what the records own
   abbrev Own₂ : List Thread → Fml
@@ -177,8 +177,8 @@ module _ {M : Type 1} (𝓤 : URA M) (H : Heap 𝓤) (A : Atoms 𝓤) (W : Given
   first v = admittedTo (readCode cd) (surveyFits v cd (length rs)) (v .count) 1
 
   -- what the triple of `gather` binds outside
-  abbrev to-gather : ℕ → GName → Gather 𝓤 H A mem rn .Ghost
-  to-gather ν δ = (((ν ∷ [], tt), (fullShare, tt), tt, (x δ ys, tt), (s ∷ [], tt)), tt)
+  abbrev to-gather : ℕ → ℕ → GName → GName → Gather 𝓤 H A mem rn .Ghost
+  to-gather ν ν′ δ δ₁ = (((ν ∷ [], (ν′ ∷ [], tt)), (fullShare, (fullShare, tt)), tt, (x δ ys, (x₁ δ₁, tt)), (s ∷ [], (s₁ ∷ [], tt))), tt)
 
   -- that of `admit`
   abbrev to-admit : Survey → Admit 𝓤 H A mem rn .Ghost
@@ -186,20 +186,24 @@ module _ {M : Type 1} (𝓤 : URA M) (H : Heap 𝓤) (A : Atoms 𝓤) (W : Given
 
   -- that of `drive`
   abbrev to-drive : ℕ → ℕ → GName → Progress → Drive 𝓤 H A mem rn .Ghost
-  to-drive l μ δ p = (((κ₀, (κ₁, (κ₂, (μ ∷ [], tt)))), (q₀, (q₁, (q₂, (fullShare, tt)))), tt, (x₀, (x₁, (x γ ys, (x₃ l δ, (p, tt))))), (s₀ ∷ [], (s₁ ∷ [], (s ∷ [], (sliceVal (l, 0) 1 ∷ [], (progress-vals p, tt)))))), tt)
+  to-drive l μ δ p = (((κ₀, (κ₁, (κ₂, (μ ∷ [], tt)))), (q₀, (q₁, (q₂, (fullShare, tt)))), tt, (x₀, (x₁ γ₁, (x γ ys, (x₃ l δ, (p, tt))))), (s₀ ∷ [], (s₁ ∷ [], (s ∷ [], (sliceVal (l, 0) 1 ∷ [], (progress-vals p, tt)))))), tt)
 
   -- that of `step_reply`
   abbrev to-answer : Progress → Answer 𝓤 H A mem rn .Ghost
   to-answer p = ((tt, tt, tt, (p, tt), (progress-vals p, tt)), tt)
 
-  -- what `gather` asks
-  asks-gather : (ν : ℕ) (δ : GName) → ent 𝓤 (⋆ 𝓤 H A (‵ (flft (ν ∷ []) fullShare) ∷ ‵ (ShrSlice (named 0) (ν ∷ []) ThreadR .own (x δ ys) (s ∷ [])) ∷ [])) (Gather 𝓤 H A mem rn .pre (to-gather ν δ))
-  asks-gather ν δ =
-      qed W (‵ (flft (ν ∷ []) fullShare) ∷ ‵ (ShrSlice (named 0) (ν ∷ []) ThreadR .own (x δ ys) (s ∷ [])) ∷ []) ∵ nothing ! $ move ! (1 ∷ 0 ∷ []) $ join ! $ nothing ! $ move ! (2 ∷ 0 ∷ []) $ fjoin ! $ move ! (1 ∷ 0 ∷ []) $ join ! $ frame ! $ done !
+  -- what `gather` is lent, to be read
+  abbrev Read : ℕ → ℕ → GName → GName → List (Item 𝓤)
+  Read ν ν′ δ δ₁ = ‵ (flft (ν ∷ []) fullShare) ∷ ‵ (flft (ν′ ∷ []) fullShare) ∷ ‵ (ShrSlice (named 0) (ν ∷ []) ThreadR .own (x δ ys) (s ∷ [])) ∷ ‵ (ShrSlice (named 1) (ν′ ∷ []) i32 .own (x₁ δ₁) (s₁ ∷ [])) ∷ []
+
+  -- what it asks
+  asks-gather : (ν ν′ : ℕ) (δ δ₁ : GName) → ent 𝓤 (⋆ 𝓤 H A (Read ν ν′ δ δ₁)) (Gather 𝓤 H A mem rn .pre (to-gather ν ν′ δ δ₁))
+  asks-gather ν ν′ δ δ₁ =
+      qed W (Read ν ν′ δ δ₁) ∵ nothing ! $ move ! (2 ∷ 0 ∷ []) $ join ! $ move ! (1 ∷ 0 ∷ []) $ join ! $ nothing ! $ move ! (3 ∷ 0 ∷ []) $ fjoin ! $ move ! (2 ∷ 0 ∷ []) $ fjoin ! $ move ! (1 ∷ 0 ∷ []) $ join ! $ frame ! $ done !
 
   -- what `gather` tells
-  tells-gather : (ν : ℕ) (δ : GName) (r : Survey) → ent 𝓤 (ensured 𝓤 H A gather.ended (gather.clauses 𝓤 H A mem rn) (ν ∷ [], tt) (x δ ys, tt) tt r) (fact 𝓤 (Gathered ys r))
-  tells-gather ν δ r = exE 𝓤 _ (λ ws. snd∗ 𝓤 (sem 𝓤 H A (lasts gather.ended (ν ∷ [], tt) (x δ ys, tt) ws)) (fact 𝓤 (Gathered ys r)))
+  tells-gather : (ν ν′ : ℕ) (δ δ₁ : GName) (r : Survey) → ent 𝓤 (ensured 𝓤 H A gather.ended (gather.clauses 𝓤 H A mem rn) (ν ∷ [], (ν′ ∷ [], tt)) (x δ ys, (x₁ δ₁, tt)) tt r) (fact 𝓤 (Gathered rs ys r))
+  tells-gather ν ν′ δ δ₁ r = exE 𝓤 _ (λ ws. snd∗ 𝓤 (sem 𝓤 H A (lasts gather.ended (ν ∷ [], (ν′ ∷ [], tt)) (x δ ys, (x₁ δ₁, tt)) ws)) (fact 𝓤 (Gathered rs ys r)))
 
   -- what `admit` asks
   asks-admit : (v : Survey) → Is SurveyR v (survey-vals v) → length rs < 2 ^ 64 → ent 𝓤 (⋆ 𝓤 H A (‵ (flft κ₀ q₀) ∷ ‵ Own₀ ∷ [])) (Admit 𝓤 H A mem rn .pre (to-admit v))
@@ -216,9 +220,9 @@ module _ {M : Type 1} (𝓤 : URA M) (H : Heap 𝓤) (A : Atoms 𝓤) (W : Given
   Given′ l μ δ = ‵ (flft κ₀ q₀) ∷ ‵ (flft κ₁ q₁) ∷ ‵ (flft κ₂ q₂) ∷ ‵ (flft (μ ∷ []) fullShare) ∷ ‵ Own₀ ∷ ‵ Own₁ ∷ ‵ (Own₂ ys) ∷ ‵ (Own₃ l μ δ) ∷ []
 
   -- what it asks
-  asks-drive : (l μ : ℕ) (δ : GName) (v : Survey) → Gathered ys v → Is ProgressR (first v) (progress-vals (first v)) → ent 𝓤 (⋆ 𝓤 H A (Given′ l μ δ)) (Drive 𝓤 H A mem rn .pre (to-drive l μ δ (first v)))
-  asks-drive l μ δ v g gp =
-      qed W (Given′ l μ δ) ∵ says ! (within cd rs ys 1 v (g .survey) (g .typed)) $ nothing ! $ move ! (4 ∷ 0 ∷ []) $ join ! $ move ! (3 ∷ 0 ∷ []) $ join ! $ move ! (2 ∷ 0 ∷ []) $ join ! $ move ! (1 ∷ 0 ∷ []) $ join ! $ frame ! $
+  asks-drive : (l μ : ℕ) (δ : GName) (v : Survey) → Gathered rs ys v → Bytes cd → Is ProgressR (first v) (progress-vals (first v)) → ent 𝓤 (⋆ 𝓤 H A (Given′ l μ δ)) (Drive 𝓤 H A mem rn .pre (to-drive l μ δ (first v)))
+  asks-drive l μ δ v g small gp =
+      qed W (Given′ l μ δ) ∵ says ! (within cd rs ys 1 v (g .survey) small (g .typed)) $ nothing ! $ move ! (4 ∷ 0 ∷ []) $ join ! $ move ! (3 ∷ 0 ∷ []) $ join ! $ move ! (2 ∷ 0 ∷ []) $ join ! $ move ! (1 ∷ 0 ∷ []) $ join ! $ frame ! $
       nothing ! $ owned ! ProgressR (Is ProgressR) (progress-makes 𝓤 H A) (first v) _ gp $ fjoin ! $ move ! (4 ∷ 0 ∷ []) $ fjoin ! $ move ! (3 ∷ 0 ∷ []) $ fjoin ! $ move ! (2 ∷ 0 ∷ []) $ fjoin ! $ move ! (1 ∷ 0 ∷ []) $ fjoin ! $ done !
 
   -- what `step_reply` asks
@@ -246,7 +250,7 @@ module _ {M : Type 1} (𝓤 : URA M) (H : Heap 𝓤) (A : Atoms 𝓤) (W : Given
   telling d = record { state = d .state; reply = stepReplyOf (d .progress) }
 
   -- the contract's equation
-  meets : (v : Survey) → Gathered ys v → Bytes cd → (p : Progress) (rs′ : List ℤ) (zs : List Thread) → Drove v p rs′ zs → answered rs′ zs (stepReplyOf p) ≡ stepCall cd (stateFrom rs ys) k
+  meets : (v : Survey) → Gathered rs ys v → Bytes cd → (p : Progress) (rs′ : List ℤ) (zs : List Thread) → Drove v p rs′ zs → answered rs′ zs (stepReplyOf p) ≡ stepCall cd (stateFrom rs ys) k
   unfolding steppedBy admitting
   meets v g small p rs′ zs f = ap telling f ∙ ap (λ (u : Survey). telling (driven cd (first u .limit) (k ∷ []) (drove rs ys (first u)))) (g .survey) ∙ step-by-value cd (stateFrom rs ys) k small (g .typed)
 
@@ -255,7 +259,7 @@ module _ {M : Type 1} (𝓤 : URA M) (H : Heap 𝓤) (A : Atoms 𝓤) (W : Given
   Had rs′ zs = ‵ ftrue ∷ ‵ (flft κ₂ q₂) ∷ ‵ (flft κ₁ q₁) ∷ ‵ (flft κ₀ q₀) ∷ ‵ (finally ThreadR γ zs) ∷ ‵ (finally i32 γ₁ rs′) ∷ []
 
   -- is what is to be left
-  exits : (v : Survey) → Gathered ys v → Bytes cd → (p : Progress) (rs′ : List ℤ) (zs : List Thread) → Drove v p rs′ zs → length rs′ ≡ length rs → length zs ≡ length ys → Is StepR (stepReplyOf p) (step-vals (stepReplyOf p))
+  exits : (v : Survey) → Gathered rs ys v → Bytes cd → (p : Progress) (rs′ : List ℤ) (zs : List Thread) → Drove v p rs′ zs → length rs′ ≡ length rs → length zs ≡ length ys → Is StepR (stepReplyOf p) (step-vals (stepReplyOf p))
       → ent 𝓤 (⋆ 𝓤 H A (Had rs′ zs)) (Post (step-val (stepReplyOf p)))
   exits v g small p rs′ zs f l lz ga =
       qed W (Had rs′ zs) ∵ suffices ! _ (ends-at 𝓤 H A step.ended stayed (step.clauses 𝓤 H A mem rn) W bound (step-val (stepReplyOf p)) (stepReplyOf p) (tt, (rs′, (zs, (tt, tt)))) (tt, (l, (lz, (tt, tt))))) $
@@ -270,63 +274,69 @@ module _ {M : Type 1} (𝓤 : URA M) (H : Heap 𝓤) (A : Atoms 𝓤) (W : Given
     walk room₀ room₁ room gk =
         qed W (Tokens ∷ ‵ (owns (ShrSlice (named 0) κ₀ u8 ∷ MutSlice (named 1) κ₁ i32 ∷ MutSlice (named 2) κ₂ ThreadR ∷ u8 ∷ []) a at) ∷ []) ∵
         enter ! C Λ code.function (s₀ ∷ s₁ ∷ s ∷ vint w8 k ∷ []) _ $
-        alloc1 ! (λ l₀. alloc1 ! (λ l₁. alloc1 ! (λ l₂. alloc1 ! (λ l₃. alloc1 ! (λ l₄. alloc1 ! (λ l₅. alloc1 ! (λ l₆. alloc1 ! (λ l₇. alloc1 ! (λ l₈. alloc1 ! (λ l₉. alloc1 ! (λ l₁₀. alloc1 ! (λ l₁₁. alloc1 ! (λ l₁₂. alloc1 ! (λ l₁₃. alloc1 ! (λ l₁₄. alloc1 ! (λ l₁₅. alloc1 ! (λ l₁₆. alloc1 ! (λ l₁₇. alloc0 ! $ params1 ! $
-        pass1 ! (init ! 32 refl (tt, (tt, (record { fits = room₀ .0 }, tt)))) $ pass1 ! (init ! 30 refl (tt, (tt, (record { fits = room₁ .0 }, tt)))) $ pass1 ! (init ! 28 refl (tt, (tt, (record { fits = room .0 }, tt)))) $ pass1 ! (init ! 26 refl (tt, record { fits = gk })) $ pass0 ! $
-        -- [_17; …; _0; …; the tokens; what all own]: _i at 34 - 2 i
-        assigns ! (addr ! (from ! (fld ! refl (hop ! (look-in ! 28 (sub ! 0 refl (whole !))) (stop !))))) (from ! (stop !)) (init ! 16 refl (tt, tt)) $
-        assigns ! (agg ! (and-then ! (load ! (from ! (stop !)) (look ! 16 refl)) (and-then ! (load ! (from ! (fld ! refl (stop !))) (look-in ! 28 (sub ! 1 refl (whole !)))) (no-more !)))) (from ! (stop !)) (init ! 14 refl (tt, (tt, (record { fits = room .0 }, tt)))) $
-        move ! (37 ∷ []) $ fsplit ! $ move ! (1 ∷ []) $ fsplit ! $ move ! (1 ∷ []) $ fsplit ! $ move ! (1 ∷ []) $ drop ! $
-        move ! (39 ∷ []) $ split ! $ move ! (1 ∷ []) $ split ! $ move ! (1 ∷ []) $ split ! $ move ! (1 ∷ []) $ drop ! $
-        -- [κ₂'s token; κ₁'s; κ₀'s; the records; the registers; the code; _17; …]: _i at 40 - 2 i. The records are lent on to `gather`, to be read
+        alloc1 ! (λ l₀. alloc1 ! (λ l₁. alloc1 ! (λ l₂. alloc1 ! (λ l₃. alloc1 ! (λ l₄. alloc1 ! (λ l₅. alloc1 ! (λ l₆. alloc1 ! (λ l₇. alloc1 ! (λ l₈. alloc1 ! (λ l₉. alloc1 ! (λ l₁₀. alloc1 ! (λ l₁₁. alloc1 ! (λ l₁₂. alloc1 ! (λ l₁₃. alloc1 ! (λ l₁₄. alloc1 ! (λ l₁₅. alloc1 ! (λ l₁₆. alloc1 ! (λ l₁₇. alloc1 ! (λ l₁₈. alloc1 ! (λ l₁₉. alloc0 ! $ params1 ! $
+        pass1 ! (init ! 36 refl (tt, (tt, (record { fits = room₀ .0 }, tt)))) $ pass1 ! (init ! 34 refl (tt, (tt, (record { fits = room₁ .0 }, tt)))) $ pass1 ! (init ! 32 refl (tt, (tt, (record { fits = room .0 }, tt)))) $ pass1 ! (init ! 30 refl (tt, record { fits = gk })) $ pass0 ! $
+        -- [_19; …; _0; …; the tokens; what all own]: _i at 38 - 2 i
+        assigns ! (addr ! (from ! (fld ! refl (hop ! (look-in ! 32 (sub ! 0 refl (whole !))) (stop !))))) (from ! (stop !)) (init ! 20 refl (tt, tt)) $
+        assigns ! (agg ! (and-then ! (load ! (from ! (stop !)) (look ! 20 refl)) (and-then ! (load ! (from ! (fld ! refl (stop !))) (look-in ! 32 (sub ! 1 refl (whole !)))) (no-more !)))) (from ! (stop !)) (init ! 18 refl (tt, (tt, (record { fits = room .0 }, tt)))) $
+        assigns ! (addr ! (from ! (fld ! refl (hop ! (look-in ! 34 (sub ! 0 refl (whole !))) (stop !))))) (from ! (stop !)) (init ! 16 refl (tt, tt)) $
+        assigns ! (agg ! (and-then ! (load ! (from ! (stop !)) (look ! 16 refl)) (and-then ! (load ! (from ! (fld ! refl (stop !))) (look-in ! 34 (sub ! 1 refl (whole !)))) (no-more !)))) (from ! (stop !)) (init ! 14 refl (tt, (tt, (record { fits = room₁ .0 }, tt)))) $
+        move ! (41 ∷ []) $ fsplit ! $ move ! (1 ∷ []) $ fsplit ! $ move ! (1 ∷ []) $ fsplit ! $ move ! (1 ∷ []) $ drop ! $
+        move ! (43 ∷ []) $ split ! $ move ! (1 ∷ []) $ split ! $ move ! (1 ∷ []) $ split ! $ move ! (1 ∷ []) $ drop ! $
+        -- [κ₂'s token; κ₁'s; κ₀'s; the records; the registers; the code; _19; …]: _i at 44 - 2 i. The records are lent on to `gather` for ν, the registers for ν′, both to be read
         lft-new ! tt (λ ν. move ! (4 ∷ 1 ∷ []) $
         use2 W (later (some (λ (δ : GName). ‵ (ShrSlice (named 0) (ν ∷ []) ThreadR .own (x δ ys) (s ∷ [])) ⊛ ‵ (Parked ThreadR κ₂ (ν ∷ []) q₂ γ b o ys)))) (share-on ThreadR κ₂ (ν ∷ []) q₂ γ b o ys 𝓤 H A W (named 2) (named 0)) $ await ! tt $ pick ! (λ δ. split ! $
-        move ! (2 ∷ 0 ∷ []) $ use2 W (raw (Gather 𝓤 H A mem rn .pre (to-gather ν δ))) (asks-gather ν δ) $
-        -- [what `gather` asks; what is kept; κ₁'s token; κ₀'s; the registers; the code; _17; …]: _i at 40 - 2 i
-        calls-at ! fm (Gather 𝓤 H A mem rn) known-gather (to-gather ν δ) (and-then ! (load ! (from ! (stop !)) (look ! 20 refl)) (no-more !)) (λ w.
-        use1 W (later (some (λ (v : Survey). given (Gathered ys v × Is SurveyR v (w ∷ [])) (‵ (flft (ν ∷ []) fullShare) ⊛ ‵ ftrue))))
-        (heeded 𝓤 H A W SurveyR w (sep 𝓤 (A .lft (ν ∷ []) fullShare) (emp 𝓤)) (λ r. ensured 𝓤 H A gather.ended (gather.clauses 𝓤 H A mem rn) (ν ∷ [], tt) (x δ ys, tt) tt r) (Gathered ys) (tells-gather ν δ)) $ await ! tt $ pick ! (λ v. learn ! (λ g.
-        land ! (from ! (stop !)) (init ! 30 refl (survey-typed 𝓤 H A W v _ (g .1) .0)) $ rewrite ! 30 (λ (u : Val). ‵ (fat fullShare S′.mir l₅ 0 u)) (ap only (survey-tells v _ (g .1))) refl $
-        split ! $ lft-end ! tt $ move ! (0 ∷ 2 ∷ []) $
-        use2 W (later (‵ (Own₂ ys) ⊛ ‵ (flft κ₂ q₂))) (share-back ThreadR κ₂ (ν ∷ []) q₂ γ b o ys 𝓤 H A W (named 2) (named 0) room) $ await ! tt $ split ! $ move ! (2 ∷ []) $ drop ! $
-        -- [the records; κ₂'s token; κ₁'s; κ₀'s; the registers; the code; _17; …]: _i at 40 - 2 i
-        assigns ! (of-opd ! (load ! (from ! (fld ! refl (stop !))) (look-in ! 36 (sub ! 1 refl (whole !))))) (from ! (stop !)) (init ! 18 refl (tt, record { fits = room₁ .0 })) $
+        lft-new ! tt (λ ν′. move ! (6 ∷ 4 ∷ []) $
+        use2 W (later (some (λ (δ₁ : GName). ‵ (ShrSlice (named 1) (ν′ ∷ []) i32 .own (x₁ δ₁) (s₁ ∷ [])) ⊛ ‵ (Parked i32 κ₁ (ν′ ∷ []) q₁ γ₁ b₁ o₁ rs)))) (share-on i32 κ₁ (ν′ ∷ []) q₁ γ₁ b₁ o₁ rs 𝓤 H A W (named 1) (named 1)) $ await ! tt $ pick ! (λ δ₁. split ! $
+        move ! (5 ∷ 2 ∷ 3 ∷ 0 ∷ []) $ group ! 4 $ use1 W (raw (Gather 𝓤 H A mem rn .pre (to-gather ν ν′ δ δ₁))) (asks-gather ν ν′ δ δ₁) $
+        -- [what `gather` asks; what is kept of the registers; of the records; κ₀'s token; the code; _19; …]: _i at 43 - 2 i
+        calls-at ! fm (Gather 𝓤 H A mem rn) known-gather (to-gather ν ν′ δ δ₁) (and-then ! (load ! (from ! (stop !)) (look ! 23 refl)) (and-then ! (load ! (from ! (stop !)) (look ! 19 refl)) (no-more !))) (λ w.
+        use1 W (later (some (λ (v : Survey). given (Gathered rs ys v × Is SurveyR v (w ∷ [])) (‵ (flft (ν ∷ []) fullShare) ⊛ ‵ (flft (ν′ ∷ []) fullShare) ⊛ ‵ ftrue))))
+        (heeded 𝓤 H A W SurveyR w (sep 𝓤 (A .lft (ν ∷ []) fullShare) (sep 𝓤 (A .lft (ν′ ∷ []) fullShare) (emp 𝓤))) (λ r. ensured 𝓤 H A gather.ended (gather.clauses 𝓤 H A mem rn) (ν ∷ [], (ν′ ∷ [], tt)) (x δ ys, (x₁ δ₁, tt)) tt r) (Gathered rs ys) (tells-gather ν ν′ δ δ₁)) $ await ! tt $ pick ! (λ v. learn ! (λ g.
+        land ! (from ! (stop !)) (init ! 33 refl (survey-typed 𝓤 H A W v _ (g .1) .0)) $ rewrite ! 33 (λ (u : Val). ‵ (fat fullShare S′.mir l₅ 0 u)) (ap only (survey-tells v _ (g .1))) refl $
+        split ! $ lft-end ! tt $ move ! (0 ∷ 3 ∷ []) $
+        use2 W (later (‵ (Own₂ ys) ⊛ ‵ (flft κ₂ q₂))) (share-back ThreadR κ₂ (ν ∷ []) q₂ γ b o ys 𝓤 H A W (named 2) (named 0) room) $ await ! tt $ split ! $
+        move ! (2 ∷ []) $ split ! $ lft-end ! tt $ move ! (0 ∷ 4 ∷ []) $
+        use2 W (later (‵ Own₁ ⊛ ‵ (flft κ₁ q₁))) (share-back i32 κ₁ (ν′ ∷ []) q₁ γ₁ b₁ o₁ rs 𝓤 H A W (named 1) (named 1) room₁) $ await ! tt $ split ! $ move ! (2 ∷ []) $ drop ! $ move ! (2 ∷ 3 ∷ 1 ∷ 4 ∷ 0 ∷ []) $
+        -- [the records; κ₂'s token; κ₁'s; κ₀'s; the registers; the code; _19; …]: _i at 44 - 2 i
+        assigns ! (of-opd ! (load ! (from ! (fld ! refl (stop !))) (look-in ! 40 (sub ! 1 refl (whole !))))) (from ! (stop !)) (init ! 18 refl (tt, record { fits = room₁ .0 })) $
         -- `admit`, with a copy of the code
         move ! (5 ∷ []) $ use1 W (‵ Own₀ ⊛ ‵ Own₀) (shr-slice-copy 𝓤 H A W (named 0) κ₀ u8 .twice x₀ (s₀ ∷ [])) $ split ! $ move ! (5 ∷ 0 ∷ []) $
         use2 W (raw (Admit 𝓤 H A mem rn .pre (to-admit v))) (asks-admit v (subst (Is SurveyR v) (survey-tells v _ (g .1)) (g .1)) (room₁ .0)) $
-        calls-at ! fm (Admit 𝓤 H A mem rn) known-admit (to-admit v) (and-then ! (load ! (from ! (stop !)) (look ! 38 refl)) (and-then ! (load ! (from ! (stop !)) (look ! 30 refl)) (and-then ! (load ! (from ! (stop !)) (look ! 18 refl)) (and-then ! (lit ! tt) (no-more !))))) (λ w′.
+        calls-at ! fm (Admit 𝓤 H A mem rn) known-admit (to-admit v) (and-then ! (load ! (from ! (stop !)) (look ! 42 refl)) (and-then ! (load ! (from ! (stop !)) (look ! 34 refl)) (and-then ! (load ! (from ! (stop !)) (look ! 18 refl)) (and-then ! (lit ! tt) (no-more !))))) (λ w′.
         use1 W (later (some (λ (p′ : Progress). given (Admitted cd v (length rs) 1 p′ × Is ProgressR p′ (w′ ∷ [])) (‵ (flft κ₀ q₀) ⊛ ‵ ftrue))))
         (heeded 𝓤 H A W ProgressR w′ (sep 𝓤 (A .lft κ₀ q₀) (emp 𝓤)) (λ r. ensured 𝓤 H A admit.ended (admit.clauses 𝓤 H A mem rn) (κ₀, tt) (x₀, (v, (length rs, (1, tt)))) tt r) (Admitted cd v (length rs) 1) (tells-admit v)) $ await ! tt $ pick ! (λ p′. learn ! (λ ga.
-        land ! (from ! (stop !)) (init ! 28 refl (progress-typed 𝓤 H A W (first v) _ (isfirst v ga) .0)) $ rewrite ! 28 (λ (u : Val). ‵ (fat fullShare P′.mir l₆ 0 u)) (ap only (progress-tells (first v) _ (isfirst v ga))) refl $ split ! $ move ! (1 ∷ []) $ drop ! $
-        -- [κ₀'s token; the code; the records; κ₂'s token; κ₁'s; the registers; _17; …]: _i at 40 - 2 i
-        assigns ! (agg ! (and-then ! (load ! (from ! (stop !)) (look ! 32 refl)) (no-more !))) (from ! (stop !)) (init ! 26 refl (array-typed u8 (uint-lawful 𝓤 H A W w8 .typed) 1 (k ∷ []) (s₃ ∷ []) is .0)) $
-        assigns ! (addr ! (from ! (fld ! refl (hop ! (look-in ! 36 (sub ! 0 refl (whole !))) (stop !))))) (from ! (stop !)) (init ! 16 refl (tt, tt)) $
-        assigns ! (agg ! (and-then ! (load ! (from ! (stop !)) (look ! 16 refl)) (and-then ! (load ! (from ! (fld ! refl (stop !))) (look-in ! 36 (sub ! 1 refl (whole !)))) (no-more !)))) (from ! (stop !)) (init ! 14 refl (tt, (tt, (record { fits = room₁ .0 }, tt)))) $
-        assigns ! (addr ! (from ! (fld ! refl (hop ! (look-in ! 34 (sub ! 0 refl (whole !))) (stop !))))) (from ! (stop !)) (init ! 12 refl (tt, tt)) $
-        assigns ! (agg ! (and-then ! (load ! (from ! (stop !)) (look ! 12 refl)) (and-then ! (load ! (from ! (fld ! refl (stop !))) (look-in ! 34 (sub ! 1 refl (whole !)))) (no-more !)))) (from ! (stop !)) (init ! 10 refl (tt, (tt, (record { fits = room .0 }, tt)))) $
+        land ! (from ! (stop !)) (init ! 32 refl (progress-typed 𝓤 H A W (first v) _ (isfirst v ga) .0)) $ rewrite ! 32 (λ (u : Val). ‵ (fat fullShare P′.mir l₆ 0 u)) (ap only (progress-tells (first v) _ (isfirst v ga))) refl $ split ! $ move ! (1 ∷ []) $ drop ! $
+        -- [κ₀'s token; the code; the records; κ₂'s token; κ₁'s; the registers; _19; …]: _i at 44 - 2 i
+        assigns ! (agg ! (and-then ! (load ! (from ! (stop !)) (look ! 36 refl)) (no-more !))) (from ! (stop !)) (init ! 30 refl (array-typed u8 (uint-lawful 𝓤 H A W w8 .typed) 1 (k ∷ []) (s₃ ∷ []) is .0)) $
+        assigns ! (addr ! (from ! (fld ! refl (hop ! (look-in ! 40 (sub ! 0 refl (whole !))) (stop !))))) (from ! (stop !)) (init ! 16 refl (tt, tt)) $
+        assigns ! (agg ! (and-then ! (load ! (from ! (stop !)) (look ! 16 refl)) (and-then ! (load ! (from ! (fld ! refl (stop !))) (look-in ! 40 (sub ! 1 refl (whole !)))) (no-more !)))) (from ! (stop !)) (init ! 14 refl (tt, (tt, (record { fits = room₁ .0 }, tt)))) $
+        assigns ! (addr ! (from ! (fld ! refl (hop ! (look-in ! 38 (sub ! 0 refl (whole !))) (stop !))))) (from ! (stop !)) (init ! 12 refl (tt, tt)) $
+        assigns ! (agg ! (and-then ! (load ! (from ! (stop !)) (look ! 12 refl)) (and-then ! (load ! (from ! (fld ! refl (stop !))) (look-in ! 38 (sub ! 1 refl (whole !)))) (no-more !)))) (from ! (stop !)) (init ! 10 refl (tt, (tt, (record { fits = room .0 }, tt)))) $
         assigns ! (addr ! (from ! (stop !))) (from ! (stop !)) (init ! 8 refl (tt, tt)) $
         assigns ! (agg ! (and-then ! (load ! (from ! (stop !)) (look ! 8 refl)) (and-then ! (lit ! tt) (no-more !)))) (from ! (stop !)) (init ! 6 refl (tt, (tt, (record { fits = lit< tt }, tt)))) $
         -- the local _7 is lent to be read
-        lft-new ! tt (λ μ. move ! (27 ∷ []) $ use1 W (later (some (λ (δ′ : GName). ‵ (Own₃ l₇ μ δ′) ⊛ ‵ (flent (μ ∷ []) (arr-parts (shares u8) 1 .part fullShare (k ∷ []) l₇ 0)))))
+        lft-new ! tt (λ μ. move ! (31 ∷ []) $ use1 W (later (some (λ (δ′ : GName). ‵ (Own₃ l₇ μ δ′) ⊛ ‵ (flent (μ ∷ []) (arr-parts (shares u8) 1 .part fullShare (k ∷ []) l₇ 0)))))
         (show-array 𝓤 H A W u8 1 (μ ∷ []) l₇ (k ∷ []) tt (array-makes 𝓤 H A W u8 (uint-makes 𝓤 H A W w8) 1) (lit< tt, lit< tt) (named 3) s₃ is) $ await ! tt $ pick ! (λ δ′. split ! $
-        -- [the pick; the lender's part; μ's token; κ₀'s; the code; the records; κ₂'s; κ₁'s; the registers; _17; …; _8; …; that _7 dies; _6; …]. All goes to `drive`, for good
-        move ! (3 ∷ 7 ∷ 6 ∷ 2 ∷ 4 ∷ 8 ∷ 5 ∷ 0 ∷ []) $ group ! 8 $ use1 W (raw (Drive 𝓤 H A mem rn .pre (to-drive l₇ μ δ′ (first v)))) (asks-drive l₇ μ δ′ v (g .0) (subst (Is ProgressR (first v)) (progress-tells (first v) _ (isfirst v ga)) (isfirst v ga))) $
-        calls-at ! fm (Drive 𝓤 H A mem rn) known-drive (to-drive l₇ μ δ′ (first v)) (and-then ! (load ! (from ! (stop !)) (look ! 33 refl)) (and-then ! (load ! (from ! (stop !)) (look ! 10 refl)) (and-then ! (load ! (from ! (stop !)) (look ! 6 refl)) (and-then ! (load ! (from ! (stop !)) (look ! 2 refl)) (and-then ! (load ! (from ! (stop !)) (look ! 23 refl)) (no-more !)))))) (λ u.
-        use1 W (later (some (λ (p : Progress). ((‵ (flft κ₀ q₀) ⊛ ‵ (flft κ₁ q₁) ⊛ ‵ (flft κ₂ q₂) ⊛ ‵ (flft (μ ∷ []) fullShare) ⊛ ‵ ftrue) ⊛ ‵ (ProgressR .own p (u ∷ []))) ⊛ raw (ensured 𝓤 H A drive.ended (drive.clauses 𝓤 H A mem rn) (κ₀, (κ₁, (κ₂, (μ ∷ [], tt)))) (x₀, (x₁, (x γ ys, (x₃ l₇ δ′, (first v, tt))))) tt p)))) (id⊢ 𝓤 _) $ await ! tt $ pick ! (λ p.
-        split ! $ move ! (1 ∷ []) $ use1 W (some (λ (ls : Unit {0} × (List ℤ × (List Thread × (Unit {0} × (Unit {0} × Unit {0}))))). ‵ (lasts drive.ended (κ₀, (κ₁, (κ₂, (μ ∷ [], tt)))) (x₀, (x₁, (x γ ys, (x₃ l₇ δ′, (first v, tt))))) ls) ⊛ raw (fact 𝓤 (Drove v p (ls .1 .0) (ls .1 .1 .0))))) (id⊢ 𝓤 _) $ pick ! (λ ls.
+        -- [the pick; the lender's part; μ's token; κ₀'s; the code; the records; κ₂'s; κ₁'s; the registers; _19; …; _8; …; that _7 dies; _6; …]. All goes to `drive`, for good
+        move ! (3 ∷ 7 ∷ 6 ∷ 2 ∷ 4 ∷ 8 ∷ 5 ∷ 0 ∷ []) $ group ! 8 $ use1 W (raw (Drive 𝓤 H A mem rn .pre (to-drive l₇ μ δ′ (first v)))) (asks-drive l₇ μ δ′ v (g .0) (ga .0 .bytes) (subst (Is ProgressR (first v)) (progress-tells (first v) _ (isfirst v ga)) (isfirst v ga))) $
+        calls-at ! fm (Drive 𝓤 H A mem rn) known-drive (to-drive l₇ μ δ′ (first v)) (and-then ! (load ! (from ! (stop !)) (look ! 37 refl)) (and-then ! (load ! (from ! (stop !)) (look ! 10 refl)) (and-then ! (load ! (from ! (stop !)) (look ! 6 refl)) (and-then ! (load ! (from ! (stop !)) (look ! 2 refl)) (and-then ! (load ! (from ! (stop !)) (look ! 27 refl)) (no-more !)))))) (λ u.
+        use1 W (later (some (λ (p : Progress). ((‵ (flft κ₀ q₀) ⊛ ‵ (flft κ₁ q₁) ⊛ ‵ (flft κ₂ q₂) ⊛ ‵ (flft (μ ∷ []) fullShare) ⊛ ‵ ftrue) ⊛ ‵ (ProgressR .own p (u ∷ []))) ⊛ raw (ensured 𝓤 H A drive.ended (drive.clauses 𝓤 H A mem rn) (κ₀, (κ₁, (κ₂, (μ ∷ [], tt)))) (x₀, (x₁ γ₁, (x γ ys, (x₃ l₇ δ′, (first v, tt))))) tt p)))) (id⊢ 𝓤 _) $ await ! tt $ pick ! (λ p.
+        split ! $ move ! (1 ∷ []) $ use1 W (some (λ (ls : Unit {0} × (List ℤ × (List Thread × (Unit {0} × (Unit {0} × Unit {0}))))). ‵ (lasts drive.ended (κ₀, (κ₁, (κ₂, (μ ∷ [], tt)))) (x₀, (x₁ γ₁, (x γ ys, (x₃ l₇ δ′, (first v, tt))))) ls) ⊛ raw (fact 𝓤 (Drove v p (ls .1 .0) (ls .1 .1 .0))))) (id⊢ 𝓤 _) $ pick ! (λ ls.
         split ! $ move ! (1 ∷ []) $ heard ! (Drove v p (ls .1 .0) (ls .1 .1 .0)) (λ f. fsplit ! $ drop ! $ fsplit ! $ fsplit ! $ move ! (1 ∷ []) $ feqL ! (λ e₁. move ! (1 ∷ []) $ fsplit ! $ fsplit ! $ move ! (1 ∷ []) $ feqL ! (λ e₂.
         move ! (3 ∷ []) $ split ! $ move ! (1 ∷ []) $ peeks ! ProgressR (Is ProgressR) (shows 𝓤 H A ProgressR) p (u ∷ []) (λ iq.
-        -- [what the result owns; the tokens; the last records; true; the last registers; the lender's part; _17; …]: from _8 on _i at 40 - 2 i
-        land ! (from ! (stop !)) (init ! 24 refl (progress-typed 𝓤 H A W p _ iq .0)) $ rewrite ! 24 (λ (c : Val). ‵ (fat fullShare P′.mir l₈ 0 c)) (ap only (progress-tells p _ iq)) refl $ drop ! $ move ! (2 ∷ []) $ drop ! $
+        -- [what the result owns; the tokens; the last records; true; the last registers; the lender's part; _19; …]: from _8 on _i at 44 - 2 i
+        land ! (from ! (stop !)) (init ! 28 refl (progress-typed 𝓤 H A W p _ iq .0)) $ rewrite ! 28 (λ (c : Val). ‵ (fat fullShare P′.mir l₈ 0 c)) (ap only (progress-tells p _ iq)) refl $ drop ! $ move ! (2 ∷ []) $ drop ! $
         split ! $ move ! (1 ∷ []) $ split ! $ move ! (1 ∷ []) $ split ! $ move ! (1 ∷ []) $ split ! $ lft-end ! tt $ move ! (0 ∷ 7 ∷ []) $
         use2 W (later (some (λ (c : Val). given (Is (Array u8 1) (k ∷ []) (c ∷ [])) (‵ (fat fullShare (tyArray (tyInt w8) 1) l₇ 0 c))))) (array-shown 𝓤 H A W u8 1 (μ ∷ []) l₇ (k ∷ []) (uint-vals w8) (uint-tells w8)) $ await ! tt $ pick ! (λ c′. learn ! (λ _.
-        -- [_7; true; κ₂'s token; κ₁'s; κ₀'s; the last records; the last registers; _17; …; _8; …; that _7 dies; _6; …]. The answer
+        -- [_7; true; κ₂'s token; κ₁'s; κ₀'s; the last records; the last registers; _19; …; _8; …; that _7 dies; _6; …]. The answer
         use0 W (raw (Answer 𝓤 H A mem rn .pre (to-answer p))) (asks-answer p (subst (Is ProgressR p) (progress-tells p _ iq) iq)) $
-        calls-at ! fm (Answer 𝓤 H A mem rn) known-answer (to-answer p) (and-then ! (load ! (from ! (stop !)) (look ! 26 refl)) (no-more !)) (λ c.
+        calls-at ! fm (Answer 𝓤 H A mem rn) known-answer (to-answer p) (and-then ! (load ! (from ! (stop !)) (look ! 30 refl)) (no-more !)) (λ c.
         use1 W (later (given (Is StepR (stepReplyOf p) (c ∷ [])) (‵ ftrue))) (told 𝓤 H A W StepR c (emp 𝓤) (λ r. ensured 𝓤 H A answer.ended (answer.clauses 𝓤 H A mem rn) tt (p, tt) tt r) (stepReplyOf p) (tells-answer p)) $ await ! tt $ learn ! (λ ia.
-        land ! (from ! (stop !)) (init ! 41 refl (step-typed 𝓤 H A W (stepReplyOf p) _ ia .0)) $ rewrite ! 41 (λ (c₀ : Val). ‵ (fat fullShare Y′.mir l₀ 0 c₀)) (ap only (step-tells (stepReplyOf p) _ ia)) refl $ drop ! $
-        returns ! (look ! 40 refl) $ forget ! 0 refl $ forget ! 7 refl $ forget ! 9 refl $ forget ! 11 refl $ forget ! 13 refl $ forget ! 15 refl $ forget ! 17 refl $ forget ! 19 refl $ forget ! 21 refl $ forget ! 23 refl $ forget ! 25 refl $ forget ! 28 refl $ forget ! 30 refl $ forget ! 32 refl $ forget ! 34 refl $ forget ! 36 refl $ forget ! 38 refl $ forget ! 40 refl $
-        move ! (40 ∷ 41 ∷ []) $ free1 ! $ move ! (38 ∷ 39 ∷ []) $ free1 ! $ move ! (36 ∷ 37 ∷ []) $ free1 ! $ move ! (34 ∷ 35 ∷ []) $ free1 ! $ move ! (32 ∷ 33 ∷ []) $ free1 ! $ move ! (30 ∷ 31 ∷ []) $ free1 ! $ move ! (28 ∷ 29 ∷ []) $ free1 ! $ move ! (0 ∷ 27 ∷ []) $ free1 ! $ move ! (24 ∷ 25 ∷ []) $ free1 ! $ move ! (22 ∷ 23 ∷ []) $ free1 ! $ move ! (20 ∷ 21 ∷ []) $ free1 ! $ move ! (18 ∷ 19 ∷ []) $ free1 ! $ move ! (16 ∷ 17 ∷ []) $ free1 ! $ move ! (14 ∷ 15 ∷ []) $ free1 ! $ move ! (12 ∷ 13 ∷ []) $ free1 ! $ move ! (10 ∷ 11 ∷ []) $ free1 ! $ move ! (8 ∷ 9 ∷ []) $ free1 ! $ move ! (6 ∷ 7 ∷ []) $ free1 ! $ free0 ! $
-        by ! (exits v (g .0) (ga .0 .bytes) p (ls .1 .0) (ls .1 .1 .0) f e₁ e₂ (subst (Is StepR (stepReplyOf p)) (step-tells (stepReplyOf p) _ ia) ia)))))))))))))))))))))))))))))))))))))))))
+        land ! (from ! (stop !)) (init ! 45 refl (step-typed 𝓤 H A W (stepReplyOf p) _ ia .0)) $ rewrite ! 45 (λ (c₀ : Val). ‵ (fat fullShare Y′.mir l₀ 0 c₀)) (ap only (step-tells (stepReplyOf p) _ ia)) refl $ drop ! $
+        returns ! (look ! 44 refl) $ forget ! 0 refl $ forget ! 7 refl $ forget ! 9 refl $ forget ! 11 refl $ forget ! 13 refl $ forget ! 15 refl $ forget ! 17 refl $ forget ! 19 refl $ forget ! 21 refl $ forget ! 23 refl $ forget ! 25 refl $ forget ! 27 refl $ forget ! 29 refl $ forget ! 32 refl $ forget ! 34 refl $ forget ! 36 refl $ forget ! 38 refl $ forget ! 40 refl $ forget ! 42 refl $ forget ! 44 refl $
+        move ! (44 ∷ 45 ∷ []) $ free1 ! $ move ! (42 ∷ 43 ∷ []) $ free1 ! $ move ! (40 ∷ 41 ∷ []) $ free1 ! $ move ! (38 ∷ 39 ∷ []) $ free1 ! $ move ! (36 ∷ 37 ∷ []) $ free1 ! $ move ! (34 ∷ 35 ∷ []) $ free1 ! $ move ! (32 ∷ 33 ∷ []) $ free1 ! $ move ! (0 ∷ 31 ∷ []) $ free1 ! $ move ! (28 ∷ 29 ∷ []) $ free1 ! $ move ! (26 ∷ 27 ∷ []) $ free1 ! $ move ! (24 ∷ 25 ∷ []) $ free1 ! $ move ! (22 ∷ 23 ∷ []) $ free1 ! $ move ! (20 ∷ 21 ∷ []) $ free1 ! $ move ! (18 ∷ 19 ∷ []) $ free1 ! $ move ! (16 ∷ 17 ∷ []) $ free1 ! $ move ! (14 ∷ 15 ∷ []) $ free1 ! $ move ! (12 ∷ 13 ∷ []) $ free1 ! $ move ! (10 ∷ 11 ∷ []) $ free1 ! $ move ! (8 ∷ 9 ∷ []) $ free1 ! $ move ! (6 ∷ 7 ∷ []) $ free1 ! $ free0 ! $
+        by ! (exits v (g .0) (ga .0 .bytes) p (ls .1 .0) (ls .1 .1 .0) f e₁ e₂ (subst (Is StepR (stepReplyOf p)) (step-tells (stepReplyOf p) _ ia) ia)))))))))))))))))))))))))))))))))))))))))))))
       where
         -- the local array's value
         is : Is (Array u8 1) (k ∷ []) (s₃ ∷ [])

@@ -240,7 +240,7 @@ module _ {M : Type 1} (𝓤 : URA M) (H : Heap 𝓤) (A : Atoms 𝓤) (W : Given
           land ! (from ! (stop !)) (init ! 12 refl (thread-typed 𝓤 H A W t _ is .0)) $ rewrite ! 12 (λ (u : Val). ‵ (fat fullShare T′.mir l₈ 0 u)) (ap only (thread-tells t _ is)) refl $ drop ! $
           assigns ! (bin ! (load ! (from ! (stop !)) (look ! 4 refl)) (lit ! tt) (record { fits = omega (arith, room .1, here) })) (from ! (stop !)) (init ! 12 refl (tt, record { fits = omega (arith, room .1, here) })) $
           assigns ! (bin ! (load ! (from ! (fld ! refl (stop !))) (look-in ! 5 (sub ! 0 refl (whole !)))) (load ! (from ! (stop !)) (look ! 12 refl)) tt) (from ! (stop !)) (init ! 13 refl (tt, tt)) $
-          rewrite ! 13 (λ (p : ℕ). ‵ (fat fullShare tyPtr l₁₀ 0 (vptr b p))) (sym (place-is 840 o (st .i))) refl $
+          rewrite ! 13 (λ (p : ℕ). ‵ (fat fullShare tyPtr l₁₀ 0 (vptr b p))) (sym (place-is 856 o (st .i))) refl $
           elem-out ! ThreadR (Is ThreadR) (shows 𝓤 H A ThreadR) thread-vals thread-tells fullShare (st .ys) (st .i) blank b o there (λ _.
           assigns ! (of-opd ! (load ! (from ! (stop !)) (look ! 13 refl))) (from ! (hop ! (look ! 15 refl) (stop !))) (store-raw ! 0 refl (thread-typed 𝓤 H A W t _ (known-is is) .0)) $
           move ! (1 ∷ []) $ drop ! $ owned ! ThreadR (Is ThreadR) (thread-makes 𝓤 H A) t _ (known-is is) $ move ! (1 ∷ 0 ∷ []) $ elem-put ! ThreadR fullShare (st .ys) (st .i) t (thread-vals t) b o there $

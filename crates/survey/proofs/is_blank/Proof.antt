@@ -34,23 +34,29 @@ returns-8 c = is-false _ (λ e. c .if8 .taken (zeros-of (c .before .before .befo
 returns-9 : tie.Need-returns-9
 returns-9 c = is-false _ (λ e. c .if9 .taken (zeros-of (c .before .before .before .before .before .before .before .before .before .before .before .before .before .before .before .before .before .before .args .t) e .writes))
 
+returns-10 : tie.Need-returns-10
+returns-10 c = is-false _ (λ e. c .if10 .taken (zeros-of (c .before .before .before .before .before .before .before .before .before .before .before .before .before .before .before .before .before .before .before .before .args .t) e .rule))
+
+returns-11 : tie.Need-returns-11
+returns-11 c = is-false _ (λ e. c .if11 .taken (zeros-of (c .before .before .before .before .before .before .before .before .before .before .before .before .before .before .before .before .before .before .before .before .before .before .args .t) e .backs))
+
 is-zero-from-requires : tie.Need-is-zero-from-requires
 is-zero-from-requires c κs = search needs
 
-returns-10 : tie.Need-returns-10
-returns-10 c = is-false _ (λ e. clash (sym (c .before .is-zero-from .ensures) ∙ not-true _ (c .if10 .taken)) (zeros-of (c .before .before .before .before .before .before .before .before .before .before .before .before .before .before .before .before .before .before .before .before .before .before .args .t) e .cells))
+returns-12 : tie.Need-returns-12
+returns-12 c = is-false _ (λ e. clash (sym (c .before .is-zero-from .ensures) ∙ not-true _ (c .if12 .taken)) (zeros-of (c .before .before .before .before .before .before .before .before .before .before .before .before .before .before .before .before .before .before .before .before .before .before .before .before .before .before .args .t) e .cells))
 
 is-zero-from-requires-2 : tie.Need-is-zero-from-requires-2
 is-zero-from-requires-2 c κs = search needs
 
-returns-11 : tie.Need-returns-11
-returns-11 c = is-false _ (λ e. clash (sym (c .before .is-zero-from2 .ensures) ∙ not-true _ (c .if11 .taken)) (zeros-of (c .before .before .before .before .before .before .before .before .before .before .before .before .before .before .before .before .before .before .before .before .before .before .before .before .before .before .args .t) e .readlog))
+returns-13 : tie.Need-returns-13
+returns-13 c = is-false _ (λ e. clash (sym (c .before .is-zero-from2 .ensures) ∙ not-true _ (c .if13 .taken)) (zeros-of (c .before .before .before .before .before .before .before .before .before .before .before .before .before .before .before .before .before .before .before .before .before .before .before .before .before .before .before .before .before .before .args .t) e .readlog))
 
 is-zero-from-requires-3 : tie.Need-is-zero-from-requires-3
 is-zero-from-requires-3 c κs = search needs
 
-returns-12 : tie.Need-returns-12
-returns-12 c = alike _ _ (λ e. all-zero (c .before .before .before .before .before .before .before .before .before .before .before .before .before .before .before .before .before .before .before .before .before .before .before .before .before .before .before .before .before .args .t) (record { start = c .before .before .before .before .before .before .before .before .before .before .before .before .before .before .before .before .before .before .before .before .before .before .before .before .before .before .before .if1 .left; end = c .before .before .before .before .before .before .before .before .before .before .before .before .before .before .before .before .before .before .before .before .before .before .before .before .before .if2 .left; place = c .before .before .before .before .before .before .before .before .before .before .before .before .before .before .before .before .before .before .before .before .before .before .before .if3 .left; height = c .before .before .before .before .before .before .before .before .before .before .before .before .before .before .before .before .before .before .before .before .before .if4 .left; begin = c .before .before .before .before .before .before .before .before .before .before .before .before .before .before .before .before .before .before .before .if5 .left; base = c .before .before .before .before .before .before .before .before .before .before .before .before .before .before .before .before .before .if6 .left; over = c .before .before .before .before .before .before .before .before .before .before .before .before .before .before .before .if7 .left; reads = c .before .before .before .before .before .before .before .before .before .before .before .before .before .if8 .left; writes = c .before .before .before .before .before .before .before .before .before .before .before .if9 .left; cells = sym (c .before .before .before .before .before .before .before .before .is-zero-from .ensures) ∙ not-false _ (c .before .before .before .before .before .before .before .if10 .left); readlog = sym (c .before .before .before .before .is-zero-from2 .ensures) ∙ not-false _ (c .before .before .before .if11 .left); writelog = sym (c .is-zero-from3 .ensures) ∙ e })) (λ e. c .is-zero-from3 .ensures ∙ zeros-of (c .before .before .before .before .before .before .before .before .before .before .before .before .before .before .before .before .before .before .before .before .before .before .before .before .before .before .before .before .before .args .t) e .writelog)
+returns-14 : tie.Need-returns-14
+returns-14 c = alike _ _ (λ e. all-zero (c .before .before .before .before .before .before .before .before .before .before .before .before .before .before .before .before .before .before .before .before .before .before .before .before .before .before .before .before .before .before .before .before .before .args .t) (record { start = c .before .before .before .before .before .before .before .before .before .before .before .before .before .before .before .before .before .before .before .before .before .before .before .before .before .before .before .before .before .before .before .if1 .left; end = c .before .before .before .before .before .before .before .before .before .before .before .before .before .before .before .before .before .before .before .before .before .before .before .before .before .before .before .before .before .if2 .left; place = c .before .before .before .before .before .before .before .before .before .before .before .before .before .before .before .before .before .before .before .before .before .before .before .before .before .before .before .if3 .left; height = c .before .before .before .before .before .before .before .before .before .before .before .before .before .before .before .before .before .before .before .before .before .before .before .before .before .if4 .left; begin = c .before .before .before .before .before .before .before .before .before .before .before .before .before .before .before .before .before .before .before .before .before .before .before .if5 .left; base = c .before .before .before .before .before .before .before .before .before .before .before .before .before .before .before .before .before .before .before .before .before .if6 .left; over = c .before .before .before .before .before .before .before .before .before .before .before .before .before .before .before .before .before .before .before .if7 .left; reads = c .before .before .before .before .before .before .before .before .before .before .before .before .before .before .before .before .before .if8 .left; writes = c .before .before .before .before .before .before .before .before .before .before .before .before .before .before .before .if9 .left; rule = c .before .before .before .before .before .before .before .before .before .before .before .before .before .if10 .left; backs = c .before .before .before .before .before .before .before .before .before .before .before .if11 .left; cells = sym (c .before .before .before .before .before .before .before .before .is-zero-from .ensures) ∙ not-false _ (c .before .before .before .before .before .before .before .if12 .left); readlog = sym (c .before .before .before .before .is-zero-from2 .ensures) ∙ not-false _ (c .before .before .before .if13 .left); writelog = sym (c .is-zero-from3 .ensures) ∙ e })) (λ e. c .is-zero-from3 .ensures ∙ zeros-of (c .before .before .before .before .before .before .before .before .before .before .before .before .before .before .before .before .before .before .before .before .before .before .before .before .before .before .before .before .before .before .before .before .before .args .t) e .writelog)
 
 pub is-blank-spec : {M : Type 1} → statement M
 is-blank-spec =
@@ -65,9 +71,11 @@ is-blank-spec =
     returns-7
     returns-8
     returns-9
-    is-zero-from-requires
     returns-10
-    is-zero-from-requires-2
     returns-11
+    is-zero-from-requires
+    returns-12
+    is-zero-from-requires-2
+    returns-13
     is-zero-from-requires-3
-    returns-12)
+    returns-14)

@@ -3,7 +3,7 @@ use Prim.Native.Nat.{_-_}
 use mathlib.Core.Path.{_∙_}
 use native.Mathlib.Omega.{arith}
 use borrow.Author.Tests.{not-true, not-false}
-use Rattle.survey.proofs.Walks.{Loop, begins, low-height, few-adds, arrives, misses, ends-early, step-stops, step-goes, step-further}
+use Rattle.survey.proofs.Walks.{Loop, begins, low-height, few-adds, few-commits, arrives, misses, ends-early, step-stops, step-goes, step-further}
 use Rattle.survey.proofs.walk_to.Statement.{statement}
 use Rattle.survey.proofs.walk_to.Tie as tie
 
@@ -35,7 +35,7 @@ op-at-requires : tie.Need-op-at-requires Inv-loop μ-loop
 op-at-requires c κs = tt
 
 step-requires : tie.Need-step-requires Inv-loop μ-loop
-step-requires c κs = (omega arith, low-height (c .before .before .before .before .before .before .args .code .now) (c .before .before .before .before .before .before .args .starts .now) (c .before .before .before .before .before .before .args .ends .now) (c .before .before .before .before .before .before .args .start) (c .before .before .before .before .before .before .args .end) (c .before .before .before .before .before .before .args .target) (c .before .before .before .before .before .before .args .asked) (c .before .before .before .before .loop .w) (c .before .before .before .before .loop .inv), few-adds (c .before .before .before .before .before .before .args .code .now) (c .before .before .before .before .before .before .args .starts .now) (c .before .before .before .before .before .before .args .ends .now) (c .before .before .before .before .before .before .args .start) (c .before .before .before .before .before .before .args .end) (c .before .before .before .before .before .before .args .target) (c .before .before .before .before .before .before .args .asked) (c .before .before .before .before .loop .w) (c .before .before .before .before .loop .inv))
+step-requires c κs = (omega arith, low-height (c .before .before .before .before .before .before .args .code .now) (c .before .before .before .before .before .before .args .starts .now) (c .before .before .before .before .before .before .args .ends .now) (c .before .before .before .before .before .before .args .start) (c .before .before .before .before .before .before .args .end) (c .before .before .before .before .before .before .args .target) (c .before .before .before .before .before .before .args .asked) (c .before .before .before .before .loop .w) (c .before .before .before .before .loop .inv), few-adds (c .before .before .before .before .before .before .args .code .now) (c .before .before .before .before .before .before .args .starts .now) (c .before .before .before .before .before .before .args .ends .now) (c .before .before .before .before .before .before .args .start) (c .before .before .before .before .before .before .args .end) (c .before .before .before .before .before .before .args .target) (c .before .before .before .before .before .before .args .asked) (c .before .before .before .before .loop .w) (c .before .before .before .before .loop .inv), few-commits (c .before .before .before .before .before .before .args .code .now) (c .before .before .before .before .before .before .args .starts .now) (c .before .before .before .before .before .before .args .ends .now) (c .before .before .before .before .before .before .args .start) (c .before .before .before .before .before .before .args .end) (c .before .before .before .before .before .before .args .target) (c .before .before .before .before .before .before .args .asked) (c .before .before .before .before .loop .w) (c .before .before .before .before .loop .inv))
 
 returns-4 : tie.Need-returns-4 Inv-loop μ-loop
 returns-4 c = step-stops (c .before .before .before .before .before .before .before .before .before .args .code .now) (c .before .before .before .before .before .before .before .before .before .args .starts .now) (c .before .before .before .before .before .before .before .before .before .args .ends .now) (c .before .before .before .before .before .before .before .before .before .args .start) (c .before .before .before .before .before .before .before .before .before .args .end) (c .before .before .before .before .before .before .before .before .before .args .target) (c .before .before .before .before .before .before .before .before .before .args .asked) (c .before .before .before .before .before .before .before .loop .w) (c .before .before .before .before .before .before .before .loop .inv) (c .before .before .before .before .before .before .if1 .left) (omega arith) (c .before .before .before .before .if3 .left) (c .before .before .before .op-at .result) (c .before .before .step .result) (c .before .before .before .op-at .ensures) (c .before .before .step .ensures) (not-true _ (c .if4 .taken))

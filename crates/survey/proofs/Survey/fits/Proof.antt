@@ -2,7 +2,7 @@
 use mathlib.Core.Path.{sym, ap, _∙_}
 use borrow.Author.Tests.{not-true, not-false}
 use Rattle.survey.specs.declared.Verdict.{Verdict}
-use Rattle.survey.specs.InnerWalk.{allAsked}
+use Rattle.survey.specs.InnerWalk.{allAsked, allMet}
 use Rattle.survey.proofs.Yes.{is-false, alike, clash}
 use Rattle.survey.proofs.Judging.{survey-parts, survey-whole}
 use borrow.Author.Needs.{needs}
@@ -40,7 +40,13 @@ is-all-asked-requires : tie.Need-is-all-asked-requires
 is-all-asked-requires c κs = search needs
 
 returns-6 : tie.Need-returns-6
-returns-6 c = alike _ _ (λ e. survey-whole (c .before .before .before .before .before .before .before .before .before .before .before .before .before .before .before .args .self) (c .before .before .before .before .before .before .before .before .before .before .before .before .before .before .before .args .code .now) (c .before .before .before .before .before .before .before .before .before .before .before .before .before .before .before .args .registers) (record { good = not-false _ (c .before .before .before .before .before .before .before .before .before .before .before .before .if1 .left); seen = c .before .before .before .before .before .before .before .before .before .before .if2 .left; table = c .before .before .before .before .before .before .before .before .before .if3 .left; root = sym (c .before .before .before .before .before .before .is-same .ensures) ∙ not-false _ (c .before .before .before .before .before .if4 .left); judged = sym (ap (λ (v : Verdict). v .good) (c .before .before .before .before .judged .ensures)) ∙ not-false _ (c .before .before .if5 .left); asked = sym (c .is-all-asked .ensures ∙ ap (λ (v : Verdict). allAsked 15 1 (c .before .before .before .before .before .before .before .before .before .before .before .before .before .before .before .args .self .starts) (v .asked)) (c .before .before .before .before .judged .ensures)) ∙ e })) (λ e. (c .is-all-asked .ensures ∙ ap (λ (v : Verdict). allAsked 15 1 (c .before .before .before .before .before .before .before .before .before .before .before .before .before .before .before .args .self .starts) (v .asked)) (c .before .before .before .before .judged .ensures)) ∙ survey-parts (c .before .before .before .before .before .before .before .before .before .before .before .before .before .before .before .args .self) (c .before .before .before .before .before .before .before .before .before .before .before .before .before .before .before .args .code .now) (c .before .before .before .before .before .before .before .before .before .before .before .before .before .before .before .args .registers) e .asked)
+returns-6 c = is-false _ (λ e. clash (sym (c .before .is-all-asked .ensures ∙ ap (λ (v : Verdict). allAsked 15 1 (c .before .before .before .before .before .before .before .before .before .before .before .before .before .before .before .before .args .self .starts) (v .asked)) (c .before .before .before .before .before .judged .ensures)) ∙ not-true _ (c .if6 .taken)) (survey-parts (c .before .before .before .before .before .before .before .before .before .before .before .before .before .before .before .before .args .self) (c .before .before .before .before .before .before .before .before .before .before .before .before .before .before .before .before .args .code .now) (c .before .before .before .before .before .before .before .before .before .before .before .before .before .before .before .before .args .registers) e .asked))
+
+is-all-met-requires : tie.Need-is-all-met-requires
+is-all-met-requires c κs = search needs
+
+returns-7 : tie.Need-returns-7
+returns-7 c = alike _ _ (λ e. survey-whole (c .before .before .before .before .before .before .before .before .before .before .before .before .before .before .before .before .before .before .before .args .self) (c .before .before .before .before .before .before .before .before .before .before .before .before .before .before .before .before .before .before .before .args .code .now) (c .before .before .before .before .before .before .before .before .before .before .before .before .before .before .before .before .before .before .before .args .registers) (record { good = not-false _ (c .before .before .before .before .before .before .before .before .before .before .before .before .before .before .before .before .if1 .left); seen = c .before .before .before .before .before .before .before .before .before .before .before .before .before .before .if2 .left; table = c .before .before .before .before .before .before .before .before .before .before .before .before .before .if3 .left; root = sym (c .before .before .before .before .before .before .before .before .before .before .is-same .ensures) ∙ not-false _ (c .before .before .before .before .before .before .before .before .before .if4 .left); judged = sym (ap (λ (v : Verdict). v .good) (c .before .before .before .before .before .before .before .before .judged .ensures)) ∙ not-false _ (c .before .before .before .before .before .before .if5 .left); asked = sym (c .before .before .before .before .is-all-asked .ensures ∙ ap (λ (v : Verdict). allAsked 15 1 (c .before .before .before .before .before .before .before .before .before .before .before .before .before .before .before .before .before .before .before .args .self .starts) (v .asked)) (c .before .before .before .before .before .before .before .before .judged .ensures)) ∙ not-false _ (c .before .before .before .if6 .left); met = sym (c .is-all-met .ensures ∙ ap (λ (v : Verdict). allMet 16 0 (c .before .before .before .before .before .before .before .before .before .before .before .before .before .before .before .before .before .before .before .args .self .needs) (v .commits)) (c .before .before .before .before .before .before .before .before .judged .ensures)) ∙ e })) (λ e. (c .is-all-met .ensures ∙ ap (λ (v : Verdict). allMet 16 0 (c .before .before .before .before .before .before .before .before .before .before .before .before .before .before .before .before .before .before .before .args .self .needs) (v .commits)) (c .before .before .before .before .before .before .before .before .judged .ensures)) ∙ survey-parts (c .before .before .before .before .before .before .before .before .before .before .before .before .before .before .before .before .before .before .before .args .self) (c .before .before .before .before .before .before .before .before .before .before .before .before .before .before .before .before .before .before .before .args .code .now) (c .before .before .before .before .before .before .before .before .before .before .before .before .before .before .before .before .before .before .before .args .registers) e .met)
 
 pub fits-spec : {M : Type 1} → statement M
 fits-spec =
@@ -56,4 +62,6 @@ fits-spec =
     judged-requires
     returns-5
     is-all-asked-requires
-    returns-6)
+    returns-6
+    is-all-met-requires
+    returns-7)

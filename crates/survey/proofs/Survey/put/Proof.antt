@@ -47,6 +47,12 @@ mul-self-7 c = search needs
 element-write-self-7 : tie.Need-element-write-self-7
 element-write-self-7 c = search needs
 
+mul-self-8 : tie.Need-mul-self-8
+mul-self-8 c = search needs
+
+element-write-self-8 : tie.Need-element-write-self-8
+element-write-self-8 c = search needs
+
 add-self : tie.Need-add-self
 add-self c = search needs
 
@@ -75,6 +81,8 @@ put-spec =
     element-write-self-6
     mul-self-7
     element-write-self-7
+    mul-self-8
+    element-write-self-8
     add-self
     add-self-2
     returns)

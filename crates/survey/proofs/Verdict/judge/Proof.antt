@@ -23,10 +23,13 @@ returns-3 : tie.Need-returns-3
 unfolding unfit
 returns-3 c = judge-differs (c .before .before .before .before .before .before .before .before .args .code .now) (c .before .before .before .before .before .before .before .before .args .starts .now) (c .before .before .before .before .before .before .before .before .args .ends .now) (c .before .before .before .before .before .before .before .before .args .row) (c .before .before .before .before .before .before .before .before .args .self) (not-false _ (c .before .before .before .before .before .if1 .left)) (c .before .before .before .if2 .left) (c .before .before .walk-to .result) (c .before .before .walk-to .ensures) (sym (c .before .is-agreeing .ensures) ∙ not-true _ (c .if3 .taken))
 
+saturating-add-requires : tie.Need-saturating-add-requires
+saturating-add-requires c κs = search needs
+
 returns-4 : tie.Need-returns-4
-returns-4 c = judge-agrees (c .before .before .before .before .before .before .before .before .args .code .now) (c .before .before .before .before .before .before .before .before .args .starts .now) (c .before .before .before .before .before .before .before .before .args .ends .now) (c .before .before .before .before .before .before .before .before .args .row) (c .before .before .before .before .before .before .before .before .args .self) (not-false _ (c .before .before .before .before .before .if1 .left)) (c .before .before .before .if2 .left) (c .before .before .walk-to .result) (c .before .before .walk-to .ensures) (sym (c .before .is-agreeing .ensures) ∙ not-false _ (c .if3 .left))
+returns-4 c = judge-agrees (c .before .before .before .before .before .before .before .before .before .args .code .now) (c .before .before .before .before .before .before .before .before .before .args .starts .now) (c .before .before .before .before .before .before .before .before .before .args .ends .now) (c .before .before .before .before .before .before .before .before .before .args .row) (c .before .before .before .before .before .before .before .before .before .args .self) (not-false _ (c .before .before .before .before .before .before .if1 .left)) (c .before .before .before .before .if2 .left) (c .before .before .before .walk-to .result) (c .before .before .before .walk-to .ensures) (sym (c .before .before .is-agreeing .ensures) ∙ not-false _ (c .before .if3 .left)) (c .saturating-add .result) (c .saturating-add .ensures)
 
 pub judge-spec : {M : Type 1} → statement M
 judge-spec =
     tie.close
-    (tie.spec returns returns-2 walk-to-requires is-agreeing-requires returns-3 returns-4)
+    (tie.spec returns returns-2 walk-to-requires is-agreeing-requires returns-3 saturating-add-requires returns-4)

@@ -5,12 +5,12 @@ use borrow.Author.Needs.{needs}
 use Rattle.survey.proofs.Walk.note.Statement.{statement}
 use Rattle.survey.proofs.Walk.note.Tie as tie
 
-add-t4 : tie.Need-add-t4
-add-t4 c = search needs
+add-t5 : tie.Need-add-t5
+add-t5 c = search needs
 
 returns : tie.Need-returns
 unfolding noteTo
 returns c = refl
 
 pub note-spec : {M : Type 1} → statement M
-note-spec = tie.close (tie.spec add-t4 returns)
+note-spec = tie.close (tie.spec add-t5 returns)

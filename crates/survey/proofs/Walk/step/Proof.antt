@@ -38,6 +38,9 @@ note-requires c κs = search needs
 enum-told-6 : tie.Need-enum-told-6
 enum-told-6 c = search needs
 
+add-commits : tie.Need-add-commits
+add-commits c = search needs
+
 note-requires-2 : tie.Need-note-requires-2
 note-requires-2 c κs = search needs
 
@@ -69,7 +72,7 @@ returns-5 : tie.Need-returns-5
 returns-5 c = c .note .ensures ∙ a-begin (c .before .before .before .args .starts .now) (c .before .before .before .args .ends .now) (c .before .before .before .args .target) (c .before .before .before .args .self) (c .before .before .before .args .op) (c .before .enum-told5 .given .1)
 
 returns-6 : tie.Need-returns-6
-returns-6 c = c .note2 .ensures ∙ a-commit (c .before .before .before .args .starts .now) (c .before .before .before .args .ends .now) (c .before .before .before .args .target) (c .before .before .before .args .self) (c .before .before .before .args .op) (c .before .enum-told6 .given .1)
+returns-6 c = c .note2 .ensures ∙ a-commit (c .before .before .before .before .args .starts .now) (c .before .before .before .before .args .ends .now) (c .before .before .before .before .args .target) (c .before .before .before .before .args .self) (c .before .before .before .before .args .op) (c .before .before .enum-told6 .given .1)
 
 returns-7 : tie.Need-returns-7
 returns-7 c = c .fork .ensures ∙ a-fork (c .before .before .before .before .args .starts .now) (c .before .before .before .before .args .ends .now) (c .before .before .before .before .args .target) (c .before .before .before .before .args .self) (c .before .before .before .before .args .op) _ (c .before .before .op .given .1)
@@ -92,6 +95,7 @@ step-spec =
     enum-told-5
     note-requires
     enum-told-6
+    add-commits
     note-requires-2
     enum-known-op
     fork-requires

@@ -3,6 +3,7 @@ use native.Mathlib.Omega.{arith}
 use mir.Facts.{toZ-ofZ}
 use borrow.Author.Needs.{sfits-of}
 use Rattle.thread.specs.InnerStep.{performed}
+use Rattle.thread.specs.Threads.{push}
 use Rattle.thread.proofs.Attempts.{push-due, add-due, read-due, write-due, begin-due, commit-due, fork-due}
 use borrow.Author.Needs.{needs}
 use Rattle.thread.proofs.Thread.act.Statement.{statement}
@@ -129,7 +130,7 @@ unfolding performed
 returns-6 c = c .before .commit .ensures ∙ rw (c .before .before .before .enum-told3 .given .1)
 
 returns-7 : tie.Need-returns-7
-unfolding performed
+unfolding performed push
 returns-7 c = rw (c .push2 .ensures, c .before .before .op4 .given .1)
 
 returns-8 : tie.Need-returns-8

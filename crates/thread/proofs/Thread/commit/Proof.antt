@@ -9,11 +9,19 @@ first-stale-requires c κs = search needs
 closed-requires : tie.Need-closed-requires
 closed-requires c κs = search needs
 
+add-t : tie.Need-add-t
+add-t c = search needs
+
+saturating-add-requires : tie.Need-saturating-add-requires
+saturating-add-requires c κs = search needs
+
 same-length : tie.Need-same-length
 same-length c = search needs
 
 returns : tie.Need-returns
-returns c = commit-back _ _ _ (c .before .before .first-stale .ensures) (c .before .if1 .taken) _ (c .closed .ensures)
+returns c =
+    let e = c .before .before in
+    commit-back _ _ _ (e .before .first-stale .ensures) (e .if1 .taken) _ (c .before .closed .ensures) _ (c .saturating-add .ensures)
 
 store-requires : tie.Need-store-requires
 store-requires c κs = search needs
@@ -24,13 +32,16 @@ add-closed c = search needs
 closed-requires-2 : tie.Need-closed-requires-2
 closed-requires-2 c κs = search needs
 
+did-requires : tie.Need-did-requires
+did-requires c κs = search needs
+
 same-length-2 : tie.Need-same-length-2
 same-length-2 c = search needs
 
 returns-2 : tie.Need-returns-2
 returns-2 c =
-    let e = c .before .before .before .before .before .before .before in
-    commit-done _ _ _ (e .before .first-stale .ensures) (e .if1 .left) _ (c .closed2 .ensures) _ (c .before .before .before .store .ensures)
+    let e = c .before .before .before .before .before .before .before .before in
+    rw (c .did .ensures) (commit-done _ _ _ (e .before .first-stale .ensures) (e .if1 .left) _ (c .before .closed2 .ensures) _ (c .before .before .before .before .store .ensures))
 
 pub commit-spec : {M : Type 1} → statement M
 commit-spec =
@@ -38,10 +49,13 @@ commit-spec =
     (tie.spec
     first-stale-requires
     closed-requires
+    add-t
+    saturating-add-requires
     same-length
     returns
     store-requires
     add-closed
     closed-requires-2
+    did-requires
     same-length-2
     returns-2)
