@@ -3,3 +3,4 @@ pub mod Cases
 pub mod Forecasts
 pub mod Overflows
 pub mod LongTransactions
+pub mod Rules
