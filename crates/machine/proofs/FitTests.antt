@@ -551,7 +551,7 @@ tallied-is n table t y = le-leb (needs table t) n (go (ltb (firstStale 64 0 t ta
         below (yes l) = l
         below (no m) =
             let s = found-stale t table (ltb-true (firstStale 64 0 t table) 64 x) in
-            never (sym (s .its) ∙ y .not-stale (let a = y .not-above in let z : t .backs ≡ n = omega arith in z) (firstStale 64 0 t table))
+            never (sym (s .its) ∙ y .not-stale (let a = y .not-above in omega arith) (firstStale 64 0 t table))
 
 all-tallied : (n : ℕ) (table : List ℤ) (ts : List Thread) → allTallied n table ts ≡ true → (i : ℕ) → BacksWithin n table (at ts i)
 unfolding allTallied

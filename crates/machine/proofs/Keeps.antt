@@ -457,7 +457,7 @@ module _ (table table′ : List ℤ) (n : ℕ) where
   same-tally : (e : table′ ≡ table) (t : Thread) → BacksWithin n table t → BacksWithin (0 + n) table′ t
   same-tally e t y =
       subst (λ (x : List ℤ). BacksWithin (0 + n) x t) (sym e)
-      (record { not-above = let a = y .not-above in omega arith; not-stale = λ q. y .not-stale (let z : t .backs ≡ n = omega arith in z) })
+      (record { not-above = let a = y .not-above in omega arith; not-stale = λ q. y .not-stale (omega arith) })
 
   more-tally : (t : Thread) → BacksWithin n table t → BacksWithin (1 + n) table′ t
   more-tally t y = let a = y .not-above in record { not-above = omega arith; not-stale = λ q. absurd (omega arith) }
@@ -482,7 +482,7 @@ module _ (table table′ : List ℤ) (n : ℕ) where
         subst (λ (x : List ℤ). BacksWithin (0 + n) x (withRule rule (u .backs) u)) (sym e)
         (record {
           not-above = let a = y .not-above in omega arith;
-          not-stale = λ q v. stale-by u (withRule rule (u .backs) u) table refl refl v (calm v (y .not-stale (let z : t .backs ≡ n = omega arith in z) v));
+          not-stale = λ q v. stale-by u (withRule rule (u .backs) u) table refl refl v (calm v (y .not-stale (omega arith) v));
         })
 
     back-tally : table′ ≡ table → WasStale t u table → (rule : ℕ) → BacksWithin (0 + n) table′ (withRule rule (suc (u .backs)) u)
@@ -498,7 +498,7 @@ module _ (table table′ : List ℤ) (n : ℕ) where
           where
             go : Dec (t .backs < n) → t .backs < n
             go (yes l) = l
-            go (no m) = never (w .was) (y .not-stale (let a = y .not-above in let z : t .backs ≡ n = omega arith in z) (w .register))
+            go (no m) = never (w .was) (y .not-stale (let a = y .not-above in omega arith) (w .register))
 
         low : suc (u .backs) ≤ 0 + n
         low = let l = below in omega arith

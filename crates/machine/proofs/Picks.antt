@@ -10,8 +10,8 @@ use lib.Dec.{eqb, ltb}
 use lib.IntN.{ℤ}
 use lib.ListN.{length, drop}
 use Rattle.thread.specs.declared.Thread.{Thread}
-use Rattle.thread.specs.Threads.{exists, firstStale}
-use Rattle.machine.specs.Steps.{State, Acted, committing, commit, act, perform, Stepped, numberOf, threadAt, settle, doing, pickAmong, pick, Ran, run}
+use Rattle.thread.specs.Threads.{exists}
+use Rattle.machine.specs.Steps.{State, Acted, committing, commit, act, perform, ruled, Stepped, numberOf, threadAt, settle, doing, pickAmong, pick, Ran, run}
 use Rattle.stm.specs.Events.{idle, isIdle, isCommit, Counts, more, tally, countsOf}
 use Rattle.code.specs.Ops.{Op, opAt}
 use Rattle.code.specs.Ops as code
@@ -37,6 +37,9 @@ commit-lawful table t v = go (ltb v 64)
     go true = record { busy = refl; table = λ e. refl }
     go false = record { busy = refl; table = never′ }
 
+ruled-lawful : {table : List ℤ} {a : Acted} → ActLawful table a → ActLawful table (ruled a)
+ruled-lawful l = record { busy = l .busy; table = l .table }
+
 act-lawful : (sum : Rule) (table : List ℤ) (t : Thread) (op : Op) → ActLawful table (act sum table t op)
 unfolding act perform
 act-lawful sum table t (code.push n) = record { busy = refl; table = λ e. refl }
@@ -44,7 +47,7 @@ act-lawful sum table t code.add = record { busy = refl; table = λ e. refl }
 act-lawful sum table t (code.read v) = record { busy = refl; table = λ e. refl }
 act-lawful sum table t (code.write v) = record { busy = refl; table = λ e. refl }
 act-lawful sum table t code.begin = record { busy = refl; table = λ e. refl }
-act-lawful sum table t code.commit = let l = commit-lawful table t (firstStale 64 0 t table) in record { busy = l .busy; table = l .table }
+act-lawful sum table t code.commit = ruled-lawful (commit-lawful table t _)
 act-lawful sum table t (code.fork size) = record { busy = refl; table = λ e. refl }
 
 pub never-idle : (sum : Rule) (table : List ℤ) (t : Thread) (op : Op) → isIdle (act sum table t op .event) ≡ false
