@@ -213,6 +213,29 @@ pub fn chain(rng: &mut Rng, depth: usize, mut forks: usize) -> Process {
     tree
 }
 
+/// A tree of exactly this depth and so many nodes: one long branch of which the upper part has trees beside it. Its
+/// transactions have at most so many nodes, those of the long branch fewer than 2 * depth.
+pub fn deep(rng: &mut Rng, nodes: usize, depth: usize, mut forks: usize, transaction: usize) -> Process {
+    let levels = rng.between(1, depth / 3);
+    let mut tree = chain(rng, depth - levels, forks / 2);
+    forks -= tree.forks();
+    let mut rest = nodes - tree.nodes();
+    for level in (1..=levels).rev() {
+        // this sum and the tree beside the branch; two nodes for each sum above it
+        let own = if level == 1 { rest } else { rng.between(2, rest - 2 * (level - 1)) };
+        let lean = rng.choose(&[Lean::Even, Lean::Left, Lean::Right, Lean::Any]);
+        let shape = Shape { nodes: own - 1, room: depth - level, forks, transaction, registers: 3, lean };
+        let beside = shape.tree(rng);
+        forks -= beside.forks();
+        rest -= own;
+        tree = match rng.one_in(2) {
+            true => Process::Add(Box::new(tree), Box::new(beside)),
+            false => Process::Add(Box::new(beside), Box::new(tree)),
+        };
+    }
+    tree
+}
+
 /// Threads that each do many small transactions on the same registers: exactly so many nodes, at least 7 for each thread.
 pub fn many_small(nodes: usize, threads: usize) -> Process {
     let each = nodes / threads;

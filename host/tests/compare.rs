@@ -5,7 +5,7 @@
 
 use kuspigo::ffi::{ForecastReply, FreshReply, RunReply, StepReply, Written};
 use kuspigo::plain::{self, by_value, tree};
-use kuspigo::samples::{chain, far, many_small, sum, Lean, Rng, Shape};
+use kuspigo::samples::{chain, deep, far, many_small, sum, Lean, Rng, Shape};
 use kuspigo::{raw, Counts, Event, Forecast, Refusal, RegisterSet, Rule, Step, Thread};
 use std::collections::BTreeMap;
 use std::fmt::{Debug, Write};
@@ -21,31 +21,25 @@ const SHOWN: u64 = 5;
 /// Codes that are refused for a transaction alone.
 const LONG_CODE: &str = "refused 11: a long transaction";
 
+/// What the job reader answers.
+const JOB_READER: [usize; 11] = [0, 1, 2, 3, 4, 5, 6, 7, 8, 9, 14];
+
 struct Call {
     name: &'static str,
     /// One case: what differs, if anything does.
     case: fn(&mut Rng, &mut Tally) -> Result<(), String>,
-    /// What has to come, as [`Tally`] names it.
+    /// The numbers that have to come, 0 being no refusal, and what else has to, as [`Tally`] names it.
+    answers: &'static [usize],
     reaches: &'static [&'static str],
 }
 
-const CALLS: [Call; 9] = [
+const CALLS: [Call; 10] = [
     Call {
         name: "compile",
         case: compile,
+        answers: &JOB_READER,
         reaches: &[
-            "accepted",
-            "refused 01",
-            "refused 02",
-            "refused 03",
-            "refused 04",
-            "refused 05",
-            "refused 06",
-            "refused 07",
-            "refused 08",
-            "refused 09",
             "refused 10",
-            "refused 14",
             "taken: 1,000 nodes",
             "taken: depth 64",
             "taken: 15 FORKs",
@@ -57,20 +51,20 @@ const CALLS: [Call; 9] = [
     Call {
         name: "read_back",
         case: read_back,
-        reaches: &["accepted", "refused 10", "refused 11", "taken: 200 nodes in a transaction", LONG_CODE],
+        answers: &[0, 10, 11],
+        reaches: &["taken: 200 nodes in a transaction", LONG_CODE],
     },
     Call {
         name: "fresh",
         case: fresh,
-        reaches: &["accepted", "refused 11", "refused 12", "taken: 200 nodes in a transaction", LONG_CODE],
+        answers: &[0, 11, 12],
+        reaches: &["taken: 200 nodes in a transaction", LONG_CODE],
     },
     Call {
         name: "step",
         case: step,
+        answers: &[0, 11, 12],
         reaches: &[
-            "accepted",
-            "refused 11",
-            "refused 12",
             "event Idle",
             "event Push",
             "event Sum",
@@ -107,11 +101,8 @@ const CALLS: [Call; 9] = [
     Call {
         name: "run",
         case: run,
+        answers: &[0, 11, 12, 13],
         reaches: &[
-            "accepted",
-            "refused 11",
-            "refused 12",
-            "refused 13",
             "picks: idle",
             "picks: steps",
             "picks: commits",
@@ -142,9 +133,8 @@ const CALLS: [Call; 9] = [
     Call {
         name: "report",
         case: report,
+        answers: &[0, 10],
         reaches: &[
-            "accepted",
-            "refused 10",
             "prints a listing",
             "prints a thread done",
             "prints a thread open",
@@ -167,18 +157,8 @@ const CALLS: [Call; 9] = [
     Call {
         name: "forecast",
         case: forecast,
+        answers: &JOB_READER,
         reaches: &[
-            "accepted",
-            "refused 01",
-            "refused 02",
-            "refused 03",
-            "refused 04",
-            "refused 05",
-            "refused 06",
-            "refused 07",
-            "refused 08",
-            "refused 09",
-            "refused 14",
             "told: 1,000 nodes",
             "told: 3,007 bytes",
             "told: 16 threads",
@@ -194,6 +174,7 @@ const CALLS: [Call; 9] = [
     Call {
         name: "finished",
         case: finished,
+        answers: &[],
         reaches: &[
             "job any",
             "job at a limit",
@@ -219,6 +200,7 @@ const CALLS: [Call; 9] = [
     Call {
         name: "recounted",
         case: recounted,
+        answers: &[],
         reaches: &[
             "calls: a step",
             "calls: a run",
@@ -245,6 +227,12 @@ const CALLS: [Call; 9] = [
             "last rule: commit",
             "last rule: sent back",
         ],
+    },
+    Call {
+        name: "deepest",
+        case: deepest,
+        answers: &JOB_READER,
+        reaches: &["taken: 15 FORKs", "taken: 200 nodes in a transaction", "refused: damaged, in the second half"],
     },
 ];
 
@@ -273,10 +261,7 @@ impl Tally {
     }
 
     fn refusal(&mut self, number: usize) {
-        match number {
-            0 => self.add("accepted", 1),
-            _ => self.add(&format!("refused {number:02}"), 1),
-        }
+        self.add(&answer_name(number), 1);
     }
 
     /// What became of a code, `long` being one made with a transaction that is too long.
@@ -381,7 +366,12 @@ fn main() {
         for (what, count) in &tally.0 {
             println!("    {what:<42} {count:>10}");
         }
-        for what in call.reaches.iter().filter(|&&what| cases >= ENOUGH && tally.of(what) == 0) {
+        let reaches = call
+            .answers
+            .iter()
+            .map(|&number| answer_name(number))
+            .chain(call.reaches.iter().map(|what| what.to_string()));
+        for what in reaches.filter(|what| cases >= ENOUGH && tally.of(what) == 0) {
             println!("    NOT REACHED: {what}");
             missing += 1;
         }
@@ -390,6 +380,13 @@ fn main() {
     println!("{differences} differences, {missing} not reached\n");
     if differences + missing > 0 {
         std::process::exit(1);
+    }
+}
+
+fn answer_name(number: usize) -> String {
+    match number {
+        0 => "accepted".to_string(),
+        _ => format!("refused {number:02}"),
     }
 }
 
@@ -406,15 +403,7 @@ type Writes<'a> = (&'a str, &'a dyn Fn(&[u8], &mut [u8]) -> Written);
 
 fn compile(rng: &mut Rng, tally: &mut Tally) -> Result<(), String> {
     let job = any_job(rng);
-    let answer = outputs(
-        rng,
-        &job,
-        &[
-            ("plain", &|job, out| written(plain::compile(job, out))),
-            ("plain by a tree", &|job, out| written(tree::compile(job, out))),
-            ("library", &|job, out| raw::compile(job, out)),
-        ],
-    )?;
+    let answer = compiled(rng, &job)?;
     tally.refusal(answer.refusal);
     if answer.refusal == 0 {
         let tree = Process::read(&job).map_err(|_| "a job that only some accept")?;
@@ -431,6 +420,18 @@ fn compile(rng: &mut Rng, tally: &mut Tally) -> Result<(), String> {
         }
     }
     Ok(())
+}
+
+fn compiled(rng: &mut Rng, job: &[u8]) -> Result<Written, String> {
+    outputs(
+        rng,
+        job,
+        &[
+            ("plain", &|job, out| written(plain::compile(job, out))),
+            ("plain by a tree", &|job, out| written(tree::compile(job, out))),
+            ("library", &|job, out| raw::compile(job, out)),
+        ],
+    )
 }
 
 /// The most nodes of a transaction of a tree's code, ATOMIC not counted; 0 if there is none.
@@ -546,17 +547,7 @@ fn forecast(rng: &mut Rng, tally: &mut Tally) -> Result<(), String> {
         1 => many_small(rng.between(200, 1_000), rng.between(2, 16)).job(),
         _ => any_job(rng),
     };
-    // the job starts at any alignment
-    let from = rng.below(9);
-    let memory = [bytes(rng, from), job, bytes(rng, 9)].concat();
-    let job = &memory[from..memory.len() - 9];
-    let answer = raw::forecast(job);
-    for (name, expected) in [("plain", plain::forecast(job)), ("plain by a tree", tree::forecast(job))] {
-        let expected = forecast_reply(expected);
-        if expected != answer {
-            return Err(format!("job {}\n{name}: {expected:?}\nlibrary: {answer:?}", hex(job)));
-        }
-    }
+    let answer = told(rng, &job)?;
     tally.refusal(answer.refusal);
     if answer.refusal == 0 {
         for (what, met) in [
@@ -573,6 +564,52 @@ fn forecast(rng: &mut Rng, tally: &mut Tally) -> Result<(), String> {
         ] {
             tally.add_if(met, what);
         }
+    }
+    Ok(())
+}
+
+fn told(rng: &mut Rng, job: &[u8]) -> Result<ForecastReply, String> {
+    // the job starts at any alignment
+    let from = rng.below(9);
+    let memory = [&bytes(rng, from), job, &bytes(rng, 9)].concat();
+    let job = &memory[from..memory.len() - 9];
+    let answer = raw::forecast(job);
+    for (name, expected) in [("plain", plain::forecast(job)), ("plain by a tree", tree::forecast(job))] {
+        let expected = forecast_reply(expected);
+        if expected != answer {
+            return Err(format!("job {}\n{name}: {expected:?}\nlibrary: {answer:?}", hex(job)));
+        }
+    }
+    Ok(answer)
+}
+
+/// The calls that read a job, on 1,000 nodes at depth 64: whole, one level deeper, with too many FORKs, with a long
+/// transaction, or damaged.
+fn deepest(rng: &mut Rng, tally: &mut Tally) -> Result<(), String> {
+    let depth = rng.choose(&[64, 64, 64, 64, 64, 64, 64, 65]);
+    let forks = rng.choose(&[0, 4, 15, 15, 40]);
+    let transaction = rng.choose(&[12, 200, 200, 400]);
+    let tree = deep(rng, 1_000, depth, forks, transaction);
+    if (tree.nodes(), tree.depth()) != (1_000, depth) {
+        return Err(format!("a tree of {} nodes at depth {}", tree.nodes(), tree.depth()));
+    }
+    let mut job = tree.job();
+    let whole = rng.one_in(2);
+    if !whole {
+        damage_somehow(rng, &mut job);
+    }
+    let answer = told(rng, &job)?;
+    let written = compiled(rng, &job)?;
+    let read = if written.refusal == 10 { (0, 0) } else { (written.refusal, written.place) };
+    if read != (answer.refusal, answer.place) {
+        return Err(format!("job {}\nforecast: {answer:?}\ncompile: {written:?}", hex(&job)));
+    }
+    tally.refusal(answer.refusal);
+    if answer.refusal == 0 {
+        tally.add_if(answer.threads == 16, "taken: 15 FORKs");
+        tally.add_if(answer.longest == 202, "taken: 200 nodes in a transaction");
+    } else {
+        tally.add_if(!whole && answer.place * 2 > job.len(), "refused: damaged, in the second half");
     }
     Ok(())
 }
@@ -1448,21 +1485,25 @@ fn any_job(rng: &mut Rng) -> Vec<u8> {
     if rng.one_in(3) {
         return job;
     }
+    damage_somehow(rng, &mut job);
+    job
+}
+
+/// Damages a job, and perhaps once more where it is refused, so that two reasons meet.
+fn damage_somehow(rng: &mut Rng, job: &mut Vec<u8>) {
     for _ in 0..rng.choose(&[1, 1, 1, 2, 3]) {
-        damage(rng, &mut job, 5);
+        damage(rng, job, 5);
     }
-    // once more where it is refused, so that two reasons meet
     if rng.one_in(3) {
-        if let Err(refusal) = plain::compile(&job, &mut [0; 3_100]) {
+        if let Err(refusal) = plain::compile(job, &mut [0; 3_100]) {
             match rng.below(4) {
                 0 => job.truncate(refusal.place + rng.below(6)),
                 1 if refusal.place < job.len() => job[refusal.place] = rng.below(10) as u8,
-                2 if job.len() > 6 => set_count(rng, &mut job),
-                _ => damage(rng, &mut job, 5),
+                2 if job.len() > 6 => set_count(rng, job),
+                _ => damage(rng, job, 5),
             }
         }
     }
-    job
 }
 
 /// A good head, then kinds that are mostly permitted, each with its operand.
