@@ -4,7 +4,7 @@ use mathlib.Core.Path.{_≡_}
 use mathlib.Core.List.{List, [], _∷_, _++_}
 use lib.IntN.{pos}
 use lib.ListN.{replicate}
-use Rattle.cases.specs.Cases.{header, accepted, seven, wholeJob}
+use Rattle.cases.specs.Inputs.{header, accepted, seven, wholeJob}
 use Rattle.forecast.specs.Figures.{forecastOf}
 use Rattle.forecast.specs.declared.ForecastReply.{ForecastReply}
 use Rattle.machine.specs.Steps.{Child}

@@ -1,4 +1,5 @@
 -- The worked cases of document 01: "Slides for the bench", its figures, and a state that fits or does not for each sentence on fitting; those of the forecast, of sums that leave the range, of long transactions, and of the rules that move threads.
+pub mod Inputs
 pub mod Cases
 pub mod Forecasts
 pub mod Overflows

@@ -3,7 +3,7 @@ use Prim.Native.Nat.{ℕ, zero, suc}
 use mathlib.Core.Path.{_≡_}
 use mathlib.Core.List.{List, [], _∷_, _++_}
 use lib.IntN.{pos}
-use Rattle.cases.specs.Cases.{accepted, codeFor}
+use Rattle.cases.specs.Inputs.{accepted, codeFor}
 use Rattle.cases.specs.Forecasts.{one, nothingBut}
 use Rattle.code.specs.Reader.{readCode}
 use Rattle.compiler.specs.CompileTo.{compileTo}

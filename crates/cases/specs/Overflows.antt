@@ -4,7 +4,7 @@ use mathlib.Core.Bool.{true, false}
 use mathlib.Core.Path.{_≡_}
 use mathlib.Core.List.{List, [], _∷_, _++_}
 use lib.IntN.{ℤ, pos, negsuc}
-use Rattle.cases.specs.Cases.{told, header, codeFor, lowTree, lowCode, wholeCode, times, ran, putAt, changed, bothForked}
+use Rattle.cases.specs.Inputs.{told, header, codeFor, lowTree, lowCode, wholeCode, times, ran, putAt, changed, bothForked}
 use Rattle.guarantee.specs.Histories.{Ended}
 use Rattle.listing.specs.Listed.{ascii, listed}
 use Rattle.machine.specs.Answers.{stepSays, runSays, stepCall, runCall}

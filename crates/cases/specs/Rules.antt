@@ -6,7 +6,7 @@ use mathlib.Core.List.{List, [], _∷_, _++_}
 use mathlib.Core.Option.{Option, none, some}
 use lib.IntN.{ℤ, pos}
 use lib.ListN.{replicate}
-use Rattle.cases.specs.Cases.{codeFor, sevenCode, lookCode, wholeCode, wholePicks, staleThere, times, ran, front, putAt, changed, withRegisters, bothForked, behindRead, behindCommit, wholeEnd}
+use Rattle.cases.specs.Inputs.{codeFor, sevenCode, lookCode, wholeCode, wholePicks, staleThere, times, ran, front, putAt, changed, withRegisters, bothForked, behindRead, behindCommit, wholeEnd}
 use Rattle.machine.specs.Answers.{ruleNamed, stepSays, stepCall, runCall, backsOf}
 use Rattle.machine.specs.FitTest.{fits}
 use Rattle.machine.specs.Steps.{State, threadAt, fresh}
