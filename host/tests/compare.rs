@@ -22,119 +22,128 @@ const SHOWN: u64 = 5;
 const LONG_CODE: &str = "refused 11: a long transaction";
 
 /// What the job reader answers.
-const JOB_READER: [usize; 11] = [0, 1, 2, 3, 4, 5, 6, 7, 8, 9, 14];
+const JOB_READER: [&str; 11] = [
+    "accepted",
+    "refused 01",
+    "refused 02",
+    "refused 03",
+    "refused 04",
+    "refused 05",
+    "refused 06",
+    "refused 07",
+    "refused 08",
+    "refused 09",
+    "refused 14",
+];
+/// What steps and runs come across.
+const ON_A_STATE: [&str; 17] = [
+    "over: outside",
+    "over: noted",
+    "over: a lent note counted",
+    "over: a lent note sent back",
+    "state with another note: fits",
+    "state with a note too high: 12",
+    "state and code of a long transaction: 11",
+    "state with other rules and send-backs: fits",
+    "state with too many send-backs: 12",
+    "state with a stale read too many: 12",
+    "state with a stale read, no COMMIT passed: 12",
+    "state with a rule of no thread: 12",
+    "rule: left by an idle pick",
+    "rule: one without a name replaced",
+    "rule: the lowest of several stale registers",
+    "backs: a lent number goes on",
+    "backs: a lent number kept by a commit",
+];
 
 struct Call {
     name: &'static str,
     /// One case: what differs, if anything does.
     case: fn(&mut Rng, &mut Tally) -> Result<(), String>,
-    /// The numbers that have to come, 0 being no refusal, and what else has to, as [`Tally`] names it.
-    answers: &'static [usize],
-    reaches: &'static [&'static str],
+    /// What has to come, as [`Tally`] names it, in lists.
+    reaches: &'static [&'static [&'static str]],
 }
 
 const CALLS: [Call; 10] = [
     Call {
         name: "compile",
         case: compile,
-        answers: &JOB_READER,
         reaches: &[
-            "refused 10",
-            "taken: 1,000 nodes",
-            "taken: depth 64",
-            "taken: 15 FORKs",
-            "taken: register 63",
-            "taken: 3,007 bytes",
-            "taken: 200 nodes in a transaction",
+            &JOB_READER,
+            &[
+                "refused 10",
+                "taken: 1,000 nodes",
+                "taken: depth 64",
+                "taken: 15 FORKs",
+                "taken: register 63",
+                "taken: 3,007 bytes",
+                "taken: 200 nodes in a transaction",
+            ],
         ],
     },
     Call {
         name: "read_back",
         case: read_back,
-        answers: &[0, 10, 11],
-        reaches: &["taken: 200 nodes in a transaction", LONG_CODE],
+        reaches: &[&["accepted", "refused 10", "refused 11", "taken: 200 nodes in a transaction", LONG_CODE]],
     },
     Call {
         name: "fresh",
         case: fresh,
-        answers: &[0, 11, 12],
-        reaches: &["taken: 200 nodes in a transaction", LONG_CODE],
+        reaches: &[&["accepted", "refused 11", "refused 12", "taken: 200 nodes in a transaction", LONG_CODE]],
     },
     Call {
         name: "step",
         case: step,
-        answers: &[0, 11, 12],
         reaches: &[
-            "event Idle",
-            "event Push",
-            "event Sum",
-            "event Fork",
-            "event Begin",
-            "event ReadWriteLog",
-            "event ReadReadLog",
-            "event ReadTable",
-            "event Write",
-            "event Commit",
-            "event SentBack",
-            "turn of Sum",
-            "turn of Fork",
-            "turn of Commit",
-            "over: outside",
-            "over: noted",
-            "over: a lent note counted",
-            "over: a lent note sent back",
-            "state with another note: fits",
-            "state with a note too high: 12",
-            "state and code of a long transaction: 11",
-            "state with other rules and send-backs: fits",
-            "state with too many send-backs: 12",
-            "state with a stale read too many: 12",
-            "state with a stale read, no COMMIT passed: 12",
-            "state with a rule of no thread: 12",
-            "rule: left by an idle pick",
-            "rule: one without a name replaced",
-            "rule: the lowest of several stale registers",
-            "backs: a lent number goes on",
-            "backs: a lent number kept by a commit",
+            &[
+                "accepted",
+                "refused 11",
+                "refused 12",
+                "event Idle",
+                "event Push",
+                "event Sum",
+                "event Fork",
+                "event Begin",
+                "event ReadWriteLog",
+                "event ReadReadLog",
+                "event ReadTable",
+                "event Write",
+                "event Commit",
+                "event SentBack",
+                "turn of Sum",
+                "turn of Fork",
+                "turn of Commit",
+            ],
+            &ON_A_STATE,
         ],
     },
     Call {
         name: "run",
         case: run,
-        answers: &[0, 11, 12, 13],
         reaches: &[
-            "picks: idle",
-            "picks: steps",
-            "picks: commits",
-            "picks: back",
-            "picks: over",
-            "lists of 32,768",
-            "over: outside",
-            "over: noted",
-            "over: counted",
-            "over: sent back",
-            "over: a lent note counted",
-            "over: a lent note sent back",
-            "state with another note: fits",
-            "state with a note too high: 12",
-            "state and code of a long transaction: 11",
-            "state with other rules and send-backs: fits",
-            "state with too many send-backs: 12",
-            "state with a stale read too many: 12",
-            "state with a stale read, no COMMIT passed: 12",
-            "state with a rule of no thread: 12",
-            "rule: left by an idle pick",
-            "rule: one without a name replaced",
-            "rule: the lowest of several stale registers",
-            "backs: a lent number goes on",
-            "backs: a lent number kept by a commit",
+            &[
+                "accepted",
+                "refused 11",
+                "refused 12",
+                "refused 13",
+                "picks: idle",
+                "picks: steps",
+                "picks: commits",
+                "picks: back",
+                "picks: over",
+                "lists of 32,768",
+                "over: counted",
+                "over: sent back",
+            ],
+            &ON_A_STATE,
         ],
     },
     Call {
         name: "report",
         case: report,
-        answers: &[0, 10],
-        reaches: &[
+        reaches: &[&[
+            "accepted",
+            "refused 10",
             "prints a listing",
             "prints a thread done",
             "prints a thread open",
@@ -152,30 +161,31 @@ const CALLS: [Call; 10] = [
             "prints refused 09",
             "prints refused 13",
             "prints refused 14",
-        ],
+        ]],
     },
     Call {
         name: "forecast",
         case: forecast,
-        answers: &JOB_READER,
         reaches: &[
-            "told: 1,000 nodes",
-            "told: 3,007 bytes",
-            "told: 16 threads",
-            "told: height 64",
-            "told: height above 60 of a child",
-            "told: no transaction",
-            "told: READ of register 63",
-            "told: WRITE of register 63",
-            "told: bound above 10,000",
-            "told: 200 nodes in a transaction",
+            &JOB_READER,
+            &[
+                "told: 1,000 nodes",
+                "told: 3,007 bytes",
+                "told: 16 threads",
+                "told: height 64",
+                "told: height above 60 of a child",
+                "told: no transaction",
+                "told: READ of register 63",
+                "told: WRITE of register 63",
+                "told: bound above 10,000",
+                "told: 200 nodes in a transaction",
+            ],
         ],
     },
     Call {
         name: "finished",
         case: finished,
-        answers: &[],
-        reaches: &[
+        reaches: &[&[
             "job any",
             "job at a limit",
             "job contested",
@@ -195,13 +205,12 @@ const CALLS: [Call; 10] = [
             "runs: over outside",
             "runs: over, took effect",
             "runs: over, sent back",
-        ],
+        ]],
     },
     Call {
         name: "recounted",
         case: recounted,
-        answers: &[],
-        reaches: &[
+        reaches: &[&[
             "calls: a step",
             "calls: a run",
             "calls: a run without picks",
@@ -226,13 +235,15 @@ const CALLS: [Call; 10] = [
             "last rule: write",
             "last rule: commit",
             "last rule: sent back",
-        ],
+        ]],
     },
     Call {
         name: "deepest",
         case: deepest,
-        answers: &JOB_READER,
-        reaches: &["taken: 15 FORKs", "taken: 200 nodes in a transaction", "refused: damaged, in the second half"],
+        reaches: &[
+            &JOB_READER,
+            &["taken: 15 FORKs", "taken: 200 nodes in a transaction", "refused: damaged, in the second half"],
+        ],
     },
 ];
 
@@ -261,7 +272,10 @@ impl Tally {
     }
 
     fn refusal(&mut self, number: usize) {
-        self.add(&answer_name(number), 1);
+        match number {
+            0 => self.add("accepted", 1),
+            _ => self.add(&format!("refused {number:02}"), 1),
+        }
     }
 
     /// What became of a code, `long` being one made with a transaction that is too long.
@@ -366,12 +380,7 @@ fn main() {
         for (what, count) in &tally.0 {
             println!("    {what:<42} {count:>10}");
         }
-        let reaches = call
-            .answers
-            .iter()
-            .map(|&number| answer_name(number))
-            .chain(call.reaches.iter().map(|what| what.to_string()));
-        for what in reaches.filter(|what| cases >= ENOUGH && tally.of(what) == 0) {
+        for what in call.reaches.concat().into_iter().filter(|what| cases >= ENOUGH && tally.of(what) == 0) {
             println!("    NOT REACHED: {what}");
             missing += 1;
         }
@@ -380,13 +389,6 @@ fn main() {
     println!("{differences} differences, {missing} not reached\n");
     if differences + missing > 0 {
         std::process::exit(1);
-    }
-}
-
-fn answer_name(number: usize) -> String {
-    match number {
-        0 => "accepted".to_string(),
-        _ => format!("refused {number:02}"),
     }
 }
 
