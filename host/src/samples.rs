@@ -3,6 +3,7 @@
 use crate::plain::tree::{Process, Transaction};
 
 /// A small generator of random numbers (splitmix64).
+#[derive(Clone)]
 pub struct Rng(u64);
 
 impl Rng {

@@ -16,6 +16,7 @@ mod report;
 mod state;
 pub mod tree;
 
+pub use code::{decode, Op};
 pub use compile::compile;
 pub use forecast::forecast;
 pub use machine::{fresh, run, step};
