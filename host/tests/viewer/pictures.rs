@@ -1,0 +1,232 @@
+//! Pictures, as XML and beside the counts of their runs.
+
+use crate::support::{accepted, damaged, example, folder, got, put, random_tree, refused, said, KIND};
+use kuspigo::plain::tree::{Process, Transaction};
+use kuspigo::samples::{sum, Rng};
+use kuspigo::{Counts, State};
+use std::ffi::OsStr;
+use std::path::Path;
+
+/// An element's name, and its attributes with their values.
+type Element = (String, Vec<(String, String)>);
+
+/// The elements of an XML text, with their attributes, if it is well formed: one root, each start tag with its end tag,
+/// attributes once and quoted, no bare `<` or `&`, and no character that XML does not have.
+fn elements(text: &str) -> Result<Vec<Element>, String> {
+    let permitted =
+        |c: char| matches!(c, '\t' | '\n' | '\r' | ' '..='\u{D7FF}' | '\u{E000}'..='\u{FFFD}' | '\u{10000}'..);
+    if let Some(c) = text.chars().find(|&c| !permitted(c)) {
+        return Err(format!("the character {c:?}"));
+    }
+    let character_data = |text: &str| -> Result<(), String> {
+        for (at, _) in text.match_indices('&') {
+            let known = ["&amp;", "&lt;", "&gt;", "&quot;"];
+            if !known.iter().any(|entity| text[at..].starts_with(entity)) {
+                return Err(format!("a bare & in {text}"));
+            }
+        }
+        if text.contains("]]>") {
+            return Err(format!("]]> in {text}"));
+        }
+        Ok(())
+    };
+    let is_name = |name: &str| {
+        let mut letters = name.chars();
+        letters.next().is_some_and(|c| c.is_ascii_alphabetic())
+            && letters.all(|c| c.is_ascii_alphanumeric() || c == '-' || c == ':')
+    };
+    let mut found = Vec::new();
+    let mut open: Vec<String> = Vec::new();
+    let mut rest = text;
+    while let Some((before, tag)) = rest.split_once('<') {
+        character_data(before)?;
+        if open.is_empty() && !before.trim().is_empty() {
+            return Err(format!("text outside the root: {before}"));
+        }
+        let (tag, behind) = tag.split_once('>').ok_or("a tag without its end")?;
+        rest = behind;
+        if let Some(name) = tag.strip_prefix('/') {
+            if open.pop().as_deref() != Some(name) {
+                return Err(format!("the end tag {name}"));
+            }
+            continue;
+        }
+        if open.is_empty() && !found.is_empty() {
+            return Err("a second root".to_string());
+        }
+        let (tag, empty) = tag.strip_suffix('/').map_or((tag, false), |tag| (tag, true));
+        let (name, mut list) = tag.split_once(' ').unwrap_or((tag, ""));
+        if !is_name(name) {
+            return Err(format!("the tag {tag}"));
+        }
+        let mut attributes: Vec<(String, String)> = Vec::new();
+        while !list.is_empty() {
+            let (key, value) = list.split_once("=\"").ok_or(format!("the attributes {list}"))?;
+            let (value, more) = value.split_once('"').ok_or(format!("the attributes {list}"))?;
+            character_data(value)?;
+            if !is_name(key) || attributes.iter().any(|(name, _)| name == key) {
+                return Err(format!("the attribute {key}"));
+            }
+            attributes.push((key.to_string(), value.to_string()));
+            list = match more.strip_prefix(' ') {
+                Some(more) => more,
+                None if more.is_empty() => more,
+                None => return Err(format!("the attributes {list}")),
+            };
+        }
+        found.push((name.to_string(), attributes));
+        if !empty {
+            open.push(name.to_string());
+        }
+    }
+    match open.is_empty() && rest.trim().is_empty() && !found.is_empty() {
+        true => Ok(found),
+        false => Err("no end".to_string()),
+    }
+}
+
+#[test]
+fn what_is_not_well_formed_is_found() {
+    assert!(elements("<a x=\"1\" y=\"2\"><b/>text &amp; more</a>\n").is_ok());
+    let damaged =
+        "|text|<a>|<a></b>|<a/><b/>|<a x=1/>|<a x=\"1\" x=\"2\"/>|<a>&</a>|<a>&nbsp;</a>|<a x=\"&\"/>|<a><b></a></b>|\
+        <a/>text|<a>\u{1}</a>|<a x=\"1\"y=\"2\"/>|<a>1 < 2</a>|<1/>|<a>\u{FFFE}</a>|<a>]]></a>";
+    for text in damaged.split('|') {
+        assert!(elements(text).is_err(), "{text}");
+    }
+}
+
+fn svg(folder: &Path, arguments: &[&str]) -> (String, Vec<Element>) {
+    assert_eq!(said(folder, &[&["picture"], arguments, &["-o", "x.svg"]].concat()), accepted(""));
+    let text = String::from_utf8(got(folder, "x.svg")).expect("a picture is UTF-8");
+    let elements = elements(&text).unwrap_or_else(|why| panic!("{arguments:?}: {why}"));
+    (text, elements)
+}
+
+/// How many elements have the class.
+fn classed(elements: &[Element], class: &str) -> usize {
+    let has = |(_, attributes): &&Element| {
+        attributes.iter().any(|(name, value)| name == "class" && value.split(' ').any(|word| word == class))
+    };
+    elements.iter().filter(has).count()
+}
+
+/// The pictures that stand in docs/ are what the program draws.
+#[test]
+fn the_pictures_of_the_documents() {
+    let here = folder("documents");
+    for (file, arguments) in [
+        ("whole.svg", &["whole.job", "--picks", "whole.picks"][..]),
+        ("sixteen.svg", &["sixteen.job", "--random", "5"]),
+    ] {
+        let (text, _) = svg(&here, arguments);
+        let stored = Path::new(env!("CARGO_MANIFEST_DIR")).join("../docs").join(file);
+        assert_eq!(text, std::fs::read_to_string(&stored).expect("the picture is there"), "docs/{file}");
+    }
+    // as many picks as 1,600 pixels are for
+    let (text, _) = svg(&here, &["sixteen.job", "--random", "5"]);
+    let last = text.lines().filter(|line| line.starts_with("<rect class=\"hit\"")).count();
+    assert_eq!(
+        (last, &text[..text.find(" viewBox").unwrap()]),
+        (399, "<svg xmlns=\"http://www.w3.org/2000/svg\" width=\"1600\" height=\"810\"")
+    );
+}
+
+#[test]
+fn pictures_have_what_the_run_had() {
+    let here = folder("pictures");
+    put(&here, "kind.job", &damaged(12, 1));
+    assert_eq!(said(&here, &["picture", "kind.job", "--round-robin", "-o", "new.svg"]), refused("", KIND));
+    assert!(!here.join("new.svg").exists());
+    let mut back = 0;
+    for case in 0..200 {
+        let mut rng = Rng::new(20, 4, case);
+        let tree = random_tree(&mut rng);
+        let threads = 1 + tree.forks() + rng.below(2);
+        let picks: Vec<u8> = (0..rng.below(900)).map(|_| rng.below(threads) as u8).collect();
+        put(&here, "random.job", &tree.job());
+        put(&here, "random.picks", &picks);
+        let (text, elements) = svg(&here, &["random.job", "--picks", "random.picks"]);
+        let code = tree.code();
+        let mut state = State::fresh(&code).unwrap();
+        let counts = state.run(&code, &picks).unwrap();
+        let threads = state.threads.iter().filter(|thread| thread.exists()).count();
+        let open = state.threads.iter().filter(|thread| thread.begin != 0).count();
+        // one more of each in the legend
+        assert_eq!(classed(&elements, "commit"), counts.commits + 1, "case {case}");
+        assert_eq!(classed(&elements, "done"), counts.commits + 1, "case {case}");
+        assert_eq!(classed(&elements, "cross"), counts.back + 1, "case {case}");
+        assert_eq!(classed(&elements, "lost"), counts.back + 1, "case {case}");
+        assert_eq!(classed(&elements, "fork"), threads, "case {case}");
+        assert_eq!(classed(&elements, "arrow"), counts.back, "case {case}");
+        assert_eq!(classed(&elements, "back"), counts.back, "case {case}");
+        assert_eq!(classed(&elements, "open"), open + 1, "case {case}");
+        assert_eq!(classed(&elements, "life"), threads, "case {case}");
+        assert_eq!(classed(&elements, "idle"), counts.idle, "case {case}");
+        assert_eq!(classed(&elements, "hit"), picks.len(), "case {case}");
+        let Counts { steps, idle, commits, back: sent_back, over } = counts;
+        let head = format!("steps {steps} idle {idle} commits {commits} back {sent_back} over {over}");
+        assert!(text.contains(&format!(">{head}</text>")), "case {case}");
+        for (number, thread) in state.threads.iter().enumerate().filter(|(_, thread)| thread.exists()) {
+            // once more for each 400 picks behind the first 400
+            let names = 1 + picks.len().saturating_sub(1) / 400;
+            assert_eq!(text.matches(&format!(">thread {number}</text>")).count(), names, "case {case}");
+            if let Some(result) = thread.result() {
+                assert!(text.contains(&format!(">= {result}</text>")), "case {case}");
+            }
+        }
+        back += counts.back;
+    }
+    assert!(back > 50);
+}
+
+/// A thread that is sent back after every third of its picks, by commits of the other fifteen: its labels do not touch.
+#[test]
+fn labels_of_close_send_backs() {
+    let here = folder("labels");
+    let write = |n| Process::Atomic(Box::new(Transaction::Write(63, Box::new(Transaction::Val(n)))));
+    let mut parts = vec![Process::Fork(Box::new(Process::Atomic(Box::new(Transaction::Read(63)))))];
+    parts.extend((1..=14).map(|n| Process::Fork(Box::new(write(n)))));
+    put(&here, "close.job", &sum(parts).job());
+    let mut picks = vec![0; 29];
+    picks.extend((2..16).flat_map(|thread| [thread; 3]));
+    picks.extend((2..16).flat_map(|thread| [1, 1, thread, 1]));
+    picks.resize(400, 255);
+    put(&here, "close.picks", &picks);
+    let (text, _) = svg(&here, &["close.job", "--picks", "close.picks"]);
+    assert!(text.contains(" width=\"1600\" "));
+    let mut labels: Vec<[f64; 2]> = Vec::new();
+    for line in text.lines().filter(|line| line.ends_with(">r63</text>")) {
+        let place = [" x=\"", " y=\""].map(|key| {
+            let (value, _) = line.split_once(key).and_then(|(_, rest)| rest.split_once('"')).expect("it has a place");
+            value.parse().expect("a number")
+        });
+        labels.push(place);
+    }
+    assert_eq!(labels.len(), 14);
+    // in the lane of thread 1
+    assert!(labels.iter().all(|[_, y]| (92.0 + 44.0..92.0 + 88.0).contains(y)), "{labels:?}");
+    // three characters of at most 6.5 pixels, 10 pixels high with the room above
+    let apart = |[x, y]: &[f64; 2], [u, v]: &[f64; 2]| (x - u).abs() > 19.5 || (y - v).abs() > 8.5;
+    for (at, label) in labels.iter().enumerate() {
+        assert!(labels[..at].iter().all(|other| apart(label, other)), "{labels:?}");
+    }
+}
+
+/// Names that XML has to spell otherwise, or cannot have.
+#[cfg(unix)]
+#[test]
+fn pictures_of_files_with_strange_names() {
+    use std::os::unix::ffi::OsStrExt;
+    let here = folder("names");
+    for name in [b"a & b <c> \"d\".job".as_slice(), b"bell\x07.job", b"\xFF\xFE.job", "größe ]]> 🔬.job".as_bytes()]
+    {
+        let name = OsStr::from_bytes(name);
+        std::fs::write(here.join(name), example("whole.job")).expect("a test's file is written");
+        let arguments =
+            [OsStr::new("picture"), name, OsStr::new("--round-robin"), OsStr::new("-o"), OsStr::new("x.svg")];
+        assert_eq!(said(&here, &arguments), accepted(""));
+        let text = String::from_utf8(got(&here, "x.svg")).expect("a picture is UTF-8");
+        elements(&text).unwrap_or_else(|why| panic!("{name:?}: {why}"));
+    }
+}
