@@ -129,6 +129,20 @@ It begins with WSJ, the mark of a job: try kuspigo compile or show.
         }
     }
 
+    // a file that is read is not written
+    for (arguments, file) in [
+        (&["compile", "whole.job", "-o", "./whole.job"][..], "./whole.job"),
+        (&["back", "whole.code", "-o", "whole.code"], "whole.code"),
+        (&["picture", "whole.job", "--round-robin", "-o", "whole.job"], "whole.job"),
+        (&["picture", "whole.job", "--picks", "whole.picks", "-o", "whole.picks"], "whole.picks"),
+    ] {
+        let same = said(&here, arguments);
+        let what = format!("kuspigo {}: {file} is read, and would be overwritten", arguments[0]);
+        assert_eq!((same.err.lines().next(), same.out.as_str(), same.status), (Some(&*what), "", 2));
+    }
+    assert_eq!((got(&here, "whole.job"), got(&here, "whole.code")), (example("whole.job"), code.clone()));
+    assert_eq!(got(&here, "whole.picks"), example("whole.picks"));
+
     // a file whose name begins with a dash; one that is not there
     put(&here, "-x.job", &example("whole.job"));
     assert_eq!(said(&here, &["compile", "-o", "x.code", "--", "-x.job"]), accepted(""));

@@ -291,8 +291,20 @@ impl Parser {
         if matches!(&self.picks, Some(Picks::File(picks)) if crate::is_standard(picks) && crate::is_standard(file)) {
             return Err(self.usage("job and picks cannot both be standard input"));
         }
+        if let Some(out) = self.out.as_deref().filter(|out| self.reads(out)) {
+            return Err(self.usage(&format!("{} is read, and would be overwritten", crate::named(out))));
+        }
         let Parser { word, file, picks, out } = self;
         Ok(Request::Do(Call { word, file: file.expect("tested above"), picks, out }))
+    }
+
+    /// Whether an output is a file that is read.
+    fn reads(&self, out: &Path) -> bool {
+        let picks = match &self.picks {
+            Some(Picks::File(picks)) => Some(picks),
+            _ => None,
+        };
+        self.file.iter().chain(picks).any(|file| crate::same_file(file, out))
     }
 
     fn usage(&self, what: &str) -> Failure {

@@ -196,6 +196,12 @@ fn is_standard(file: &Path) -> bool {
     file.as_os_str() == OsStr::new("-")
 }
 
+/// Whether both name one file that is there.
+fn same_file(a: &Path, b: &Path) -> bool {
+    let there = |file: &Path| if is_standard(file) { None } else { file.canonicalize().ok() };
+    there(a).is_some_and(|file| there(b) == Some(file))
+}
+
 /// A file's name as messages have it.
 fn named(file: &Path) -> String {
     match is_standard(file) {
