@@ -1,9 +1,12 @@
 //! Pictures, as XML and beside the counts of their runs.
 
 use crate::support::{accepted, damaged, example, folder, got, put, random_tree, refused, said, KIND};
-use kuspigo::plain::tree::{Process, Transaction};
+use kuspigo::plain::{
+    self,
+    tree::{Process, Transaction},
+};
 use kuspigo::samples::{sum, Rng};
-use kuspigo::{Counts, State};
+use kuspigo::{Counts, Event, State};
 use std::ffi::OsStr;
 use std::path::Path;
 
@@ -103,12 +106,144 @@ fn svg(folder: &Path, arguments: &[&str]) -> (String, Vec<Element>) {
     (text, elements)
 }
 
+/// An attribute's value.
+fn value<'a>((_, attributes): &'a Element, key: &str) -> &'a str {
+    attributes.iter().find(|(name, _)| name == key).map_or("", |(_, value)| value)
+}
+
+fn number(element: &Element, key: &str) -> f64 {
+    value(element, key).parse().expect("a number")
+}
+
+/// The elements that have the class.
+fn of_class<'a>(elements: &'a [Element], class: &'a str) -> impl Iterator<Item = &'a Element> {
+    elements.iter().filter(move |element| value(element, "class").split(' ').any(|word| word == class))
+}
+
 /// How many elements have the class.
 fn classed(elements: &[Element], class: &str) -> usize {
-    let has = |(_, attributes): &&Element| {
-        attributes.iter().any(|(name, value)| name == "class" && value.split(' ').any(|word| word == class))
+    of_class(elements, class).count()
+}
+
+/// The numbers of a path.
+fn path(element: &Element) -> Vec<f64> {
+    let numbers = value(element, "d").split(|c: char| c.is_ascii_alphabetic() || c == ' ');
+    numbers.filter(|text| !text.is_empty()).map(|text| text.parse().expect("a number")).collect()
+}
+
+/// What stands in a line of text.
+fn content(line: &str) -> &str {
+    line.strip_suffix("</text>").and_then(|line| line.rsplit_once('>')).expect("it has text").1
+}
+
+/// Numbers have one digit behind the point.
+fn near(a: f64, b: f64) -> bool {
+    (a - b).abs() < 0.11
+}
+
+/// Each pick stands in its thread's lane, one column behind the pick before it; a bar reaches from its BEGIN's column to its
+/// COMMIT's, or to the end; marks, arrows and labels are at their picks. The states are the plain implementation's.
+fn marks_are_at_their_picks(text: &str, elements: &[Element], code: &[u8], picks: &[u8]) {
+    let hits: Vec<[f64; 2]> = of_class(elements, "hit")
+        .map(|hit| [number(hit, "x") + number(hit, "width") / 2.0, number(hit, "y") + number(hit, "height") / 2.0])
+        .collect();
+    let column = match hits[..] {
+        [[first, _], .., [last, _]] => (last - first) / (hits.len() - 1) as f64,
+        _ => return,
     };
-    elements.iter().filter(has).count()
+    let names: Vec<(&str, f64)> = text
+        .lines()
+        .filter(|line| line.ends_with("</text>") && line.contains(" text-anchor=\"end\">") && !line.contains("class"))
+        .map(|line| {
+            let y = line.split_once(" y=\"").and_then(|(_, rest)| rest.split_once('"')).expect("it has a place").0;
+            (content(line), y.parse::<f64>().expect("a number") - 4.0)
+        })
+        .collect();
+    let lane = |name: &str| names.iter().find(|(other, _)| *other == name).expect("the lane has its name").1;
+    // the first of each is the legend's
+    let mut bars = ["done", "lost", "open"].map(|class| of_class(elements, class).skip(1));
+    let mut diamonds = of_class(elements, "commit").skip(1);
+    let mut crosses = of_class(elements, "cross").skip(1);
+    let mut arrows = of_class(elements, "arrow");
+    let mut forks = of_class(elements, "fork").skip(1);
+    let mut labels = text.lines().filter(|line| line.starts_with("<text class=\"small back\"")).map(content);
+    let mut bar = |kind: usize, y: f64, from: usize, to: Option<usize>| {
+        let bar = bars[kind].next().expect("there is a bar");
+        let (left, right) = (number(bar, "x"), number(bar, "x") + number(bar, "width"));
+        assert!(near(number(bar, "y") + 6.0, y), "{bar:?}");
+        let begin = hits[from][0];
+        assert!(left < begin && left > begin - column / 2.0 - 0.11, "{bar:?}");
+        match to.map(|to| hits[to][0]) {
+            Some(commit) => assert!(right > commit && right < commit + column / 2.0 + 0.21, "{bar:?}"),
+            None => assert!((right - hits[hits.len() - 1][0] - column / 2.0).abs() < 0.21, "{bar:?}"),
+        }
+    };
+    let mut state = State::fresh(code).unwrap();
+    let mut began = [0; 16];
+    let mut threads = 1;
+    for (at, &thread) in picks.iter().enumerate() {
+        let [x, y] = hits[at];
+        assert!(near(x, hits[0][0] + column * at as f64), "pick {}", at + 1);
+        let before = state.clone();
+        let step = plain::step(code, &mut state.registers, &mut state.threads, thread).unwrap();
+        let name = if step.event == Event::Idle { "idle".to_string() } else { format!("thread {thread}") };
+        assert!(near(y, lane(&name)), "pick {}", at + 1);
+        let index = usize::from(thread);
+        match step.event {
+            Event::Begin => began[index] = at,
+            Event::Fork => {
+                let line = forks.next().expect("there is a line");
+                let [x1, x2, y1, y2] = ["x1", "x2", "y1", "y2"].map(|key| number(line, key));
+                let child = lane(&format!("thread {threads}"));
+                assert!(near(x1, x) && near(x2, x) && near(y1, y) && near(y2, child), "{line:?}");
+                threads += 1;
+            }
+            Event::Commit => {
+                bar(0, y, began[index], Some(at));
+                let diamond = path(diamonds.next().expect("there is a mark"));
+                assert!(near(diamond[0], x) && near(diamond[1] + 6.5, y), "pick {}", at + 1);
+            }
+            Event::SentBack => {
+                bar(1, y, began[index], Some(at));
+                let cross = path(crosses.next().expect("there is a mark"));
+                assert!(near(cross[0] + 3.5, x) && near(cross[1] + 3.5, y), "pick {}", at + 1);
+                // from the COMMIT up, to the left, and down to the BEGIN
+                let arrow = path(arrows.next().expect("there is an arrow"));
+                assert!(near(arrow[0], x) && near(arrow[3], hits[began[index]][0]), "pick {}", at + 1);
+                assert!(arrow[2] < arrow[1] && arrow[1] < y && arrow[2] < arrow[4] && arrow[4] < y, "pick {}", at + 1);
+                let register = usize::from(step.stale.expect("a send-back has a register"));
+                let (read, now) = (before.threads[index].readlog[register], before.registers[register]);
+                let label = labels.next().expect("there is a label");
+                let known = [format!("r{register}"), format!("r{register}: {read} → {now}")];
+                assert!(known.iter().any(|known| known == label), "{label}");
+            }
+            _ => {}
+        }
+    }
+    for (number, _) in state.threads.iter().enumerate().filter(|(_, thread)| thread.begin != 0) {
+        bar(2, lane(&format!("thread {number}")), began[number], None);
+    }
+}
+
+/// Every text is inside its picture, its letters being at most so wide.
+fn texts_are_inside(text: &str, elements: &[Element]) {
+    let width = number(&elements[0], "width");
+    let contents = text.split("<text ").skip(1).map(|text| text.split_once("</text>").expect("it has an end").0);
+    let contents = contents.map(|text| text.split_once('>').expect("its tag has an end").1);
+    for (element, content) in elements.iter().filter(|(name, _)| name == "text").zip(contents) {
+        let letter = match value(element, "class").split(' ').next() {
+            Some("title") => 10.0,
+            Some("small") => 6.0,
+            _ => 6.5,
+        };
+        let (x, wide) = (number(element, "x"), letter * content.chars().count() as f64);
+        let left = match value(element, "text-anchor") {
+            "end" => x - wide,
+            "middle" => x - wide / 2.0,
+            _ => x,
+        };
+        assert!(left > 0.0 && left + wide < width, "{content} in a picture {width} pixels wide");
+    }
 }
 
 /// The pictures that stand in docs/ are what the program draws.
@@ -175,6 +310,8 @@ fn pictures_have_what_the_run_had() {
                 assert!(text.contains(&format!(">= {result}</text>")), "case {case}");
             }
         }
+        texts_are_inside(&text, &elements);
+        marks_are_at_their_picks(&text, &elements, &code, &picks);
         back += counts.back;
     }
     assert!(back > 50);

@@ -8,6 +8,8 @@ use std::fmt::{self, Write};
 /// A picture of at most so many picks is at most so wide, in pixels; of more it is wider.
 const PICKS: usize = 400;
 const WIDTH: f64 = 1_600.0;
+/// There is room for the legend.
+const NARROWEST: f64 = 1_024.0;
 /// Beside the lanes: the threads' names, and results.
 const LEFT: f64 = 78.0;
 const RIGHT: f64 = 102.0;
@@ -140,8 +142,7 @@ impl Layout {
             threads,
             idle: picks.iter().any(|pick| pick.effect == Effect::Idle),
             lane: if column >= LABELLED { 66.0 } else { 44.0 },
-            // there is room for the legend
-            width: (LEFT + column * picks.len() as f64 + RIGHT).max(1_000.0),
+            width: (LEFT + column * picks.len() as f64 + RIGHT).max(NARROWEST),
         }
     }
 
