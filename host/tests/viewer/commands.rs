@@ -1,6 +1,8 @@
 //! The command line, and the words that run nothing.
 
-use crate::support::{accepted, damaged, example, fed, folder, got, put, random_tree, refused, said, viewer, KIND};
+use crate::support::{
+    accepted, damaged, example, fed, folder, got, put, random_tree, refused, said, viewer, Said, KIND,
+};
 use kuspigo::plain::tree::{Process, Transaction};
 use kuspigo::samples::{sum, Rng};
 
@@ -68,6 +70,7 @@ fn a_command_line_that_is_not_understood() {
         (&["check", "a", "-o", "b"], "kuspigo check: nothing is written to a file"),
         (&["check", "a", "--round-robin"], "kuspigo check: no picks are taken"),
         (&["check", "-x", "a"], "kuspigo check: there is no option -x"),
+        (&["check", "--foo=bar", "a"], "kuspigo check: there is no option --foo"),
         (&["compile", "a"], "kuspigo compile: where to? -o FILE"),
         (&["compile", "a", "-o"], "kuspigo compile: -o needs a value"),
         (&["compile", "a", "-o", "b", "-o", "c"], "kuspigo compile: one -o is enough"),
@@ -129,18 +132,27 @@ It begins with WSJ, the mark of a job: try kuspigo compile or show.
         }
     }
 
-    // a file that is read is not written
+    // a file that is read is not written, whatever its name
+    std::os::unix::fs::symlink("whole.job", here.join("symbolic.job")).expect("a link is made");
+    std::fs::hard_link(here.join("whole.job"), here.join("hard.job")).expect("a link is made");
     for (arguments, file) in [
         (&["compile", "whole.job", "-o", "./whole.job"][..], "./whole.job"),
+        (&["compile", "whole.job", "-o", "symbolic.job"], "symbolic.job"),
+        (&["compile", "whole.job", "-o", "hard.job"], "hard.job"),
+        (&["compile", "-", "-o", "whole.job"], "whole.job"),
         (&["back", "whole.code", "-o", "whole.code"], "whole.code"),
         (&["picture", "whole.job", "--round-robin", "-o", "whole.job"], "whole.job"),
         (&["picture", "whole.job", "--picks", "whole.picks", "-o", "whole.picks"], "whole.picks"),
     ] {
-        let same = said(&here, arguments);
+        let input = std::fs::File::open(here.join("whole.job")).expect("the job is there");
+        let program = viewer().current_dir(&here).args(arguments).stdin(input).output().expect("the program starts");
+        let same = Said::of(program);
         let what = format!("kuspigo {}: {file} is read, and would be overwritten", arguments[0]);
         assert_eq!((same.err.lines().next(), same.out.as_str(), same.status), (Some(&*what), "", 2));
     }
     assert_eq!((got(&here, "whole.job"), got(&here, "whole.code")), (example("whole.job"), code.clone()));
+    let device = said(&here, &["compile", "/dev/null", "-o", "/dev/null"]);
+    assert!(device.err.starts_with("kuspigo: /dev/null: refused 1 (cut) at 0: "), "{}", device.err);
     assert_eq!(got(&here, "whole.picks"), example("whole.picks"));
 
     // a file whose name begins with a dash; one that is not there
@@ -156,7 +168,6 @@ It begins with WSJ, the mark of a job: try kuspigo compile or show.
 }
 
 /// Names that are no text, or that a terminal would obey.
-#[cfg(unix)]
 #[test]
 fn strange_names() {
     use std::ffi::OsStr;
@@ -176,7 +187,6 @@ fn strange_names() {
 }
 
 /// A file without an end is refused as its beginning is.
-#[cfg(unix)]
 #[test]
 fn endless_files() {
     let here = folder("endless");

@@ -225,24 +225,31 @@ fn marks_are_at_their_picks(text: &str, elements: &[Element], code: &[u8], picks
     }
 }
 
-/// Every text is inside its picture, its letters being at most so wide.
-fn texts_are_inside(text: &str, elements: &[Element]) {
-    let width = number(&elements[0], "width");
+/// Every text is inside its picture and touches no other, its letters being at most so wide and high.
+fn texts_are_legible(text: &str, elements: &[Element]) {
+    let [width, height] = ["width", "height"].map(|key| number(&elements[0], key));
     let contents = text.split("<text ").skip(1).map(|text| text.split_once("</text>").expect("it has an end").0);
     let contents = contents.map(|text| text.split_once('>').expect("its tag has an end").1);
+    let mut boxes: Vec<(&str, [f64; 4])> = Vec::new();
     for (element, content) in elements.iter().filter(|(name, _)| name == "text").zip(contents) {
-        let letter = match value(element, "class").split(' ').next() {
-            Some("title") => 10.0,
-            Some("small") => 6.0,
-            _ => 6.5,
+        let (letter, up, down) = match value(element, "class").split(' ').next() {
+            Some("title") => (17.0, 12.0, 3.5),
+            Some("small") => (6.0, 8.0, 2.4),
+            _ => (6.5, 8.5, 2.6),
         };
-        let (x, wide) = (number(element, "x"), letter * content.chars().count() as f64);
+        let [x, y] = ["x", "y"].map(|key| number(element, key));
+        let wide = letter * content.chars().count() as f64;
         let left = match value(element, "text-anchor") {
             "end" => x - wide,
             "middle" => x - wide / 2.0,
             _ => x,
         };
-        assert!(left > 0.0 && left + wide < width, "{content} in a picture {width} pixels wide");
+        let [right, top, bottom] = [left + wide, y - up, y + down];
+        assert!(left > 0.0 && right < width && top > 0.0 && bottom < height, "{content} in a picture {width} wide");
+        for (other, [l, r, t, b]) in &boxes {
+            assert!(right < *l || left > *r || bottom < *t || top > *b, "{other} and {content} touch");
+        }
+        boxes.push((content, [left, right, top, bottom]));
     }
 }
 
@@ -310,53 +317,57 @@ fn pictures_have_what_the_run_had() {
                 assert!(text.contains(&format!(">= {result}</text>")), "case {case}");
             }
         }
-        texts_are_inside(&text, &elements);
+        texts_are_legible(&text, &elements);
         marks_are_at_their_picks(&text, &elements, &code, &picks);
         back += counts.back;
     }
     assert!(back > 50);
 }
 
-/// A thread that is sent back after every third of its picks, by commits of the other fifteen: its labels do not touch.
+/// A thread that is sent back after every third of its picks, by commits of the other fifteen, at the left end of a picture, at
+/// the right one, and where a wide one has the threads' names again.
 #[test]
 fn labels_of_close_send_backs() {
     let here = folder("labels");
     let write = |n| Process::Atomic(Box::new(Transaction::Write(63, Box::new(Transaction::Val(n)))));
-    let mut parts = vec![Process::Fork(Box::new(Process::Atomic(Box::new(Transaction::Read(63)))))];
-    parts.extend((1..=14).map(|n| Process::Fork(Box::new(write(n)))));
+    let mut parts: Vec<Process> = (1..=14).map(|n| Process::Fork(Box::new(write(n)))).collect();
+    parts.insert(7, Process::Fork(Box::new(Process::Atomic(Box::new(Transaction::Read(63))))));
     put(&here, "close.job", &sum(parts).job());
-    let mut picks = vec![0; 29];
-    picks.extend((2..16).flat_map(|thread| [thread; 3]));
-    picks.extend((2..16).flat_map(|thread| [1, 1, thread, 1]));
-    picks.resize(400, 255);
-    put(&here, "close.picks", &picks);
-    let (text, _) = svg(&here, &["close.job", "--picks", "close.picks"]);
-    assert!(text.contains(" width=\"1600\" "));
-    let mut labels: Vec<[f64; 2]> = Vec::new();
-    for line in text.lines().filter(|line| line.ends_with(">r63</text>")) {
-        let place = [" x=\"", " y=\""].map(|key| {
-            let (value, _) = line.split_once(key).and_then(|(_, rest)| rest.split_once('"')).expect("it has a place");
-            value.parse().expect("a number")
-        });
-        labels.push(place);
-    }
-    assert_eq!(labels.len(), 14);
-    // in the lane of thread 1
-    assert!(labels.iter().all(|[_, y]| (92.0 + 44.0..92.0 + 88.0).contains(y)), "{labels:?}");
-    // three characters of at most 6.5 pixels, 10 pixels high with the room above
-    let apart = |[x, y]: &[f64; 2], [u, v]: &[f64; 2]| (x - u).abs() > 19.5 || (y - v).abs() > 8.5;
-    for (at, label) in labels.iter().enumerate() {
-        assert!(labels[..at].iter().all(|other| apart(label, other)), "{labels:?}");
+    let others = || (1..16).filter(|&thread| thread != 8);
+    for (first, all) in [(72, 400), (345, 400), (360, 600), (390, 600), (400, 600)] {
+        let mut picks = vec![0; 29];
+        picks.extend(others().flat_map(|thread| [thread; 3]));
+        picks.resize(first - 1, 255);
+        picks.extend(others().flat_map(|thread| [8, 8, thread, 8]));
+        picks.resize(all, 255);
+        put(&here, "close.picks", &picks);
+        let (text, elements) = svg(&here, &["close.job", "--picks", "close.picks"]);
+        assert_eq!(text.lines().filter(|line| line.ends_with(">r63</text>")).count(), 14);
+        texts_are_legible(&text, &elements);
     }
 }
 
-/// Names that XML has to spell otherwise, or cannot have.
-#[cfg(unix)]
+/// A picture of at most 400 picks is at most 1,600 pixels wide, one of more as much wider as it has more.
+#[test]
+fn how_wide_pictures_are() {
+    let here = folder("wide");
+    for picks in (0..=400).chain([401, 500, 800]) {
+        put(&here, "wide.picks", &vec![0; picks]);
+        let (_, elements) = svg(&here, &["whole.job", "--picks", "wide.picks"]);
+        let column = 1_420.0 / picks.clamp(1, 400) as f64;
+        let exact = 180.0 + picks as f64 * column.min(46.0);
+        assert!((number(&elements[0], "width") - exact.max(1_024.0)).abs() <= 0.5, "{picks} picks");
+    }
+}
+
+/// Names that XML has to spell otherwise or cannot have, and one for which there is no room.
 #[test]
 fn pictures_of_files_with_strange_names() {
     use std::os::unix::ffi::OsStrExt;
     let here = folder("names");
-    for name in [b"a & b <c> \"d\".job".as_slice(), b"bell\x07.job", b"\xFF\xFE.job", "größe ]]> 🔬.job".as_bytes()]
+    let long = [b"W".repeat(200), b".job".to_vec()].concat();
+    for name in
+        [b"a & b <c> \"d\".job".as_slice(), b"bell\x07.job", b"\xFF\xFE.job", "größe ]]> 🔬.job".as_bytes(), &long]
     {
         let name = OsStr::from_bytes(name);
         std::fs::write(here.join(name), example("whole.job")).expect("a test's file is written");
@@ -364,6 +375,6 @@ fn pictures_of_files_with_strange_names() {
             [OsStr::new("picture"), name, OsStr::new("--round-robin"), OsStr::new("-o"), OsStr::new("x.svg")];
         assert_eq!(said(&here, &arguments), accepted(""));
         let text = String::from_utf8(got(&here, "x.svg")).expect("a picture is UTF-8");
-        elements(&text).unwrap_or_else(|why| panic!("{name:?}: {why}"));
+        texts_are_legible(&text, &elements(&text).unwrap_or_else(|why| panic!("{name:?}: {why}")));
     }
 }

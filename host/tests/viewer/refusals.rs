@@ -234,6 +234,17 @@ offset  bytes in hex
 ",
         ),
         (
+            b"WSJ\x00\x01\x00\x02\x01\x00\x00\x00\x07".to_vec(),
+            "\
+refused 9 (length) at 12: The nodes or the bytes do not match the count.
+The count is 2, and the tree has 1 node.
+
+offset  bytes in hex
+     0  57 53 4A 00 01 00 02 01 00 00 00 07 ..
+                                            ^^ 12
+",
+        ),
+        (
             long,
             "\
 refused 14 (long transaction) at 12: The transaction has more than 200 nodes.

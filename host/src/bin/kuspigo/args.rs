@@ -225,7 +225,11 @@ impl Parser {
             }
             let (name, joined) = split(&argument);
             let shown = crate::plain_text(&name);
-            let valued = matches!(&*name, "--picks" | "--random" | "-o" | "--output");
+            let valued = match &*name {
+                "--picks" | "--random" | "-o" | "--output" => true,
+                "--round-robin" | "--help" | "-h" | "--" => false,
+                _ => return Err(self.usage(&format!("there is no option {shown}"))),
+            };
             if joined.is_some() && !valued {
                 return Err(self.usage(&format!("{shown} takes no value")));
             }
@@ -243,8 +247,7 @@ impl Parser {
                     let seed = seed.map_err(|_| self.usage("--random needs a whole number from 0 to 2^64 - 1"))?;
                     self.set_picks(Picks::Random(seed))?;
                 }
-                "-o" | "--output" => self.set_out(value.into())?,
-                _ => return Err(self.usage(&format!("there is no option {shown}"))),
+                _ => self.set_out(value.into())?,
             }
         }
         self.finish()

@@ -1,6 +1,7 @@
 //! What can go wrong, and how it is told.
 
 use crate::script::{self, Nodes};
+use crate::show;
 use kuspigo::Refusal;
 use std::fmt::{self, Write};
 use std::io;
@@ -74,7 +75,9 @@ fn found(bytes: &[u8], refusal: Refusal) -> String {
             let (count, nodes) = (number16(5), Nodes::new(&bytes[..refusal.place]).count());
             match Nodes::around(bytes, refusal.place).is_empty() {
                 false => format!("The count is {count}, and one more node is due.\n"),
-                true if nodes < count.into() => format!("The count is {count}, and the tree has {nodes} nodes.\n"),
+                true if nodes < count.into() => {
+                    format!("The count is {count}, and the tree has {}.\n", show::nodes(nodes))
+                }
                 true => "The tree is complete, and bytes follow it.\n".to_string(),
             }
         }

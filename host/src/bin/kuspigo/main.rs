@@ -19,6 +19,7 @@ use progress::Progress;
 use std::ffi::OsStr;
 use std::fs::File;
 use std::io::{self, BufWriter, IsTerminal, Read, Write};
+use std::os::unix::fs::MetadataExt;
 use std::path::Path;
 use std::process::ExitCode;
 use walk::{List, Pick, Walk};
@@ -172,7 +173,7 @@ impl Prepared {
             each(pick)?;
             progress.tick(picks.len());
         }
-        progress.end();
+        drop(progress);
         if self.list.length().is_none() && walk.open() > 0 {
             say(&format!("kuspigo: the list ends after {} picks, with threads that have not ended\n", picks.len()));
         }
@@ -196,10 +197,14 @@ fn is_standard(file: &Path) -> bool {
     file.as_os_str() == OsStr::new("-")
 }
 
-/// Whether both name one file that is there.
-fn same_file(a: &Path, b: &Path) -> bool {
-    let there = |file: &Path| if is_standard(file) { None } else { file.canonicalize().ok() };
-    there(a).is_some_and(|file| there(b) == Some(file))
+/// Whether an output is the file that is read, under whatever name.
+fn same_file(read: &Path, out: &Path) -> bool {
+    let read = if is_standard(read) { Path::new("/dev/stdin") } else { read };
+    match (read.metadata(), out.metadata()) {
+        _ if is_standard(out) => false,
+        (Ok(read), Ok(out)) => out.is_file() && (read.dev(), read.ino()) == (out.dev(), out.ino()),
+        _ => false,
+    }
 }
 
 /// A file's name as messages have it.

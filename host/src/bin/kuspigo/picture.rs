@@ -19,9 +19,8 @@ const BOTTOM: f64 = 14.0;
 /// A pick's column is at most so wide; from this width on each pick is labelled with its instruction.
 const WIDEST: f64 = 46.0;
 const LABELLED: f64 = 40.0;
-/// The width of a small letter, at most about; and of one in the title.
+/// The width of a small letter, at most about.
 const LETTER: f64 = 6.5;
-const TITLE: f64 = 10.0;
 
 const STYLE: &str = "\
 text{font:11px system-ui,-apple-system,'Segoe UI',Roboto,'DejaVu Sans',sans-serif;fill:#1f2328}
@@ -70,14 +69,15 @@ text{fill:#e6edf3}
 pub fn svg(title: &str, picks: &[Pick]) -> String {
     let layout = Layout::of(picks);
     let counts = counts(picks);
-    let (width, height) = (layout.width.ceil(), layout.bottom() + BOTTOM);
+    let (width, height) = (layout.width, layout.bottom() + BOTTOM);
     let mut out = format!(
         "<svg xmlns=\"http://www.w3.org/2000/svg\" width=\"{width}\" height=\"{height}\" viewBox=\"0 0 {width} {height}\">\n\
-         <title>{title}: {counts}</title>\n<style>\n{STYLE}</style>\n\
+         <title>{}: {counts}</title>\n<style>\n{STYLE}</style>\n\
          <rect class=\"paper\" width=\"{width}\" height=\"{height}\"/>\n\
-         <text class=\"title\" x=\"12\" y=\"24\">{title}</text>\n\
+         <text class=\"title\" x=\"12\" y=\"24\">{}</text>\n\
          <text class=\"faint\" x=\"12\" y=\"42\">{counts}</text>\n",
-        title = escaped(&shortened(title, layout.width - 24.0, TITLE)),
+        escaped(title),
+        escaped(&shortened(title, layout.width - 24.0, title_letter)),
     );
     legend(&mut out);
     lanes(&mut out, &layout);
@@ -141,8 +141,13 @@ impl Layout {
             picks: picks.len(),
             threads,
             idle: picks.iter().any(|pick| pick.effect == Effect::Idle),
-            lane: if column >= LABELLED { 66.0 } else { 44.0 },
-            width: (LEFT + column * picks.len() as f64 + RIGHT).max(NARROWEST),
+            lane: match picks.len() {
+                _ if column >= LABELLED => 66.0,
+                0..=PICKS => 44.0,
+                // the names that stand there again are below the bars
+                _ => 54.0,
+            },
+            width: (LEFT + column * picks.len() as f64 + RIGHT).round().max(NARROWEST),
         }
     }
 
@@ -235,7 +240,7 @@ fn lanes(out: &mut String, layout: &Layout) {
         put(out, format_args!("<text x=\"{:.1}\" y=\"{y:.1}\" text-anchor=\"end\">{name}</text>", LEFT - 14.0));
         // again, where a wide picture is scrolled
         for number in (PICKS + 1..=layout.picks).step_by(PICKS) {
-            let (x, y) = (layout.x(number), y + 10.0);
+            let (x, y) = (layout.x(number), y + 11.0);
             put(out, format_args!("<text class=\"small faint\" x=\"{x:.1}\" y=\"{y:.1}\">{name}</text>"));
         }
     }
@@ -379,7 +384,7 @@ fn mark(out: &mut String, layout: &Layout, pick: &Pick, label: &mut f64) {
     if let (true, Some((_, op))) = (layout.column >= LABELLED, pick.did) {
         for (row, word) in script::instruction(op).split(' ').enumerate() {
             let y = y + 20.0 + 11.0 * row as f64;
-            let word = shortened(word, layout.column, LETTER);
+            let word = shortened(word, layout.column, |_| LETTER);
             put(
                 out,
                 format_args!(
@@ -410,19 +415,33 @@ fn back(out: &mut String, layout: &Layout, [to, from]: [f64; 2], y: f64, [short,
     let middle = (from + to) / 2.0;
     let higher = middle - wide(&text) / 2.0 < *label;
     *label = if higher { f64::MIN } else { middle + wide(&text) / 2.0 };
-    let y = if higher { y - 27.0 } else { y - 18.0 };
+    let y = if higher { y - 28.5 } else { y - 18.0 };
     put(
         out,
         format_args!("<text class=\"small back\" x=\"{middle:.1}\" y=\"{y:.1}\" text-anchor=\"middle\">{text}</text>"),
     );
 }
 
-/// As much of a text as there is room for.
-fn shortened(text: &str, room: f64, letter: f64) -> String {
-    let most = (room / letter) as usize;
-    match text.chars().count() <= most {
-        true => text.to_string(),
-        false => text.chars().take(most - 1).chain(['…']).collect(),
+/// As much of a text as there is room for, by the width of each letter.
+fn shortened(text: &str, room: f64, letter: fn(char) -> f64) -> String {
+    if text.chars().map(letter).sum::<f64>() <= room {
+        return text.to_string();
+    }
+    let mut left = room - letter('…');
+    let kept = text.chars().take_while(|&c| {
+        left -= letter(c);
+        left >= 0.0
+    });
+    kept.chain(['…']).collect()
+}
+
+/// The width of a letter in the title, at most about: bold, 15 pixels high.
+fn title_letter(c: char) -> f64 {
+    match c {
+        'm' | 'w' | 'M' | 'W' | '@' | '%' => 17.0,
+        'a'..='z' | '0'..='9' | ' ' | '.' | ',' | '-' | '_' => 11.0,
+        '!'..='~' => 13.5,
+        _ => 20.0,
     }
 }
 

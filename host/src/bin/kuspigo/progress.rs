@@ -34,8 +34,10 @@ impl Progress {
             }
         }
     }
+}
 
-    pub fn end(self) {
+impl Drop for Progress {
+    fn drop(&mut self) {
         crate::say(self.lines.end());
     }
 }
@@ -61,7 +63,7 @@ impl Lines {
     }
 
     /// Clears what stands on a terminal.
-    fn end(self) -> &'static str {
+    fn end(&self) -> &'static str {
         if self.said && self.terminal {
             "\r\x1b[K"
         } else {

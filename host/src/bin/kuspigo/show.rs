@@ -39,7 +39,7 @@ pub fn forecast(file: &str, job: &[u8], told: &Forecast) -> String {
     )
 }
 
-fn nodes(count: usize) -> String {
+pub fn nodes(count: usize) -> String {
     format!("{count} {}", if count == 1 { "node" } else { "nodes" })
 }
 
