@@ -2,6 +2,7 @@
 
 use crate::failure::Failure;
 use std::ffi::{OsStr, OsString};
+use std::os::unix::ffi::OsStrExt;
 use std::path::{Path, PathBuf};
 
 /// What is asked for.
@@ -197,15 +198,14 @@ pub fn parse(mut arguments: impl Iterator<Item = OsString>) -> Result<Request, F
 
 /// An option's name, and its value if it stands in the same argument: `--name=value`, `-ovalue`.
 fn split(argument: &OsStr) -> (String, Option<OsString>) {
-    let bytes = argument.as_encoded_bytes();
+    let bytes = argument.as_bytes();
     let [name, value] = match bytes.iter().position(|&byte| byte == b'=') {
         Some(at) if bytes.starts_with(b"--") => [0..at, at + 1..bytes.len()],
         _ if bytes.starts_with(b"-o") && bytes.len() > 2 => [0..2, 2..bytes.len()],
         _ => return (argument.to_string_lossy().into_owned(), None),
     };
-    // SAFETY: the bytes are an OsStr's, cut behind a character of ASCII
-    let value = unsafe { OsStr::from_encoded_bytes_unchecked(&bytes[value]) };
-    (String::from_utf8_lossy(&bytes[name]).into_owned(), Some(value.to_os_string()))
+    let value = OsStr::from_bytes(&bytes[value]).to_os_string();
+    (String::from_utf8_lossy(&bytes[name]).into_owned(), Some(value))
 }
 
 struct Parser {
@@ -219,7 +219,7 @@ impl Parser {
     fn all(mut self, mut rest: impl Iterator<Item = OsString>) -> Result<Request, Failure> {
         let mut options = true;
         while let Some(argument) = rest.next() {
-            if !options || argument == "-" || !argument.as_encoded_bytes().starts_with(b"-") {
+            if !options || argument == "-" || !argument.as_bytes().starts_with(b"-") {
                 self.set_file(argument)?;
                 continue;
             }

@@ -201,8 +201,9 @@ fn is_standard(file: &Path) -> bool {
 fn same_file(read: &Path, out: &Path) -> bool {
     let read = if is_standard(read) { Path::new("/dev/stdin") } else { read };
     match (read.metadata(), out.metadata()) {
-        _ if is_standard(out) => false,
-        (Ok(read), Ok(out)) => out.is_file() && (read.dev(), read.ino()) == (out.dev(), out.ino()),
+        (Ok(read), Ok(file)) if !is_standard(out) => {
+            file.is_file() && (read.dev(), read.ino()) == (file.dev(), file.ino())
+        }
         _ => false,
     }
 }
