@@ -53,5 +53,5 @@ drove rs ts p = record { state = stateFrom rs ts; progress = p }
 
 -- with what a call begins, and that its code is of bytes
 pub record Admitted (code : List ℕ) (survey : Survey) (registers picks : ℕ) (r : Progress) : Type 0 where
-  pub progress : r ≡ admittedTo (readCode code) (surveyFits survey code registers) (survey .count) picks
+  pub progress : r ≡ admittedTo (readCode code) (surveyFits survey code registers 0) (survey .count) picks
   pub bytes : Bytes code

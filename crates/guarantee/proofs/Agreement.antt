@@ -13,17 +13,18 @@ use Rattle.machine.specs.Steps.{State, numberOf, threadAt, Ran, fresh}
 use Rattle.machine.specs.Fits.{Exists, Fits, Typed}
 use Rattle.machine.specs.Stands.{stackFrom}
 use Rattle.machine.specs.Answers.{sumOf}
-use Rattle.machine.specs.Source.{SThread, Halted, StepsM}
-use Rattle.machine.specs.Soup.{Carries, StandsFor, load}
+use Rattle.source.specs.Source.{SThread, Halted, StepsM}
+use Rattle.source.specs.Soup.{Carries, StandsFor, load}
 use Rattle.machine.proofs.Fresh.{fresh-fits, fresh-typed}
 use Rattle.machine.proofs.Notes.{pick-told, pick-noted, none-noted}
 use Rattle.machine.proofs.Picks.{missing-idle, ended-idle}
 use Rattle.machine.proofs.Found.{sent-back-first, committed-none, looked-found}
 use Rattle.machine.proofs.Regions.{held}
-use Rattle.machine.proofs.Rules.{rule-is-for}
+use Rattle.source.proofs.Rules.{rule-is-for}
 use Rattle.machine.proofs.Runs.{shows-of}
-use Rattle.machine.proofs.Soups.{ended-halted}
-use Rattle.machine.proofs.Agrees.{outer, does-one, step-fits, run-fits, has-soup, fresh-soup, pick-is-step, step-is-pick, pick-is-step-same, step-is-pick-same, run-is-steps}
+use Rattle.source.proofs.Soups.{ended-halted}
+use Rattle.machine.proofs.Agrees.{outer, does-one, step-fits, run-fits}
+use Rattle.source.proofs.Agrees.{has-soup, fresh-soup, pick-is-step, step-is-pick, pick-is-step-same, step-is-pick-same, run-is-steps}
 use Rattle.script.specs.Bytes.{Bytes}
 use Rattle.script.specs.Outcome.{done}
 use Rattle.script.specs.Jobs.{Job}

@@ -1,22 +1,41 @@
 -- The three demands hold. Assumes nothing.
 use Prim.Native.Nat.{ℕ}
-use mathlib.Core.Path.{_≡_, ap}
+use mathlib.Core.Path.{_≡_, ap, _∙_}
 use mathlib.Core.List.{List, _∷_}
-use Rattle.guarantee.specs.Demands.{Demand1, Demand2, Demand3}
+use Rattle.guarantee.specs.Demands.{Readers, Demand1, Demand2, Demand3}
 use Rattle.guarantee.proofs.Agreement.{agreement}
 use Rattle.guarantee.proofs.Histories.{call-lists, sound, told-overs, every-order, sent-back, bounded}
 use Rattle.guarantee.proofs.RoundTrip.{read-back-exactly, compile-then-back, back-then-compile}
 use Rattle.guarantee.proofs.Rows.{job-rows, compile-rows, back-rows}
+use Rattle.code.specs.Bytes.{compiled, IsCode}
+use Rattle.code.specs.Reader.{readCode}
+use Rattle.code.proofs.Foreign.{foreign-exactly, only-foreign}
+use Rattle.code.proofs.ReadBack.{code-read, read-is-code}
+use Rattle.machine.proofs.FitTests.{fits-exactly}
+use Rattle.script.proofs.Accepts.{accepted-is-job, job-is-accepted}
+use Rattle.script.proofs.Refuses.{refused-is-read, read-is-refused}
 use Rattle.machine.proofs.Calls.{fresh-answers, step-answers, run-answers}
 use Rattle.script.specs.Bytes.{Bytes}
 use Rattle.script.specs.Outcome.{done}
 use Rattle.script.specs.Jobs.{Job}
 use Rattle.script.specs.Reader.{readJob}
+use Rattle.script.specs.Refusal.{Refused}
 use Rattle.script.specs.Turns.{Script, turn, idle, Turned, left, turns}
 use Rattle.script.proofs.Overflows.{idle-overflows}
 use Rattle.script.proofs.Soups.{turn-steps, step-turns, turn-steps-same, step-turns-same}
 use Rattle.script.proofs.Transactions.{work-reached, work-only}
 use Rattle.word.specs.Sum.{Rule}
+
+pub readers : Readers
+readers =
+    record {
+      accepted = λ job j b. (accepted-is-job job j b, job-is-accepted job j);
+      turned-down = λ job number place b. (read-is-refused job b number place, λ (r : Refused job number place). refused-is-read r);
+      taken = λ code j b. (read-is-code code j b, λ (i : IsCode code j). ap readCode (i .text) ∙ code-read j (i .version) (i .within));
+      foreign = foreign-exactly;
+      only-foreign = only-foreign;
+      fitting = fits-exactly;
+    }
 
 pub demand-1 : Demand1
 demand-1 =

@@ -355,7 +355,7 @@ module _ (job : List ℕ) (j : Job) (b : Bytes job) (accepted : readJob job ≡ 
       ran : Ran
       ran = steps.run (sumOf j) (compiled j) (fresh (compiled j)) (real .picks)
 
-      k : Run is-code outer (sumOf j) (fresh (compiled j)) (start registerCells (compileP (j .tree) ε)) (real .picks)
+      k : Run is-code outer 0 (sumOf j) (fresh (compiled j)) (start registerCells (compileP (j .tree) ε)) (real .picks)
       k = run-keeps is-code outer (sumOf j) (real .picks) (fresh (compiled j)) (start registerCells (compileP (j .tree) ε)) (fresh-fits (compiled j)) (fresh-typed (compiled j)) (fresh-mirrors (compiled j) is-code outer)
 
       count : length (endOf registerCells (sumOf j) (start registerCells (compileP (j .tree) ε)) (real .picks) .tasks) ≤ 256
@@ -459,6 +459,13 @@ module _ (job : List ℕ) (j : Job) (b : Bytes job) (accepted : readJob job ≡ 
       foreign-lent : Lent (step [] (fresh (compiled j)) 0)
       foreign-lent = record { code = no-bytes; state = fresh-typed (compiled j); ranges = fresh-ranged (is-code job j b accepted); picks = record { small = one-byte 0 (omega arith) } }
 
+  goes-on′ : {now : Session} {events : List Happened} → History (compiled j) now events → (is : List ℕ) → Bytes is → length is ≤ 32768 → Lent (run (compiled j) (now .state) is) × (comesTo (run (compiled j) (now .state) is) ≡ done (steps.run (sumOf j) (compiled j) (now .state) is))
+  unfolding runOf
+  goes-on′ {now = now} h is x l =
+      let k = behind job j b accepted h in
+      let fit : fits (compiled j) (now .state) ≡ true = fits-exactly (compiled j) (now .state) (k .typed) .1 (k .fit) in
+      (record { code = code-bytes j (is-job job j b accepted .within .sized .valued); state = k .typed; ranges = k .ranges; picks = x }, rw (read job j b accepted, fit, le-ltb 32768 (length is) l))
+
   -- what a call leaves
   refused-keeps′ : (c : Call) (number place : ℕ) → comesTo c ≡ refused number place → stateAfter c ≡ stateOf c
   refused-keeps′ (step code s i) n p e = ap (λ (x : Returned StepReply). x .state) (step-refused code s i n p (not-taken (stepOf code s i) e))
@@ -482,6 +489,7 @@ module _ (job : List ℕ) (j : Job) (b : Bytes job) (accepted : readJob job ≡ 
         refused-keeps = refused-keeps′;
         taken-leaves = taken-leaves′;
         mixed = mixed′;
+        goes-on = goes-on′;
         step-is-run = step-is-run′;
         one-run = λ h. history-run job j b accepted h;
         reports = λ h. reports′ h;

@@ -15,10 +15,12 @@ use Rattle.guarantee.proofs.Histories.{is-code, history-run}
 use Rattle.code.specs.Bytes.{compiled, IsCode}
 use Rattle.machine.specs.Answers.{sumOf, stepOf, Told, stepCall, ruleNamed, backsOf}
 use Rattle.machine.specs.Fits.{CommitsPassed, Exists, Fits, Typed}
-use Rattle.machine.specs.Soup.{Soup, Name, sourceRule, PickOn, ruleOf}
-use Rattle.machine.specs.Source.{SThread}
+use Rattle.source.specs.Soup.{Soup, Name, sourceRule, PickOn, ruleOf}
+use Rattle.source.specs.Source.{SThread}
 use Rattle.machine.specs.Steps.{State, Stepped, threadAt, numberOf, fresh, pick, Ran, run}
-use Rattle.machine.proofs.Agrees.{outer, does-one, pick-is-step}
+use Rattle.machine.proofs.Agrees.{outer, does-one}
+use Rattle.source.proofs.Agrees.{pick-is-step}
+use Rattle.source.proofs.Named.{named-used}
 use Rattle.machine.proofs.Calls.{step-says}
 use Rattle.machine.proofs.Found.{sent-back-first, looked-found}
 use Rattle.machine.proofs.Fresh.{no-record, fresh-fits, fresh-typed}
@@ -27,7 +29,7 @@ use Rattle.machine.proofs.Numbers.{never}
 use Rattle.machine.proofs.Passing.{passed-once, passed-root}
 use Rattle.machine.proofs.Picks.{missing-idle, ended-idle}
 use Rattle.machine.proofs.Stale.{stale-by}
-use Rattle.machine.proofs.Ruled.{named-used, back-used, read-used, none-used, pick-marks, run-rule, run-backs, run-sum, pick-passes, run-passes}
+use Rattle.machine.proofs.Ruled.{back-used, read-used, none-used, pick-marks, run-rule, run-backs, run-sum, pick-passes, run-passes}
 use Rattle.script.specs.Bytes.{Bytes}
 use Rattle.script.specs.Jobs.{Job}
 use Rattle.script.specs.Outcome.{Outcome, refused, done, mapped}
@@ -159,7 +161,7 @@ module _ (job : List ℕ) (j : Job) (b : Bytes job) (accepted : readJob job ≡ 
   any-backs : (s : State) → Fits its s → Typed s → (i n : ℕ) → Exists s i → CommitsPassed its (s .threads) n → (m : ℕ) → m ≤ n → (m ≡ n → (v : ℕ) → stale (threadAt s i) (s .registers) v ≡ false) → Fits its (record { registers = s .registers; threads = set (s .threads) i (withRule (threadAt s i .rule) m (threadAt s i)) })
   any-backs s f y i n e p m l g =
       let q = passed-once p (f .passed) in
-      numbers-free c (outer c) s f y i e (threadAt s i .rule) m (record { not-above = omega arith; not-stale = λ z v. stale-by (threadAt s i) (withRule (threadAt s i .rule) m (threadAt s i)) (s .registers) refl refl v (g (z ∙ sym q) v) })
+      numbers-free c (outer c) s f y i e (threadAt s i .rule) m (record { not-above = omega arith; not-stale = λ z v. stale-by (threadAt s i) (withRule (threadAt s i .rule) m (threadAt s i)) (s .registers) refl refl v (g (let w : m ≡ n = omega (arith, z, q) in w) v) })
 
   above : (s : State) (n i : ℕ) → CommitsPassed its (s .threads) n → Exists s i → n < threadAt s i .backs → Fits its s → ⊥
   above s n i p e l f =
@@ -168,7 +170,9 @@ module _ (job : List ℕ) (j : Job) (b : Bytes job) (accepted : readJob job ≡ 
       absurd (omega arith)
 
   stale-equal : (s : State) (n i v : ℕ) → CommitsPassed its (s .threads) n → Exists s i → threadAt s i .backs ≡ n → stale (threadAt s i) (s .registers) v ≡ true → Fits its s → ⊥
-  stale-equal s n i v p e q x f = never x (f .tallied i e .not-stale (q ∙ passed-once p (f .passed)) v)
+  stale-equal s n i v p e q x f =
+      let a = passed-once p (f .passed) in
+      never x (f .tallied i e .not-stale (let z : threadAt s i .backs ≡ 0 + f .commits = omega arith in z) v)
 
 -- which rule moved the thread, for every accepted job
 pub rules-named : (job : List ℕ) (j : Job) → Bytes job → readJob job ≡ done j → RulesNamed j

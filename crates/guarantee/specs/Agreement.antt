@@ -15,8 +15,8 @@ use Rattle.thread.specs.Threads.{exists, stale}
 use Rattle.machine.specs.Steps.{State, threadAt, pick, toldBy, notedBy, DoesOne, FirstStale, FoundIn, fresh, run}
 use Rattle.machine.specs.Fits.{Exists, Fits, Typed}
 use Rattle.machine.specs.Answers.{sumOf}
-use Rattle.machine.specs.Source.{SThread, Halted, StepM, StepsM}
-use Rattle.machine.specs.Soup.{Carries, Soup, StandsFor, ruleOf, IsFor, First, named, ByRule, load, PickOn}
+use Rattle.source.specs.Source.{SThread, Halted, StepM, StepsM}
+use Rattle.source.specs.Soup.{Carries, Soup, StandsFor, ruleOf, IsFor, First, named, ByRule, load, PickOn}
 use Rattle.script.specs.Outcome.{done}
 use Rattle.script.specs.Jobs.{Job}
 use Rattle.script.specs.Turns.{Registers}

@@ -1,5 +1,6 @@
 -- The three demands, in the user's words. The theorems `demand-1`, `demand-2`, `demand-3` (guarantee/proofs/Demands) say that they hold.
 use Prim.Native.Nat.{ℕ, _≤_}
+use mathlib.Core.Bool.{true}
 use mathlib.Core.Logic.{_↔_}
 use mathlib.Core.Path.{_≡_}
 use mathlib.Core.List.{List, _∷_}
@@ -8,7 +9,7 @@ use lib.ListN.{length, take}
 use Rattle.guarantee.specs.Agreement.{Agreement}
 use Rattle.guarantee.specs.Histories.{Session, History, CallLists, Whole, IsOrder, SentBack}
 use Rattle.guarantee.specs.Rows.{JobAnswer, CompileAnswer, ReadBackAnswer}
-use Rattle.code.specs.Bytes.{compiled}
+use Rattle.code.specs.Bytes.{compiled, IsCode, Foreign}
 use Rattle.code.specs.Reader.{readCode}
 use Rattle.compiler.specs.CompileTo.{compileTo}
 use Rattle.decompiler.specs.ReadBackTo.{bytesOf, readBackTo}
@@ -17,23 +18,37 @@ use Rattle.delivery.specs.declared.Answer.the-variants.{Done}
 use Rattle.job.specs.Answer.{answer}
 use Rattle.job.specs.declared.Reading.{Reading}
 use Rattle.machine.specs.Answers.{sumOf, Returned, freshCall, stepCall, runCall, FreshAnswer, StepAnswer, RunAnswer}
-use Rattle.machine.specs.Fits.{Typed}
+use Rattle.machine.specs.FitTest.{fits}
+use Rattle.machine.specs.Fits.{Typed, Fits}
 use Rattle.machine.specs.Steps.{State}
 use Rattle.machine.specs.declared.FreshReply.{FreshReply}
 use Rattle.machine.specs.declared.RunReply.{RunReply}
 use Rattle.machine.specs.declared.StepReply.{StepReply}
 use Rattle.script.specs.Bytes.{Bytes}
 use Rattle.script.specs.Count.{bound}
-use Rattle.script.specs.Outcome.{done, mapped}
+use Rattle.script.specs.Outcome.{refused, done, mapped}
 use Rattle.script.specs.Jobs.{Job}
 use Rattle.script.specs.Overflows.{overflowsTurns}
 use Rattle.script.specs.Reader.{readJob}
+use Rattle.script.specs.Refusal.{IsJob, Refused}
 use Rattle.script.specs.Soup.{Same, StepOn}
 use Rattle.script.specs.Source.{StepsT, StepP}
 use Rattle.script.specs.Tree.{Tran, ValT, Proc}
 use Rattle.script.specs.Turns.{Registers, work, Script, initial, turn, idle, turned, turns, CanTake}
 use Rattle.stm.specs.Events.{Happened, order, countsOf}
 use Rattle.word.specs.Sum.{Rule}
+
+-- What `readJob`, `readCode` and `fits` say, in which the contracts and the records below speak of jobs, code and states: nobody has to read them.
+pub record Readers : Type 0 where
+  -- a job is accepted, and is this one, exactly if its bytes are this one's; it is refused as the table says
+  pub accepted : (job : List ℕ) (j : Job) → Bytes job → (readJob job ≡ done j) ↔ IsJob job j
+  pub turned-down : (job : List ℕ) (number place : ℕ) → Bytes job → (readJob job ≡ refused number place) ↔ Refused job number place
+  -- code is that of this job; it is foreign, 11 at 0, and there is no other refusal of code
+  pub taken : (code : List ℕ) (j : Job) → Bytes code → (readCode code ≡ done j) ↔ IsCode code j
+  pub foreign : (code : List ℕ) → Bytes code → (readCode code ≡ refused 11 0) ↔ Foreign code
+  pub only-foreign : (code : List ℕ) (number place : ℕ) → readCode code ≡ refused number place → (number ≡ 11) × (place ≡ 0)
+  -- a state fits
+  pub fitting : (code : List ℕ) (s : State) → Typed s → (fits code s ≡ true) ↔ Fits code s
 
 -- 1. "Each job, code, state and pick list that meets document 01's rules, lent an output long enough, is carried through to its result, always
 -- ending, inside the memory lent. Each other call is refused with the number and place document 01 gives, and no lent memory is altered."

@@ -154,6 +154,11 @@ pub record CallLists (j : Job) : Type 0 where
       (is js : List ℕ) → Bytes is → Bytes js → length is ≤ 32768 → 32768 < length js →
       (now : Session) × ((events : List Happened) × ((h : History (compiled j) now events) ×
       (callsOf h ≡ step [] (fresh (compiled j)) 0 ∷ run (compiled j) (fresh (compiled j)) js ∷ run (compiled j) (fresh (compiled j)) is ∷ [])))
+  -- after any list any bytes up to 32,768 can be run next: such a call is lent what its types allow, and is not refused
+  pub goes-on :
+      {now : Session} {events : List Happened} → History (compiled j) now events → (is : List ℕ) → Bytes is → length is ≤ 32768 →
+      Lent (run (compiled j) (now .state) is) ×
+      (comesTo (run (compiled j) (now .state) is) ≡ done (steps.run (sumOf j) (compiled j) (now .state) is))
   -- "a step by itself counts as one with a single pick"
   pub step-is-run : (code : List ℕ) (s : State) (i : ℕ) → comesTo (step code s i) ≡ comesTo (run code s (i ∷ []))
   -- a refused call leaves the state that it was lent, a taken one the state that the next must have

@@ -13,8 +13,8 @@ use Rattle.code.specs.Ops.{opAt}
 use Rattle.code.specs.Ops as code
 use Rattle.machine.specs.Answers.{sumOf, stepOf, stepCall, ruleNamed, backsOf}
 use Rattle.machine.specs.Fits.{CommitsPassed, Exists, Fits, Typed}
-use Rattle.machine.specs.Soup.{Soup, sourceRule, PickOn, ruleOf}
-use Rattle.machine.specs.Source.{SThread}
+use Rattle.source.specs.Soup.{Soup, sourceRule, PickOn, ruleOf}
+use Rattle.source.specs.Source.{SThread}
 use Rattle.machine.specs.Steps.{State, Stepped, threadAt, pick, FirstStale, FoundIn, fresh, run}
 use Rattle.script.specs.Jobs.{Job}
 use Rattle.script.specs.Outcome.{done, mapped}

@@ -15,8 +15,8 @@ use lib.Seq.{ext-getD}
 use Rattle.thread.specs.declared.Thread.{Thread}
 use Rattle.thread.specs.Threads.{zeros, blank, exists, firstStale}
 use Rattle.machine.specs.Steps.{State, threadAt, Child}
-use Rattle.machine.specs.Fits.{Walked, unmoved, Walks, starts, In, here, there, ownCode, Passed, Placed, Exists, Forked, OneThread, CommitsPassed, no-records, of-thread, of-none, BacksWithin, Fits, TypedThread, Typed}
-use Rattle.machine.specs.FitTest.{walkTo, isZero, freeFrom, free, agreesWith, placed, allZero, noneBehind, inFront, same, childrenOf, passedBy, among, allAmong, threadsOf, oneEach, commitsOf, commitsPassed, needs, allTallied, fits}
+use Rattle.machine.specs.Fits.{Walked, unmoved, Walks, starts, In, here, there, ownCode, Passed, Placed, Exists, Forked, OneThread, CommitsPassed, no-records, of-thread, of-none, BacksWithin, FitsBeside, Fits, TypedThread, Typed}
+use Rattle.machine.specs.FitTest.{walkTo, isZero, freeFrom, free, agreesWith, placed, allZero, noneBehind, inFront, same, childrenOf, passedBy, among, allAmong, threadsOf, oneEach, commitsOf, commitsPassed, needs, allTallied, fitsBeside, fits}
 use Rattle.machine.proofs.Passing.{passed-once}
 use Rattle.machine.proofs.Stale.{found-stale, none-stale, stale-none}
 use Rattle.machine.proofs.Walking.{walks-found, found-walks}
@@ -568,9 +568,9 @@ tallied-all n table (t ∷ ts) f = both (leb (needs table t) n) (allTallied n ta
 forked : (bytes : List ℕ) (s : State) (c : Child) → Parent bytes (s .threads) c → Forked bytes s c
 forked bytes s c p = record { parent = p .parent; there = p .there; passed = p .passed }
 
-is-fit : (bytes : List ℕ) (s : State) → Typed s → fits bytes s ≡ true → Fits bytes s
-unfolding fits
-is-fit bytes s y e =
+is-fit : (others : ℕ) (bytes : List ℕ) (s : State) → Typed s → fitsBeside others bytes s ≡ true → FitsBeside others bytes s
+unfolding fitsBeside
+is-fit others bytes s y e =
     let ts = s .threads in
     let cs = passedBy bytes ts in
     let b1 = eqb (length ts) 16 in
@@ -579,7 +579,7 @@ is-fit bytes s y e =
     let b4 = inFront bytes ts in
     let b5 = allAmong cs (drop 1 ts) in
     let b6 = oneEach cs ts in
-    let b7 = allTallied (commitsPassed bytes ts) (s .registers) ts in
+    let b7 = allTallied (others + commitsPassed bytes ts) (s .registers) ts in
     let e1 = second b1 (b2 && (b3 && (b4 && (b5 && (b6 && b7))))) e in
     let e2 = second b2 (b3 && (b4 && (b5 && (b6 && b7)))) e1 in
     let e3 = second b3 (b4 && (b5 && (b6 && b7))) e2 in
@@ -597,7 +597,7 @@ is-fit bytes s y e =
       no-thread = f .no-thread;
       commits = commitsPassed bytes ts;
       passed = passed-by bytes ts (f .placed);
-      tallied = λ i h. all-tallied (commitsPassed bytes ts) (s .registers) ts (second b6 b7 e5) i;
+      tallied = λ i h. all-tallied (others + commitsPassed bytes ts) (s .registers) ts (second b6 b7 e5) i;
     }
   where
     one : {c : Child} → One (s .threads) c → OneThread s c
@@ -613,9 +613,9 @@ is-fit bytes s y e =
         subst (λ (t : Thread). In (ownCode t) (passedBy bytes (s .threads))) (at-drop (s .threads) i)
         (all-in (passedBy bytes (s .threads)) (drop 1 (s .threads)) a i (ap exists (at-drop (s .threads) i) ∙ x))
 
-fit : (bytes : List ℕ) (s : State) → Fits bytes s → fits bytes s ≡ true
-unfolding fits
-fit bytes s f =
+fit : (others : ℕ) (bytes : List ℕ) (s : State) → FitsBeside others bytes s → fitsBeside others bytes s ≡ true
+unfolding fitsBeside
+fit others bytes s f =
     let ts = s .threads in
     let cs = passedBy bytes ts in
     let b1 = eqb (length ts) 16 in
@@ -624,13 +624,13 @@ fit bytes s f =
     let b4 = inFront bytes ts in
     let b5 = allAmong cs (drop 1 ts) in
     let b6 = oneEach cs ts in
-    let b7 = allTallied (commitsPassed bytes ts) (s .registers) ts in
+    let b7 = allTallied (others + commitsPassed bytes ts) (s .registers) ts in
     both b1 (b2 && (b3 && (b4 && (b5 && (b6 && b7))))) (eq-eqb (length ts) 16 (f .records))
     (both b2 (b3 && (b4 && (b5 && (b6 && b7)))) (eq-eqb (length (s .registers)) 64 (f .registers))
     (both b3 (b4 && (b5 && (b6 && b7))) (the-same (ownCode (threadAt s 0)) (record { start = 5; end = length bytes }) (f .root))
     (both b4 (b5 && (b6 && b7)) (in-front bytes ts (record { placed = f .placed; no-gap = f .no-gap; no-thread = f .no-thread }))
     (both b5 (b6 && b7) (in-all cs (drop 1 ts) children)
-    (both b6 b7 (one-each cs ts (λ c i. one c (f .one c (forked bytes s c (parent-of bytes ts c i))))) (tallied-all (commitsPassed bytes ts) (s .registers) ts tallies))))))
+    (both b6 b7 (one-each cs ts (λ c i. one c (f .one c (forked bytes s c (parent-of bytes ts c i))))) (tallied-all (others + commitsPassed bytes ts) (s .registers) ts tallies))))))
   where
     one : (c : Child) → OneThread s c → One (s .threads) c
     one c o =
@@ -640,12 +640,12 @@ fit bytes s f =
           alone = λ i h. o .alone i (record { there = h .there; own = h .own });
         }
 
-    tallies : (i : ℕ) → BacksWithin (commitsPassed bytes (s .threads)) (s .registers) (at (s .threads) i)
+    tallies : (i : ℕ) → BacksWithin (others + commitsPassed bytes (s .threads)) (s .registers) (at (s .threads) i)
     tallies i = go (exists (at (s .threads) i)) refl
       where
-        go : (b : Bool) → exists (at (s .threads) i) ≡ b → BacksWithin (commitsPassed bytes (s .threads)) (s .registers) (at (s .threads) i)
-        go true x = subst (λ (n : ℕ). BacksWithin n (s .registers) (at (s .threads) i)) (passed-once (f .passed) (passed-by bytes (s .threads) (f .placed))) (f .tallied i x)
-        go false x = subst (BacksWithin (commitsPassed bytes (s .threads)) (s .registers)) (sym (f .no-thread i x)) (tallied-blank (commitsPassed bytes (s .threads)) (s .registers))
+        go : (b : Bool) → exists (at (s .threads) i) ≡ b → BacksWithin (others + commitsPassed bytes (s .threads)) (s .registers) (at (s .threads) i)
+        go true x = subst (λ (n : ℕ). BacksWithin (others + n) (s .registers) (at (s .threads) i)) (passed-once (f .passed) (passed-by bytes (s .threads) (f .placed))) (f .tallied i x)
+        go false x = subst (BacksWithin (others + commitsPassed bytes (s .threads)) (s .registers)) (sym (f .no-thread i x)) (tallied-blank (others + commitsPassed bytes (s .threads)) (s .registers))
 
     children : (i : ℕ) → exists (at (drop 1 (s .threads)) i) ≡ true → In (ownCode (at (drop 1 (s .threads)) i)) (passedBy bytes (s .threads))
     children i x =
@@ -653,6 +653,10 @@ fit bytes s f =
         subst (λ (t : Thread). In (ownCode t) (passedBy bytes (s .threads))) (sym (at-drop (s .threads) i))
         (of-parent bytes (s .threads) (ownCode (threadAt s (suc i))) (p .parent) (p .there) (p .passed))
 
--- the test says yes exactly of the states that fit their code
+-- the test says yes exactly of the states that fit their code, beside any number of COMMITs of another job, and alone
+pub fits-beside-exactly : (others : ℕ) (bytes : List ℕ) (s : State) → Typed s → (fitsBeside others bytes s ≡ true) ↔ FitsBeside others bytes s
+fits-beside-exactly others bytes s y = (is-fit others bytes s y, fit others bytes s)
+
 pub fits-exactly : (bytes : List ℕ) (s : State) → Typed s → (fits bytes s ≡ true) ↔ Fits bytes s
-fits-exactly bytes s y = (is-fit bytes s y, fit bytes s)
+unfolding fits
+fits-exactly bytes s y = fits-beside-exactly 0 bytes s y

@@ -17,7 +17,7 @@ use Rattle.thread.specs.declared.Thread.{Thread}
 use Rattle.thread.specs.Threads.{blank, withRule, spawned, exists, stale}
 use Rattle.machine.specs.InnerStands.{registerCells}
 use Rattle.machine.specs.Steps.{State, Stepped, numberOf, threadAt, Child, movedBy}
-use Rattle.machine.specs.Fits.{Walked, Walks, starts, In, here, there, ownCode, Passed, Placed, Exists, ThreadOf, Forked, OneThread, CommitsPassed, BacksWithin, Fits, TypedThread, Typed}
+use Rattle.machine.specs.Fits.{Walked, Walks, starts, In, here, there, ownCode, Passed, Placed, Exists, ThreadOf, Forked, OneThread, CommitsPassed, BacksWithin, FitsBeside, TypedThread, Typed}
 use Rattle.machine.proofs.Numbers.{before-end, at-end, never, exists-below, in-table}
 use Rattle.machine.proofs.Walking.{walks-once}
 use Rattle.machine.proofs.Placings.{typed-spawned, placed-spawned, typed-moved, placed-moved}
@@ -38,11 +38,11 @@ unfolding spawned
 tallied-spawned m table a b = record { not-above = omega arith; not-stale = λ q. stale-none (spawned a b) table refl }
 
 -- the threads of a state that fits are those with lower numbers
-below-number : {bytes : List ℕ} (s : State) → Fits bytes s → (k : ℕ) → Exists s k → k < numberOf (s .threads)
+below-number : {bytes : List ℕ} {beside : ℕ} (s : State) → FitsBeside beside bytes s → (k : ℕ) → Exists s k → k < numberOf (s .threads)
 below-number s f k e = exists-below s (f .no-gap) k e
 
 -- the thread of a code is one
-pub same-thread : {bytes : List ℕ} (s : State) → Fits bytes s → (a b : ℕ) → Exists s a → Exists s b → ownCode (threadAt s a) ≡ ownCode (threadAt s b) → a ≡ b
+pub same-thread : {bytes : List ℕ} {beside : ℕ} (s : State) → FitsBeside beside bytes s → (a b : ℕ) → Exists s a → Exists s b → ownCode (threadAt s a) ≡ ownCode (threadAt s b) → a ≡ b
 same-thread s f zero zero x y e = refl
 same-thread s f (suc a) b x y e =
     let r = f .one (ownCode (threadAt s (suc a))) (f .child a x) in
@@ -51,7 +51,7 @@ same-thread s f zero (suc b) x y e =
     let r = f .one (ownCode (threadAt s (suc b))) (f .child b y) in
     r .alone zero (record { there = x; own = e }) ∙ sym (r .alone (suc b) (record { there = y; own = refl }))
 
-module _ {bytes : List ℕ} {j : Job} (c : IsCode bytes j) (o : Outside (compileP (j .tree) ε) 0) (s : State) (f : Fits bytes s) (y : Typed s) (i : ℕ) (e : Exists s i) (t : Thread) (ty : TypedThread t) (p : Placed bytes t) (st : t .start ≡ threadAt s i .start) (en : t .end ≡ threadAt s i .end) where
+module _ {bytes : List ℕ} {j : Job} {beside : ℕ} (c : IsCode bytes j) (o : Outside (compileP (j .tree) ε) 0) (s : State) (f : FitsBeside beside bytes s) (y : Typed s) (i : ℕ) (e : Exists s i) (t : Thread) (ty : TypedThread t) (p : Placed bytes t) (st : t .start ≡ threadAt s i .start) (en : t .end ≡ threadAt s i .end) where
   abbrev n : ℕ
   n = numberOf (s .threads)
 
@@ -204,7 +204,7 @@ module _ {bytes : List ℕ} {j : Job} (c : IsCode bytes j) (o : Outside (compile
   passed-on d q = passed-set i d t (f .passed) i-in e (f .placed i e .walks) (ap (λ (x : ℕ). not (eqb x 0)) st ∙ e) (p .walks) q
 
   -- ---- a step that is no FORK
-  module _ (table : List ℤ) (sized : length table ≡ 64) (kids : p .walked .children ≡ [] ++ old) (d : ℕ) (ahead : p .walked .commits ≡ d + f .placed i e .walked .commits) (tallies : (k : ℕ) → Exists s k → BacksWithin (d + f .commits) table (threadAt s k)) (its : BacksWithin (d + f .commits) table t) where
+  module _ (table : List ℤ) (sized : length table ≡ 64) (kids : p .walked .children ≡ [] ++ old) (d : ℕ) (ahead : p .walked .commits ≡ d + f .placed i e .walked .commits) (tallies : (k : ℕ) → Exists s k → BacksWithin (beside + (d + f .commits)) table (threadAt s k)) (its : BacksWithin (beside + (d + f .commits)) table t) where
     abbrev quiet : State
     quiet = record { registers = table; threads = set (s .threads) i t }
 
@@ -251,7 +251,7 @@ module _ {bytes : List ℕ} {j : Job} (c : IsCode bytes j) (o : Outside (compile
         go (yes l) = typed′ quiet quiet-i quiet-other [] kids k l
         go (no m) = subst TypedThread (sym (quiet-above k m)) (y k)
 
-    quiet-fits : Fits bytes quiet
+    quiet-fits : FitsBeside beside bytes quiet
     quiet-fits =
         let l = i-below in
         record {
@@ -265,11 +265,11 @@ module _ {bytes : List ℕ} {j : Job} (c : IsCode bytes j) (o : Outside (compile
           no-thread = quiet-no;
           commits = d + f .commits;
           passed = passed-on d ahead;
-          tallied = λ k h. tallied′ quiet quiet-i quiet-other [] kids table (d + f .commits) tallies its k (quiet-below k h);
+          tallied = λ k h. tallied′ quiet quiet-i quiet-other [] kids table (beside + (d + f .commits)) tallies its k (quiet-below k h);
         }
 
   -- ---- a FORK
-  module _ (table : List ℤ) (sized : length table ≡ 64) (a b : ℕ) (some : 1 ≤ a) (kids : p .walked .children ≡ record { start = a; end = b } ∷ old) (d : ℕ) (ahead : p .walked .commits ≡ d + f .placed i e .walked .commits) (tallies : (k : ℕ) → Exists s k → BacksWithin (d + f .commits) table (threadAt s k)) (its : BacksWithin (d + f .commits) table t) where
+  module _ (table : List ℤ) (sized : length table ≡ 64) (a b : ℕ) (some : 1 ≤ a) (kids : p .walked .children ≡ record { start = a; end = b } ∷ old) (d : ℕ) (ahead : p .walked .commits ≡ d + f .placed i e .walked .commits) (tallies : (k : ℕ) → Exists s k → BacksWithin (beside + (d + f .commits)) table (threadAt s k)) (its : BacksWithin (beside + (d + f .commits)) table t) where
     abbrev new : Child
     new = record { start = a; end = b }
 
@@ -416,15 +416,15 @@ module _ {bytes : List ℕ} {j : Job} (c : IsCode bytes j) (o : Outside (compile
     more-passed =
         passed-new n a b (passed-on d ahead) (ap exists (getD-set-other (s .threads) i n t blank (λ q. let l = i-below in absurd (omega arith))) ∙ at-end (s .threads)) some born-exists
 
-    more-tallied : (k : ℕ) → Exists more k → BacksWithin (d + f .commits) table (threadAt more k)
+    more-tallied : (k : ℕ) → Exists more k → BacksWithin (beside + (d + f .commits)) table (threadAt more k)
     more-tallied k h = go (place k)
       where
-        go : Place k → BacksWithin (d + f .commits) table (threadAt more k)
-        go (older l) = tallied′ more more-i more-other (new ∷ []) kids table (d + f .commits) tallies its k l
-        go (newest q) = subst (BacksWithin (d + f .commits) table) (sym (ap (threadAt more) q ∙ more-new)) (tallied-spawned (d + f .commits) table a b)
+        go : Place k → BacksWithin (beside + (d + f .commits)) table (threadAt more k)
+        go (older l) = tallied′ more more-i more-other (new ∷ []) kids table (beside + (d + f .commits)) tallies its k l
+        go (newest q) = subst (BacksWithin (beside + (d + f .commits)) table) (sym (ap (threadAt more) q ∙ more-new)) (tallied-spawned (beside + (d + f .commits)) table a b)
         go (above m) = not-above k h m
 
-    more-fits : Fits bytes more
+    more-fits : FitsBeside beside bytes more
     more-fits =
         let l = i-below in
         record {
@@ -441,7 +441,7 @@ module _ {bytes : List ℕ} {j : Job} (c : IsCode bytes j) (o : Outside (compile
           tallied = more-tallied;
         }
 
-  born-keeps : (table : List ℤ) → length table ≡ 64 → (d : ℕ) → p .walked .commits ≡ d + f .placed i e .walked .commits → ((k : ℕ) → Exists s k → BacksWithin (d + f .commits) table (threadAt s k)) → BacksWithin (d + f .commits) table t → (ks : List Code) (born : List Child) (ts : List Thread) → p .walked .children ≡ born ++ old → Born bytes (set (s .threads) i t) n ks born ts → Fits bytes (record { registers = table; threads = ts }) × Typed (record { registers = table; threads = ts })
+  born-keeps : (table : List ℤ) → length table ≡ 64 → (d : ℕ) → p .walked .commits ≡ d + f .placed i e .walked .commits → ((k : ℕ) → Exists s k → BacksWithin (beside + (d + f .commits)) table (threadAt s k)) → BacksWithin (beside + (d + f .commits)) table t → (ks : List Code) (born : List Child) (ts : List Thread) → p .walked .children ≡ born ++ old → Born bytes (set (s .threads) i t) n ks born ts → FitsBeside beside bytes (record { registers = table; threads = ts }) × Typed (record { registers = table; threads = ts })
   born-keeps table sized d ahead tallies its ks born ts kids nobody = (quiet-fits table sized kids d ahead tallies its, quiet-typed table sized kids d ahead tallies its)
   born-keeps table sized d ahead tallies its ks born ts kids (child a b r q l) = (more-fits table sized a b l kids d ahead tallies its, more-typed table sized a b l kids d ahead tallies its)
 
@@ -521,21 +521,25 @@ more-plus : (b : Bool) (n : ℕ) → oneMore b n ≡ oneMore b 0 + n
 more-plus true n = omega arith
 more-plus false n = omega arith
 
+-- so many more are passed beside the others' too
+past-others : (a b n : ℕ) {table : List ℤ} {t : Thread} → BacksWithin (a + (b + n)) table t → BacksWithin (b + (a + n)) table t
+past-others a b n {table} {t} = subst (λ (m : ℕ). BacksWithin m table t) (let z : a + (b + n) ≡ b + (a + n) = omega arith in z)
+
 -- what an instruction of a thread leaves fits the code again
-pub keeps : {bytes : List ℕ} {j : Job} → IsCode bytes j → Outside (compileP (j .tree) ε) 0 → (s : State) → Fits bytes s → Typed s → (i : ℕ) → Exists s i → (q : Placed bytes (threadAt s i)) (r : Stepped) (d : Did registerCells) → length (d .table) ≡ 64 → Simulated bytes s i (threadAt s i) (q .walked) r d → Fits bytes (r .state) × Typed (r .state)
+pub keeps : {bytes : List ℕ} {j : Job} {beside : ℕ} → IsCode bytes j → Outside (compileP (j .tree) ε) 0 → (s : State) → FitsBeside beside bytes s → Typed s → (i : ℕ) → Exists s i → (q : Placed bytes (threadAt s i)) (r : Stepped) (d : Did registerCells) → length (d .table) ≡ 64 → Simulated bytes s i (threadAt s i) (q .walked) r d → FitsBeside beside bytes (r .state) × Typed (r .state)
 unfolding placed-moved
-keeps {bytes} c o s f y i e q r d sized x =
+keeps {bytes} {j} {beside} c o s f y i e q r d sized x =
     let w : q .walked ≡ f .placed i e .walked = walks-once bytes (threadAt s i .start) (threadAt s i .end) (q .walks) (f .placed i e .walks) in
     let k : x .placed .walked .children ≡ x .born ++ f .placed i e .walked .children = subst (λ (v : Walked). x .placed .walked .children ≡ x .born ++ v .children) w (x .kids) in
     let a : x .placed .walked .commits ≡ oneMore (isCommit (r .event)) 0 + f .placed i e .walked .commits = x .commits ∙ (more-plus (isCommit (r .event)) (q .walked .commits) ∙ ap (λ (v : Walked). oneMore (isCommit (r .event)) 0 + v .commits) w) in
     born-keeps c o s f y i e (movedBy (r .event) (x .thread)) (typed-moved _ _ (x .thread) (x .typed)) (placed-moved _ _ (x .thread) (x .placed)) (x .start) (x .end) (r .state .registers) (ap length (x .registers) ∙ sized)
     (oneMore (isCommit (r .event)) 0) a
-    (λ m h. others-tally (s .registers) (r .state .registers) (f .commits) (r .event) (x .still) (threadAt s m) (f .tallied m h))
-    (its-tally (s .registers) (r .state .registers) (f .commits) (threadAt s i) (x .thread) (f .tallied i e) (x .backs) (x .calm) (r .event) (x .still) (x .sent-back))
+    (λ m h. past-others (oneMore (isCommit (r .event)) 0) beside (f .commits) (others-tally (s .registers) (r .state .registers) (beside + f .commits) (r .event) (x .still) (threadAt s m) (f .tallied m h)))
+    (past-others (oneMore (isCommit (r .event)) 0) beside (f .commits) (its-tally (s .registers) (r .state .registers) (beside + f .commits) (threadAt s i) (x .thread) (f .tallied i e) (x .backs) (x .calm) (r .event) (x .still) (x .sent-back)))
     (d .children) (x .born) (r .state .threads) k (x .threads)
 
 -- and passes a COMMIT if that takes effect
-pub keeps-passed : {bytes : List ℕ} {j : Job} → IsCode bytes j → Outside (compileP (j .tree) ε) 0 → (s : State) → (f : Fits bytes s) → Typed s → (i : ℕ) → Exists s i → (q : Placed bytes (threadAt s i)) (r : Stepped) (d : Did registerCells) → Simulated bytes s i (threadAt s i) (q .walked) r d → CommitsPassed bytes (r .state .threads) (oneMore (isCommit (r .event)) (f .commits))
+pub keeps-passed : {bytes : List ℕ} {j : Job} {beside : ℕ} → IsCode bytes j → Outside (compileP (j .tree) ε) 0 → (s : State) → (f : FitsBeside beside bytes s) → Typed s → (i : ℕ) → Exists s i → (q : Placed bytes (threadAt s i)) (r : Stepped) (d : Did registerCells) → Simulated bytes s i (threadAt s i) (q .walked) r d → CommitsPassed bytes (r .state .threads) (oneMore (isCommit (r .event)) (f .commits))
 unfolding placed-moved
 keeps-passed {bytes} c o s f y i e q r d x =
     let w : q .walked ≡ f .placed i e .walked = walks-once bytes (threadAt s i .start) (threadAt s i .end) (q .walks) (f .placed i e .walks) in
@@ -544,17 +548,17 @@ keeps-passed {bytes} c o s f y i e q r d x =
     (born-commits c o s f y i e (movedBy (r .event) (x .thread)) (typed-moved _ _ (x .thread) (x .typed)) (placed-moved _ _ (x .thread) (x .placed)) (x .start) (x .end) (oneMore (isCommit (r .event)) 0) a (d .children) (x .born) (r .state .threads) (x .threads))
 
 -- a thread's last rule is free, and its number of send-backs as far as the COMMITs passed allow
-pub numbers-free : {bytes : List ℕ} {j : Job} → IsCode bytes j → Outside (compileP (j .tree) ε) 0 → (s : State) → (f : Fits bytes s) → Typed s → (i : ℕ) → Exists s i → (rule backs : ℕ) → BacksWithin (f .commits) (s .registers) (withRule rule backs (threadAt s i)) → Fits bytes (record { registers = s .registers; threads = set (s .threads) i (withRule rule backs (threadAt s i)) })
+pub numbers-free : {bytes : List ℕ} {j : Job} {beside : ℕ} → IsCode bytes j → Outside (compileP (j .tree) ε) 0 → (s : State) → (f : FitsBeside beside bytes s) → Typed s → (i : ℕ) → Exists s i → (rule backs : ℕ) → BacksWithin (beside + f .commits) (s .registers) (withRule rule backs (threadAt s i)) → FitsBeside beside bytes (record { registers = s .registers; threads = set (s .threads) i (withRule rule backs (threadAt s i)) })
 unfolding placed-moved
-numbers-free c o s f y i e rule backs x =
+numbers-free {bytes} {j} {beside} c o s f y i e rule backs x =
     quiet-fits c o s f y i e (withRule rule backs (threadAt s i)) (typed-moved rule backs (threadAt s i) (y i)) (placed-moved rule backs (threadAt s i) (f .placed i e)) refl refl (s .registers) (f .registers) refl
     0 (omega arith) (λ k h. same (f .tallied k h)) (same x)
   where
-    same : {t : Thread} → BacksWithin (f .commits) (s .registers) t → BacksWithin (0 + f .commits) (s .registers) t
-    same {t} = subst (λ (n : ℕ). BacksWithin n (s .registers) t) (let z : f .commits ≡ 0 + f .commits = omega arith in z)
+    same : {t : Thread} → BacksWithin (beside + f .commits) (s .registers) t → BacksWithin (beside + (0 + f .commits)) (s .registers) t
+    same {t} = subst (λ (n : ℕ). BacksWithin n (s .registers) t) (let z : beside + f .commits ≡ beside + (0 + f .commits) = omega arith in z)
 
 -- and where it forks a child, there is a record for it
-pub has-room : {bytes : List ℕ} {j : Job} → IsCode bytes j → Outside (compileP (j .tree) ε) 0 → (s : State) → Fits bytes s → Typed s → (i : ℕ) → Exists s i → (q : Placed bytes (threadAt s i)) (r : Stepped) (d : Did registerCells) → Simulated bytes s i (threadAt s i) (q .walked) r d → (k : Code) → d .children ≡ k ∷ [] → numberOf (s .threads) < 16
+pub has-room : {bytes : List ℕ} {j : Job} {beside : ℕ} → IsCode bytes j → Outside (compileP (j .tree) ε) 0 → (s : State) → FitsBeside beside bytes s → Typed s → (i : ℕ) → Exists s i → (q : Placed bytes (threadAt s i)) (r : Stepped) (d : Did registerCells) → Simulated bytes s i (threadAt s i) (q .walked) r d → (k : Code) → d .children ≡ k ∷ [] → numberOf (s .threads) < 16
 unfolding placed-moved
 has-room {bytes} c o s f y i e q r d x k z = go (d .children) (x .born) (r .state .threads) (x .threads) (x .kids) z
   where

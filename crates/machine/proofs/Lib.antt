@@ -1,4 +1,4 @@
--- Theorems of the machine: which picks do what, the fit and its test, what steps keep, and the agreement with the source.
+-- Theorems of the machine: which picks do what, the fit and its test, what steps keep.
 pub mod Picks
 pub mod Walking
 pub mod FitTests
@@ -15,9 +15,6 @@ pub mod Regions
 pub mod Keeps
 pub mod Fresh
 pub mod Runs
-pub mod Rules
-pub mod Carryings
-pub mod Soups
 pub mod Calls
 pub mod Agrees
 pub mod Ranges

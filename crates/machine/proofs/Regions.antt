@@ -15,7 +15,7 @@ use Rattle.script.specs.Bytes.{bytes16}
 use Rattle.script.specs.Outcome.{done}
 use Rattle.script.specs.Jobs.{Job}
 use Rattle.machine.specs.Steps.{State, threadAt, Child}
-use Rattle.machine.specs.Fits.{Walked, walkOp, nextPlace, Walks, starts, passes, In, here, there, ownCode, Exists, Forked, Fits, Typed}
+use Rattle.machine.specs.Fits.{Walked, walkOp, nextPlace, Walks, starts, passes, In, here, there, ownCode, Exists, Forked, FitsBeside, Typed}
 use Rattle.machine.proofs.Walking.{same-op, not-before}
 use Rattle.machine.specs.InnerStands.{opOf, Ready}
 use Rattle.machine.proofs.Codes.{next-place, stands-end, ready-op, ready-next, ready-child, code-ready}
@@ -235,7 +235,7 @@ PartOf bytes j x = Part bytes (compileP (j .tree) ε) 5 (rootOf bytes) x
 abbrev pub LinkOf : List ℕ → Job → (a x : Child) → Type 0
 LinkOf bytes j a x = Link (compileP (j .tree) ε) 5 (rootOf bytes) a x
 
-module _ {bytes : List ℕ} {j : Job} (c : IsCode bytes j) (o : Outside (compileP (j .tree) ε) 0) (s : State) (f : Fits bytes s) where
+module _ {bytes : List ℕ} {j : Job} {beside : ℕ} (c : IsCode bytes j) (o : Outside (compileP (j .tree) ε) 0) (s : State) (f : FitsBeside beside bytes s) where
   root-part : PartOf bytes j (rootOf bytes)
   root-part = record { code = compileP (j .tree) ε; ready = code-ready c; outer = o; links = λ a y l. l }
 

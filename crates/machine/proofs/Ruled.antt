@@ -16,7 +16,6 @@ use Rattle.code.specs.Ops.{Op}
 use Rattle.code.specs.Ops as code
 use Rattle.machine.specs.Answers.{backsOf}
 use Rattle.machine.specs.Fits.{CommitsPassed, Exists, Fits, Typed}
-use Rattle.machine.specs.Soup.{Name, named, sourceRule}
 use Rattle.machine.specs.Steps.{State, Stepped, Acted, Child, threadAt, numberOf, committing, commit, ruled, perform, act, seated, settle, instruction, pick, run}
 use Rattle.machine.proofs.Agrees.{outer, does-one, step-fits}
 use Rattle.machine.proofs.Runs.{mirror, pick-keeps}
@@ -35,21 +34,6 @@ never-some e = absurd (let z : _≡_ {A = ℕ} 0 1 = cc in omega arith)
 
 same-rule : {a b : MachineRule} → _≡_ {A = Option MachineRule} (some a) (some b) → a ≡ b
 same-rule e = cc
-
--- the source's rule of an event is that of its machine rule
-pub named-used : (e : Event) (m : MachineRule) → usedBy e ≡ some m → named e ≡ some (sourceRule m)
-unfolding usedBy sourceRule
-named-used idle m q = never-some q
-named-used pushed m q = ap (λ (r : MachineRule). some (sourceRule r)) (same-rule q)
-named-used (summed inside) m q = ap (λ (r : MachineRule). some (sourceRule r)) (same-rule q)
-named-used forked m q = ap (λ (r : MachineRule). some (sourceRule r)) (same-rule q)
-named-used begun m q = ap (λ (r : MachineRule). some (sourceRule r)) (same-rule q)
-named-used (looked fromWrites) m q = ap (λ (r : MachineRule). some (sourceRule r)) (same-rule q)
-named-used (looked fromReads) m q = ap (λ (r : MachineRule). some (sourceRule r)) (same-rule q)
-named-used (looked fromTable) m q = ap (λ (r : MachineRule). some (sourceRule r)) (same-rule q)
-named-used wrote m q = ap (λ (r : MachineRule). some (sourceRule r)) (same-rule q)
-named-used committed m q = ap (λ (r : MachineRule). some (sourceRule r)) (same-rule q)
-named-used (sentBack v) m q = ap (λ (r : MachineRule). some (sourceRule r)) (same-rule q)
 
 -- a send-back's rule is of no other event, nor is a READ's
 pub back-used : (e : Event) (v : ℕ) → usedBy e ≡ some (sentBackWith v) → e ≡ sentBack v

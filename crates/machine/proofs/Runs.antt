@@ -12,7 +12,7 @@ use Rattle.thread.specs.declared.Thread.{Thread}
 use Rattle.thread.specs.Threads.{readLog, writeLog}
 use Rattle.machine.specs.Steps.{State, Stepped, numberOf, threadAt, pick, run}
 use Rattle.stm.specs.Events.{Event, idle, isCommit, more, Happened}
-use Rattle.machine.specs.Fits.{CommitsPassed, Exists, Placed, Fits, Typed}
+use Rattle.machine.specs.Fits.{CommitsPassed, Exists, Placed, FitsBeside, Typed}
 use Rattle.machine.specs.InnerStands.{registerCells, Ready}
 use Rattle.machine.specs.Stands.{stackFrom}
 use Rattle.machine.proofs.Shapes.{Shape, out, open′ as shape-open, shape}
@@ -69,7 +69,7 @@ row P (suc n) f =
 
 module _ {bytes : List ℕ} {j : Job} (c : IsCode bytes j) (o : Outside (compileP (j .tree) ε) 0) where
   -- every fitting state shows a system
-  pub mirror : (s : State) → Fits bytes s → Typed s → (sys : System registerCells) × Mirrors bytes s sys
+  pub mirror : {beside : ℕ} (s : State) → FitsBeside beside bytes s → Typed s → (sys : System registerCells) × Mirrors bytes s sys
   mirror s f y =
       let r = row (λ i t. Shows bytes (threadAt s i) t) (numberOf (s .threads)) (λ i l. shows-of (held c o s f y i (below-exists s i l))) in (
         record { table = s .registers; tasks = r .tasks },
@@ -80,7 +80,7 @@ module _ {bytes : List ℕ} {j : Job} (c : IsCode bytes j) (o : Outside (compile
   childless sum s sys i d k e = absurd (let q : _≡_ {A = List Code} [] (k ∷ []) = sym (ap (λ (x : Did registerCells). x .children) d) ∙ e in let z : _≡_ {A = ℕ} 0 1 = cc in omega arith)
 
   -- a forked child has a record
-  pub room-for : (sum : Rule) (s : State) (sys : System registerCells) → Fits bytes s → Typed s → Mirrors bytes s sys → (i : ℕ) (k : Code) → did registerCells sum sys i .children ≡ k ∷ [] → numberOf (s .threads) < 16
+  pub room-for : {beside : ℕ} (sum : Rule) (s : State) (sys : System registerCells) → FitsBeside beside bytes s → Typed s → Mirrors bytes s sys → (i : ℕ) (k : Code) → did registerCells sum sys i .children ≡ k ∷ [] → numberOf (s .threads) < 16
   room-for sum s sys f y m i = go (decLt i (length (sys .tasks)))
     where
       by : (e : Exists s i) (h : Held bytes (threadAt s i)) → Picked bytes sum s sys i (h .placed .walked) → (k : Code) → did registerCells sum sys i .children ≡ k ∷ [] → numberOf (s .threads) < 16
@@ -94,16 +94,16 @@ module _ {bytes : List ℕ} {j : Job} (c : IsCode bytes j) (o : Outside (compile
       go (no l) = childless sum s sys i (idle-missing bytes sum s sys m (f .no-gap) i (omega arith) .1)
 
   -- a pick leaves a state that fits and a system that it shows, with the same event and the same sums told
-  pub record Kept (sum : Rule) (s : State) (sys : System registerCells) (i : ℕ) : Type 0 where
+  pub record Kept (beside : ℕ) (sum : Rule) (s : State) (sys : System registerCells) (i : ℕ) : Type 0 where
     pub event : pick sum bytes s i .event ≡ did registerCells sum sys i .event
     pub over : pick sum bytes s i .over ≡ did registerCells sum sys i .over
     pub mirrors : Mirrors bytes (pick sum bytes s i .state) (next registerCells sum sys i)
-    pub fits : Fits bytes (pick sum bytes s i .state)
+    pub fits : FitsBeside beside bytes (pick sum bytes s i .state)
     pub typed : Typed (pick sum bytes s i .state)
     pub passed : (n : ℕ) → CommitsPassed bytes (s .threads) n → CommitsPassed bytes (pick sum bytes s i .state .threads) (more (isCommit (pick sum bytes s i .event)) n)
 
-  pub pick-keeps : (sum : Rule) (s : State) (sys : System registerCells) → Fits bytes s → Typed s → Mirrors bytes s sys → (i : ℕ) → Kept sum s sys i
-  pick-keeps sum s sys f y m i = go (decLt i (length (sys .tasks)))
+  pub pick-keeps : {beside : ℕ} (sum : Rule) (s : State) (sys : System registerCells) → FitsBeside beside bytes s → Typed s → Mirrors bytes s sys → (i : ℕ) → Kept beside sum s sys i
+  pick-keeps {beside} sum s sys f y m i = go (decLt i (length (sys .tasks)))
     where
       long : length (sys .table) ≡ 64
       long = ap length (sym (m .table)) ∙ f .registers
@@ -114,35 +114,35 @@ module _ {bytes : List ℕ} {j : Job} (c : IsCode bytes j) (o : Outside (compile
       Passes : Stepped → Type 0
       Passes r = (n : ℕ) → CommitsPassed bytes (s .threads) n → CommitsPassed bytes (r .state .threads) (more (isCommit (r .event)) n)
 
-      all : Fits bytes (pick sum bytes s i .state) → Typed (pick sum bytes s i .state) → Passes (pick sum bytes s i) → Kept sum s sys i
+      all : FitsBeside beside bytes (pick sum bytes s i .state) → Typed (pick sum bytes s i .state) → Passes (pick sum bytes s i) → Kept beside sum s sys i
       all g z k =
           let x = pick-mirrors bytes sum s sys m (f .no-gap) i (holds i) (room-for sum s sys f y m i) in
           record { event = x .event; over = x .over; mirrors = x .mirrors; fits = g; typed = z; passed = k }
 
-      same-state : pick sum bytes s i ≡ record { state = s; event = idle; over = 0 } → Kept sum s sys i
-      same-state p = all (subst (λ (x : Stepped). Fits bytes (x .state)) (sym p) f) (subst (λ (x : Stepped). Typed (x .state)) (sym p) y) (subst Passes (sym p) (λ n x. x))
+      same-state : pick sum bytes s i ≡ record { state = s; event = idle; over = 0 } → Kept beside sum s sys i
+      same-state p = all (subst (λ (x : Stepped). FitsBeside beside bytes (x .state)) (sym p) f) (subst (λ (x : Stepped). Typed (x .state)) (sym p) y) (subst Passes (sym p) (λ n x. x))
 
-      by : (e : Exists s i) (h : Held bytes (threadAt s i)) → Picked bytes sum s sys i (h .placed .walked) → Kept sum s sys i
+      by : (e : Exists s i) (h : Held bytes (threadAt s i)) → Picked bytes sum s sys i (h .placed .walked) → Kept beside sum s sys i
       by e h (stood p d) = same-state p
       by e h (went r p there x) =
           let k = keeps c o s f y i e (h .placed) r (did registerCells sum sys i) (step-length registerCells sum (sys .table) (taskAt registerCells sys i) ∙ long) x in
-          all (subst (λ (q : Stepped). Fits bytes (q .state)) (sym p) (k .0)) (subst (λ (q : Stepped). Typed (q .state)) (sym p) (k .1))
+          all (subst (λ (q : Stepped). FitsBeside beside bytes (q .state)) (sym p) (k .0)) (subst (λ (q : Stepped). Typed (q .state)) (sym p) (k .1))
           (subst Passes (sym p) (λ n z. subst (λ (m : ℕ). CommitsPassed bytes (r .state .threads) (more (isCommit (r .event)) m)) (passed-once (f .passed) z) (keeps-passed c o s f y i e (h .placed) r (did registerCells sum sys i) x)))
 
-      go : Dec (i < length (sys .tasks)) → Kept sum s sys i
+      go : Dec (i < length (sys .tasks)) → Kept beside sum s sys i
       go (yes l) =
           let e = below-exists s i (subst (λ (n : ℕ). i < n) (sym (m .number)) l) in
           by e (holds i e) (works bytes sum s sys m i l (holds i e))
       go (no l) = let x = idle-missing bytes sum s sys m (f .no-gap) i (omega arith) in same-state (x .0)
 
   -- and so does a run of picks
-  pub record Run (sum : Rule) (s : State) (sys : System registerCells) (is : List ℕ) : Type 0 where
+  pub record Run (beside : ℕ) (sum : Rule) (s : State) (sys : System registerCells) (is : List ℕ) : Type 0 where
     pub events : run sum bytes s is .events ≡ eventsOf registerCells sum sys is
     pub mirrors : Mirrors bytes (run sum bytes s is .state) (endOf registerCells sum sys is)
-    pub fits : Fits bytes (run sum bytes s is .state)
+    pub fits : FitsBeside beside bytes (run sum bytes s is .state)
     pub typed : Typed (run sum bytes s is .state)
 
-  pub run-keeps : (sum : Rule) (is : List ℕ) (s : State) (sys : System registerCells) → Fits bytes s → Typed s → Mirrors bytes s sys → Run sum s sys is
+  pub run-keeps : {beside : ℕ} (sum : Rule) (is : List ℕ) (s : State) (sys : System registerCells) → FitsBeside beside bytes s → Typed s → Mirrors bytes s sys → Run beside sum s sys is
   unfolding run endOf eventsOf
   run-keeps sum [] s sys f y m = record { events = refl; mirrors = m; fits = f; typed = y }
   run-keeps sum (i ∷ is) s sys f y m =

@@ -1,4 +1,5 @@
--- The test that decides whether a state fits its code. Nobody has to believe it: `fits-exactly` says that it decides `Fits`.
+-- The test that decides whether a state fits its code. Nobody has to believe it: `fits-beside-exactly` says that it decides `FitsBeside`, and
+-- `fits-exactly` that `fits` decides `Fits`.
 use Prim.Native.Nat.{ℕ, zero, suc, _+_}
 use mathlib.Core.Bool.{Bool, true, false, cond, not, _&&_, _||_}
 use mathlib.Core.List.{List, [], _∷_, _++_}
@@ -130,12 +131,17 @@ unfoldable pub allTallied : (passed : ℕ) → List ℤ → List Thread → Bool
 allTallied passed table [] = true
 allTallied passed table (t ∷ ts) = leb (needs table t) passed && allTallied passed table ts
 
-unfoldable pub fits : List ℕ → State → Bool
-fits bytes s =
+-- beside so many COMMITs passed by another job's threads
+unfoldable pub fitsBeside : (others : ℕ) → List ℕ → State → Bool
+fitsBeside others bytes s =
     eqb (length (s .threads)) 16
     && (eqb (length (s .registers)) 64
     && (same (ownCode (threadAt s 0)) (record { start = 5; end = length bytes })
     && (inFront bytes (s .threads)
     && (allAmong (passedBy bytes (s .threads)) (drop 1 (s .threads))
     && (oneEach (passedBy bytes (s .threads)) (s .threads)
-    && allTallied (commitsPassed bytes (s .threads)) (s .registers) (s .threads))))))
+    && allTallied (others + commitsPassed bytes (s .threads)) (s .registers) (s .threads))))))
+
+-- alone
+unfoldable pub fits : List ℕ → State → Bool
+fits bytes s = fitsBeside 0 bytes s

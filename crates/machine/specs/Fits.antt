@@ -156,7 +156,8 @@ pub record OneThread (s : State) (child : Child) : Type 0 where
   pub its : ThreadOf s child thread
   pub alone : (i : ℕ) → ThreadOf s child i → i ≡ thread
 
-pub record Fits (bytes : List ℕ) (s : State) : Type 0 where
+-- beside another job's threads, which have passed so many COMMITs over the same table
+pub record FitsBeside (others : ℕ) (bytes : List ℕ) (s : State) : Type 0 where
   -- "A run of other than 16 records, or a table of other than 64 registers, is a foreign state"
   pub records : length (s .threads) ≡ 16
   pub registers : length (s .registers) ≡ 64
@@ -174,7 +175,11 @@ pub record Fits (bytes : List ℕ) (s : State) : Type 0 where
   -- document 02 No. 4: each thread's number of send-backs against the COMMITs passed by all threads
   pub commits : ℕ
   pub passed : CommitsPassed bytes (s .threads) commits
-  pub tallied : (i : ℕ) → Exists s i → BacksWithin commits (s .registers) (threadAt s i)
+  pub tallied : (i : ℕ) → Exists s i → BacksWithin (others + commits) (s .registers) (threadAt s i)
+
+-- alone
+abbrev pub Fits : List ℕ → State → Type 0
+Fits bytes s = FitsBeside 0 bytes s
 
 -- ---- what every state that can be lent has by its type alone: 64 cells, 64 values in each log
 pub record TypedThread (t : Thread) : Type 0 where

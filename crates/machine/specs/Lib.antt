@@ -5,7 +5,5 @@ pub mod InnerTurn
 pub mod Fits
 pub mod FitTest
 pub mod Answers
-pub mod Source
 pub mod Stands
 pub mod InnerStands
-pub mod Soup

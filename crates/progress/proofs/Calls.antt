@@ -71,14 +71,15 @@ number-low (t ∷ ts) = go (exists t) (number-low ts)
     go false l = omega arith
 
 -- the survey of a state and the test say the same of code that is no foreign code, which is short; of foreign code neither is asked
-survey-of : {code : List ℕ} {j : Job} → IsCode code j → (s : State) → surveyFits (surveyOf (s .registers) (s .threads)) code (length (s .registers)) ≡ fits code s
-survey-of {code} c s = survey-fits code s (let l = code-short c in omega arith)
+survey-of : {code : List ℕ} {j : Job} → IsCode code j → (s : State) → surveyFits (surveyOf (s .registers) (s .threads)) code (length (s .registers)) 0 ≡ fits code s
+unfolding fits
+survey-of {code} c s = survey-fits 0 code s (let l = code-short c in omega arith)
 
-pub same-refusal : (code : List ℕ) (s : State) (n : ℕ) → Bytes code → refusalOf (readCode code) (surveyFits (surveyOf (s .registers) (s .threads)) code (length (s .registers))) n ≡ refusalOf (readCode code) (fits code s) n
+pub same-refusal : (code : List ℕ) (s : State) (n : ℕ) → Bytes code → refusalOf (readCode code) (surveyFits (surveyOf (s .registers) (s .threads)) code (length (s .registers)) 0) n ≡ refusalOf (readCode code) (fits code s) n
 unfolding refusalOf
 same-refusal code s n b = go (readCode code) refl
   where
-    go : (o : Outcome Job) → readCode code ≡ o → refusalOf o (surveyFits (surveyOf (s .registers) (s .threads)) code (length (s .registers))) n ≡ refusalOf o (fits code s) n
+    go : (o : Outcome Job) → readCode code ≡ o → refusalOf o (surveyFits (surveyOf (s .registers) (s .threads)) code (length (s .registers)) 0) n ≡ refusalOf o (fits code s) n
     go (refused number place) e = refl
     go (done j) e = ap (λ (x : Bool). refusalOf (done j) x n) (survey-of (read-is-code code j b e) s)
 
@@ -104,7 +105,7 @@ module _ (code : List ℕ) (s : State) (is : List ℕ) (b : Bytes code) (y : Typ
       let k = admits code s (length is) e in
       let c = read-is-code code (k .job) b (k .read) in
       let f = fits-exactly code s y .0 (k .fit) in
-      let n = survey-count (s .registers) (s .threads) (survey-parts (surveyOf (s .registers) (s .threads)) code (length (s .registers)) (survey-of c s ∙ k .fit) .good) in
+      let n = survey-count (s .registers) (s .threads) (survey-parts (surveyOf (s .registers) (s .threads)) code (length (s .registers)) 0 (survey-of c s ∙ k .fit) .good) in
       let few : surveyOf (s .registers) (s .threads) .count ≤ 16 = let a = number-low (s .threads) in let r = f .records in omega arith in
       let short = k .short in
       let p : Progress = beginning 0 (surveyOf (s .registers) (s .threads) .count) (length is) in
@@ -156,7 +157,7 @@ module _ (code : List ℕ) (s : State) (i : ℕ) (b : Bytes code) (y : Typed s) 
       let k = admits code s 1 e in
       let c = read-is-code code (k .job) b (k .read) in
       let f = fits-exactly code s y .0 (k .fit) in
-      let n : surveyOf (s .registers) (s .threads) .count ≡ numberOf (s .threads) = survey-count (s .registers) (s .threads) (survey-parts (surveyOf (s .registers) (s .threads)) code (length (s .registers)) (survey-of c s ∙ k .fit) .good) in
+      let n : surveyOf (s .registers) (s .threads) .count ≡ numberOf (s .threads) = survey-count (s .registers) (s .threads) (survey-parts (surveyOf (s .registers) (s .threads)) code (length (s .registers)) 0 (survey-of c s ∙ k .fit) .good) in
       let few : surveyOf (s .registers) (s .threads) .count ≤ 16 = let a = number-low (s .threads) in let r = f .records in omega arith in
       let p : Progress = beginning 0 (surveyOf (s .registers) (s .threads) .count) 1 in
       let low : Low p = record { threads = omega arith; steps = omega arith; idle = omega arith; commits = omega arith; back = omega arith; over = omega arith } in

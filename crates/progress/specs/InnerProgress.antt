@@ -199,7 +199,7 @@ unfoldable pub admitting : (code : List ℕ) → State → (picks : ℕ) → Pro
 admitting code s picks =
     admittedTo
     (readCode code)
-    (surveyFits (surveyOf (s .registers) (s .threads)) code (length (s .registers)))
+    (surveyFits (surveyOf (s .registers) (s .threads)) code (length (s .registers)) 0)
     (surveyOf (s .registers) (s .threads) .count)
     picks
 

@@ -174,12 +174,12 @@ pub fn plain(t: thread::Thread, code: &[u8], registers: &mut [i32], pick: u8, p:
 
 // Which refusal a call with code, a state and so many picks has: 0 if none.
 fn refusal(code: &[u8], survey: survey::Survey, registers: usize, picks: usize) -> usize
-    ensures { λ r. ⌜ r ≡ refusalOf (readCode (now (code .entry))) (surveyFits survey (now (code .entry)) registers) picks ⌝ }
+    ensures { λ r. ⌜ r ≡ refusalOf (readCode (now (code .entry))) (surveyFits survey (now (code .entry)) registers 0) picks ⌝ }
 {
     match scan::scan_code(code) {
         scan::Scanned::Refused(_, _) => 11,
         scan::Scanned::Job(_, _, _) => {
-            if !survey.fits(code, registers) {
+            if !survey.fits(code, registers, 0) {
                 return 12;
             }
             if picks > 32768 {
@@ -227,7 +227,7 @@ pub fn fresh_reply(refusal: usize) -> machine::FreshReply
 
 // The progress with which a call begins: no pick is to be done if it is refused.
 pub fn admitted(code: &[u8], survey: survey::Survey, registers: usize, picks: usize) -> Progress
-    ensures { λ r. ⌜ r ≡ admittedTo (readCode (now (code .entry))) (surveyFits survey (now (code .entry)) registers) (survey .count) picks ⌝ }
+    ensures { λ r. ⌜ r ≡ admittedTo (readCode (now (code .entry))) (surveyFits survey (now (code .entry)) registers 0) (survey .count) picks ⌝ }
 {
     let threads = survey.count;
     let refusal = refusal(code, survey, registers, picks);

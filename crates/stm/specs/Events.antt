@@ -32,61 +32,51 @@ unfoldable pub counted : (Event → Bool) → List Happened → ℕ
 counted f [] = 0
 counted f (h ∷ hs) = cond (f (h .event)) (suc (counted f hs)) (counted f hs)
 
+-- what is known of an event by its kind: whether it is idle, a commit, a send-back, a FORK, a turn; its number, in the order of document 02, No. 4,
+-- 0 idle, 1 to 9 from push to commit, 10 sent back; and the first stale register of a send-back, else 0. "A pick takes a turn if .. it does an
+-- ADD outside a transaction, a FORK, or a COMMIT that takes effect"
+pub record Kind : Type 0 where
+  pub idle : Bool
+  pub commit : Bool
+  pub back : Bool
+  pub fork : Bool
+  pub turn : Bool
+  pub number : ℕ
+  pub register : ℕ
+
+abbrev kind : (commit back fork turn : Bool) (number register : ℕ) → Kind
+kind c b f t n r = record { idle = false; commit = c; back = b; fork = f; turn = t; number = n; register = r }
+
+abbrev readNumber : Source → ℕ
+readNumber fromWrites = 5
+readNumber fromReads = 6
+readNumber fromTable = 7
+
+abbrev pub kindOf : Event → Kind
+kindOf idle = record { idle = true; commit = false; back = false; fork = false; turn = false; number = 0; register = 0 }
+kindOf pushed = kind false false false false 1 0
+kindOf (summed inside) = kind false false false (not inside) 2 0
+kindOf forked = kind false false true true 3 0
+kindOf begun = kind false false false false 4 0
+kindOf (looked source) = kind false false false false (readNumber source) 0
+kindOf wrote = kind false false false false 8 0
+kindOf committed = kind true false false true 9 0
+kindOf (sentBack v) = kind false true false false 10 v
+
 abbrev pub isIdle : Event → Bool
-isIdle idle = true
-isIdle pushed = false
-isIdle (summed inside) = false
-isIdle forked = false
-isIdle begun = false
-isIdle (looked source) = false
-isIdle wrote = false
-isIdle committed = false
-isIdle (sentBack v) = false
+isIdle e = kindOf e .idle
 
 abbrev pub isCommit : Event → Bool
-isCommit idle = false
-isCommit pushed = false
-isCommit (summed inside) = false
-isCommit forked = false
-isCommit begun = false
-isCommit (looked source) = false
-isCommit wrote = false
-isCommit committed = true
-isCommit (sentBack v) = false
+isCommit e = kindOf e .commit
 
 abbrev pub isBack : Event → Bool
-isBack idle = false
-isBack pushed = false
-isBack (summed inside) = false
-isBack forked = false
-isBack begun = false
-isBack (looked source) = false
-isBack wrote = false
-isBack committed = false
-isBack (sentBack v) = true
+isBack e = kindOf e .back
 
 abbrev pub isFork : Event → Bool
-isFork idle = false
-isFork pushed = false
-isFork (summed inside) = false
-isFork forked = true
-isFork begun = false
-isFork (looked source) = false
-isFork wrote = false
-isFork committed = false
-isFork (sentBack v) = false
+isFork e = kindOf e .fork
 
--- "A pick takes a turn if .. it does an ADD outside a transaction, a FORK, or a COMMIT that takes effect"
 abbrev pub isTurn : Event → Bool
-isTurn idle = false
-isTurn pushed = false
-isTurn (summed inside) = not inside
-isTurn forked = true
-isTurn begun = false
-isTurn (looked source) = false
-isTurn wrote = false
-isTurn committed = true
-isTurn (sentBack v) = false
+isTurn e = kindOf e .turn
 
 -- the order: "the numbers of the threads that took turns in it, pick after pick"
 unfoldable pub order : List Happened → List ℕ
@@ -143,31 +133,12 @@ together a b =
       over = a .over + b .over;
     }
 
--- ---- events as numbers, in the order of document 02, No. 4: 0 idle, 1 to 9 from push to commit, 10 sent back
+-- ---- events as numbers
 unfoldable pub eventNumber : Event → ℕ
-eventNumber idle = 0
-eventNumber pushed = 1
-eventNumber (summed inside) = 2
-eventNumber forked = 3
-eventNumber begun = 4
-eventNumber (looked fromWrites) = 5
-eventNumber (looked fromReads) = 6
-eventNumber (looked fromTable) = 7
-eventNumber wrote = 8
-eventNumber committed = 9
-eventNumber (sentBack v) = 10
+eventNumber e = kindOf e .number
 
--- the first stale register of a send-back, else 0
 unfoldable pub eventRegister : Event → ℕ
-eventRegister idle = 0
-eventRegister pushed = 0
-eventRegister (summed inside) = 0
-eventRegister forked = 0
-eventRegister begun = 0
-eventRegister (looked source) = 0
-eventRegister wrote = 0
-eventRegister committed = 0
-eventRegister (sentBack v) = v
+eventRegister e = kindOf e .register
 
 -- 1 if the pick took a turn, else 0
 unfoldable pub turnNumber : Event → ℕ

@@ -1,5 +1,5 @@
--- The survey of any records says exactly what the test of machine/specs/FitTest says of them, for code of fewer than 2 ^ 60 bytes. Assumes
--- nothing else.
+-- The survey of any records says exactly what the test of machine/specs/FitTest says of them, for code of fewer than 2 ^ 60 bytes and beside a
+-- number of COMMITs of another job that can be counted with its own. Assumes nothing else.
 use Prim.Native.Nat.{ℕ, zero, suc, _+_, _*_, _≤_, _<_}
 use mathlib.Core.Bool.{Bool, true, false, cond, not, _&&_, _||_}
 use mathlib.Core.Path.{_≡_, refl, sym, ap, subst, _∙_}
@@ -17,7 +17,7 @@ use Rattle.thread.specs.InnerStep.{staleRead}
 use Rattle.thread.specs.Threads.{blank, exists, firstStale}
 use Rattle.machine.specs.Steps.{State, threadAt, Child, numberOf}
 use Rattle.machine.specs.Fits.{Walked, ownCode}
-use Rattle.machine.specs.FitTest.{walkTo, free, agreesWith, placed, allZero, noneBehind, inFront, same, passedBy, among, allAmong, oneEach, commitsPassed, needs, allTallied, fits}
+use Rattle.machine.specs.FitTest.{walkTo, free, agreesWith, placed, allZero, noneBehind, inFront, same, passedBy, among, allAmong, oneEach, commitsPassed, needs, allTallied, fitsBeside}
 use Rattle.survey.specs.declared.Survey.{Survey}
 use Rattle.survey.specs.declared.Row.{Row}
 use Rattle.survey.specs.InnerRecords.{emptySurvey, zeroFrom, tidy, needIn, withTo, surveyFrom, surveyOf}
@@ -30,6 +30,7 @@ use Rattle.survey.proofs.Asking.{asked-among}
 use Rattle.survey.proofs.Judges.{agrees, agreeAll, AllJudged, all-judged, judged-all}
 use Rattle.machine.proofs.Passing.{found-low}
 use Rattle.word.specs.InnerCount.{saturated}
+use Rattle.word.proofs.Counting.{saturated-exact}
 use Rattle.word.specs.Registers.{member}
 use Rattle.word.specs.Registers as registers
 use Rattle.word.proofs.Sets.{member-none}
@@ -139,7 +140,7 @@ module _ (table : List ℤ) (wide : length table ≡ 64) (ts : List Thread) (lon
       ∙ ap (allTallied n table) (sym (drop-cons ts i blank (omega arith)))))
 
 -- ---- the whole test
-module _ (bytes : List ℕ) (ts : List Thread) (table : List ℤ) where
+module _ (others : ℕ) (bytes : List ℕ) (ts : List Thread) (table : List ℤ) where
   abbrev state : State
   state = record { registers = table; threads = ts }
 
@@ -153,10 +154,10 @@ module _ (bytes : List ℕ) (ts : List Thread) (table : List ℤ) where
     front : inFront bytes ts ≡ true
     children : allAmong (passedBy bytes ts) (drop 1 ts) ≡ true
     one : oneEach (passedBy bytes ts) ts ≡ true
-    tallied : allTallied (commitsPassed bytes ts) table ts ≡ true
+    tallied : allTallied (others + commitsPassed bytes ts) table ts ≡ true
 
-  fit-parts : fits bytes state ≡ true → FitParts
-  unfolding fits
+  fit-parts : fitsBeside others bytes state ≡ true → FitParts
+  unfolding fitsBeside
   fit-parts e =
       let e1 = second (eqb (length ts) 16) _ e in
       let e2 = second (eqb (length table) 64) _ e1 in
@@ -173,8 +174,8 @@ module _ (bytes : List ℕ) (ts : List Thread) (table : List ℤ) where
         tallied = second (oneEach (passedBy bytes ts) ts) _ e5;
       }
 
-  parts-fit : FitParts → fits bytes state ≡ true
-  unfolding fits
+  parts-fit : FitParts → fitsBeside others bytes state ≡ true
+  unfolding fitsBeside
   parts-fit p =
       both (eq-eqb (length ts) 16 (p .records))
       (both (eq-eqb (length table) 64 (p .registers)) (both (p .root) (both (p .front) (both (p .children) (both (p .one) (p .tallied))))))
@@ -184,7 +185,7 @@ module _ (bytes : List ℕ) (ts : List Thread) (table : List ℤ) where
 
   module _ (sh : Shows table ts s) (long : length ts ≡ 16) where
     owns : (i : ℕ) → ownAt (s .starts) (s .ends) i ≡ ownCode (at ts i)
-    owns i = ap (λ (r : Row). record { start = r .start; end = r .end }) (sh .rows i)
+    owns i j = record { start = sh .starts i j; end = sh .ends i j }
 
     judged : judgeAll bytes s .good ≡ true → AllJudged bytes ts long (s .starts) (s .ends) owns ts firstVerdict (judgeAll bytes s)
     unfolding judgeAll
@@ -198,23 +199,25 @@ module _ (bytes : List ℕ) (ts : List Thread) (table : List ℤ) where
     asked-is g = asked-among ts long (s .starts) (s .ends) owns (passedBy bytes ts) (judgeAll bytes s .asked) (members g) 15 1 refl
 
     -- the COMMITs passed, and the records for which they are enough
-    commits-are : 16 * length bytes < 18446744073709551615 → judgeAll bytes s .good ≡ true → judgeAll bytes s .commits ≡ commitsPassed bytes ts
+    commits-are : others + 16 * length bytes < 18446744073709551615 → judgeAll bytes s .good ≡ true → judgeAll bytes s .commits ≡ commitsPassed bytes ts
     unfolding firstVerdict
     commits-are short g =
         let a : commitsPassed bytes ts ≤ 16 * length bytes = subst (λ (n : ℕ). commitsPassed bytes ts ≤ n * length bytes) long (found-low bytes ts) in
         judged g .counts (omega arith) ∙ (let z : 0 + commitsPassed bytes ts ≡ commitsPassed bytes ts = omega arith in z)
 
-    met-is : 16 * length bytes < 18446744073709551615 → length table ≡ 64 → judgeAll bytes s .good ≡ true → allMet 16 0 (s .needs) (judgeAll bytes s .commits) ≡ allTallied (commitsPassed bytes ts) table ts
+    met-is : others + 16 * length bytes < 18446744073709551615 → length table ≡ 64 → judgeAll bytes s .good ≡ true → allMet 16 0 (s .needs) (saturated others (judgeAll bytes s .commits)) ≡ allTallied (others + commitsPassed bytes ts) table ts
     met-is short wide g =
         let a : commitsPassed bytes ts ≤ 16 * length bytes = subst (λ (n : ℕ). commitsPassed bytes ts ≤ n * length bytes) long (found-low bytes ts) in
-        ap (allMet 16 0 (s .needs)) (commits-are short g) ∙ met-tallied table wide ts long (s .needs) (sh .needs) (commitsPassed bytes ts) (omega arith) 16 0 refl
+        ap (λ (n : ℕ). allMet 16 0 (s .needs) (saturated others n)) (commits-are short g)
+        ∙ (ap (allMet 16 0 (s .needs)) (saturated-exact others (commitsPassed bytes ts) (omega arith))
+        ∙ met-tallied table wide ts long (s .needs) (sh .needs) (others + commitsPassed bytes ts) (omega arith) 16 0 refl)
 
     root-is : same (ownAt (s .starts) (s .ends) 0) whole ≡ same (ownCode (threadAt state 0)) whole
     root-is = ap (λ (c : Child). same c whole) (owns 0)
 
-  there : 16 * length bytes < 18446744073709551615 → surveyFits s bytes (length table) ≡ true → fits bytes state ≡ true
+  there : others + 16 * length bytes < 18446744073709551615 → surveyFits s bytes (length table) others ≡ true → fitsBeside others bytes state ≡ true
   there short e =
-      let p = survey-parts s bytes (length table) e in
+      let p = survey-parts s bytes (length table) others e in
       let sh = survey-shows table ts (p .good) in
       let long : length ts ≡ 16 = sym (sh .seen) ∙ p .seen in
       let j = judged sh long (p .judged) in
@@ -229,7 +232,7 @@ module _ (bytes : List ℕ) (ts : List Thread) (table : List ℤ) where
         tallied = sym (met-is sh long short (p .table) (p .judged)) ∙ p .met;
       })
 
-  back : 16 * length bytes < 18446744073709551615 → fits bytes state ≡ true → surveyFits s bytes (length table) ≡ true
+  back : others + 16 * length bytes < 18446744073709551615 → fitsBeside others bytes state ≡ true → surveyFits s bytes (length table) others ≡ true
   unfolding judgeAll firstVerdict
   back short e =
       let p = fit-parts e in
@@ -237,7 +240,7 @@ module _ (bytes : List ℕ) (ts : List Thread) (table : List ℤ) where
       let long = p .records in
       let sh = survey-shows table ts (survey-good table ts (omega arith) (f .0)) in
       let g : judgeAll bytes s .good ≡ true = judged-all bytes ts long (s .starts) (s .ends) (owns sh long) (rowAt s) (sh .rows) 16 0 firstVerdict refl refl (f .1) (p .one) in
-      survey-whole s bytes (length table)
+      survey-whole s bytes (length table) others
       (record {
         good = sh .good;
         seen = sh .seen ∙ long;
@@ -248,9 +251,9 @@ module _ (bytes : List ℕ) (ts : List Thread) (table : List ℤ) where
         met = met-is sh long short (p .registers) g ∙ p .tallied;
       })
 
--- the survey of any records, any register table and any code short enough for its COMMITs to be counted says what `fits` says
-pub survey-fits : (bytes : List ℕ) (s : State) → 16 * length bytes < 18446744073709551615 → surveyFits (surveyOf (s .registers) (s .threads)) bytes (length (s .registers)) ≡ fits bytes s
-survey-fits bytes s short = alike _ _ (there bytes (s .threads) (s .registers) short) (back bytes (s .threads) (s .registers) short)
+-- the survey of any records, any register table and any code short enough for all COMMITs to be counted says what `fitsBeside` says
+pub survey-fits : (others : ℕ) (bytes : List ℕ) (s : State) → others + 16 * length bytes < 18446744073709551615 → surveyFits (surveyOf (s .registers) (s .threads)) bytes (length (s .registers)) others ≡ fitsBeside others bytes s
+survey-fits others bytes s short = alike _ _ (there others bytes (s .threads) (s .registers) short) (back others bytes (s .threads) (s .registers) short)
 
 -- a good survey has the number of threads
 pub survey-count : (table : List ℤ) (ts : List Thread) → surveyOf table ts .good ≡ true → surveyOf table ts .count ≡ numberOf ts

@@ -20,9 +20,10 @@ use Rattle.machine.specs.FitTest.{goingOn, walk, walkTo, childrenOf, commitsOf,
 use Rattle.survey.specs.declared.Row.{Row}
 use Rattle.survey.specs.declared.Walk.{Walk}
 use Rattle.survey.specs.declared.Verdict.{Verdict}
+use Rattle.survey.specs.InnerRecords.{rowOf}
 use Rattle.survey.specs.InnerWalk.{ownAt, lostWalk, marks, ones, walkOf, told, walkFrom, agreeing, unfit, judgedBy, judgeTo, judgeFrom}
 use Rattle.survey.proofs.Yes.{never, first, second, both}
-use Rattle.survey.proofs.Shows.{at, rowOf}
+use Rattle.survey.proofs.Shows.{at}
 use Rattle.survey.proofs.Asking.{or-left, Behind, no-more, one-more, marked, ones-each}
 use Rattle.word.specs.InnerCount.{saturated}
 use Rattle.word.specs.Registers.{member}

@@ -39,17 +39,17 @@ module _ (bytes starts ends : List ℕ) (r : Row) (v : Verdict) where
       judge-agrees f n q = ap (λ (k : ℕ). record { asked = w .asked; commits = k; good = true }) q ∙ (when-true (agreeing w r) _ unfit f ∙ judge-by)
 
 -- ---- the whole test
-pub record SurveyFits (s : Survey) (bytes : List ℕ) (registers : ℕ) : Type 0 where
+pub record SurveyFits (s : Survey) (bytes : List ℕ) (registers others : ℕ) : Type 0 where
   pub good : s .good ≡ true
   pub seen : s .seen ≡ 16
   pub table : registers ≡ 64
   pub root : same (ownAt (s .starts) (s .ends) 0) (record { start = 5; end = length bytes }) ≡ true
   pub judged : judgeAll bytes s .good ≡ true
   pub asked : allAsked 15 1 (s .starts) (judgeAll bytes s .asked) ≡ true
-  pub met : allMet 16 0 (s .needs) (judgeAll bytes s .commits) ≡ true
+  pub met : allMet 16 0 (s .needs) (saturated others (judgeAll bytes s .commits)) ≡ true
 
-module _ (s : Survey) (bytes : List ℕ) (registers : ℕ) where
-  pub survey-parts : surveyFits s bytes registers ≡ true → SurveyFits s bytes registers
+module _ (s : Survey) (bytes : List ℕ) (registers others : ℕ) where
+  pub survey-parts : surveyFits s bytes registers others ≡ true → SurveyFits s bytes registers others
   unfolding surveyFits
   survey-parts e =
       let e1 = second (s .good) _ e in
@@ -66,7 +66,7 @@ module _ (s : Survey) (bytes : List ℕ) (registers : ℕ) where
         met = second (judgeAll bytes s .good && allAsked 15 1 (s .starts) (judgeAll bytes s .asked)) _ e4;
       }
 
-  pub survey-whole : SurveyFits s bytes registers → surveyFits s bytes registers ≡ true
+  pub survey-whole : SurveyFits s bytes registers others → surveyFits s bytes registers others ≡ true
   unfolding surveyFits
   survey-whole p =
       both (p .good)

@@ -18,7 +18,7 @@ use Rattle.machine.specs.Steps.{numberOf}
 use Rattle.machine.specs.FitTest.{allZero, noneBehind}
 use Rattle.survey.specs.declared.Survey.{Survey}
 use Rattle.survey.specs.declared.Row.{Row}
-use Rattle.survey.specs.InnerRecords.{emptySurvey, unfitTo, passTo, putTo, tidy, needIn, withTo, surveyFrom, surveyOf}
+use Rattle.survey.specs.InnerRecords.{rowOf, noRow, emptySurvey, unfitTo, passTo, putTo, tidy, needIn, withTo, surveyFrom, surveyOf}
 use Rattle.survey.specs.InnerWalk.{rowAt}
 use Rattle.machine.proofs.Stale.{found-stale, stale-none}
 use Rattle.word.specs.InnerCount.{saturated}
@@ -33,9 +33,6 @@ tidyFront (t ∷ ts) = elim (exists t) [ true ↦ tidy t && tidyFront ts | false
 
 abbrev pub at : List Thread → ℕ → Thread
 at ts i = getD ts i blank
-
-abbrev pub rowOf : Thread → Row
-rowOf t = record { start = t .start; end = t .end; place = t .place; height = t .height; begin = t .begin; base = t .base; over = t .over }
 
 abbrev last : Thread → List Thread
 last t = t ∷ []
@@ -95,11 +92,7 @@ at-other ts t i n = go (decLt i (length ts))
 pub record Long (s : Survey) : Type 0 where
   starts : length (s .starts) ≡ 16
   ends : length (s .ends) ≡ 16
-  places : length (s .places) ≡ 16
-  heights : length (s .heights) ≡ 16
-  begins : length (s .begins) ≡ 16
-  bases : length (s .bases) ≡ 16
-  overs : length (s .overs) ≡ 16
+  rows : length (s .rows) ≡ 16
   needs : length (s .needs) ≡ 16
 
 pub record Shows (table : List ℤ) (ts : List Thread) (s : Survey) : Type 0 where
@@ -109,13 +102,15 @@ pub record Shows (table : List ℤ) (ts : List Thread) (s : Survey) : Type 0 whe
   pub count : s .count ≡ numberOf ts
   pub front : tidyFront ts ≡ true
   pub rows : (i : ℕ) → rowAt s i ≡ rowOf (at ts i)
+  pub starts : (i : ℕ) → getD (s .starts) i 0 ≡ at ts i .start
+  pub ends : (i : ℕ) → getD (s .ends) i 0 ≡ at ts i .end
   pub needs : (i : ℕ) → getD (s .needs) i 0 ≡ needIn table (at ts i)
   pub long : Long s
 
-stored : (xs : List ℕ) (k v i : ℕ) → length xs ≡ 16 → k < 16 → i ≡ k → getD (set xs k v) i 0 ≡ v
-stored xs k v i n h e = rw e (getD-set-same xs k v 0 (omega arith))
+stored : {A : Type 0} (d : A) (xs : List A) (k : ℕ) (v : A) (i : ℕ) → length xs ≡ 16 → k < 16 → i ≡ k → getD (set xs k v) i d ≡ v
+stored d xs k v i n h e = rw e (getD-set-same xs k v d (omega arith))
 
-set-long : (xs : List ℕ) (k v : ℕ) → length xs ≡ 16 → length (set xs k v) ≡ 16
+set-long : {A : Type 0} (xs : List A) (k : ℕ) (v : A) → length xs ≡ 16 → length (set xs k v) ≡ 16
 set-long xs k v n = length-set xs k v ∙ n
 
 -- a record of no thread needs none
@@ -142,49 +137,13 @@ module _ (table : List ℤ) (ts : List Thread) (s : Survey) (sh : Shows table ts
     abbrev put : Survey
     put = putTo s t (needIn table t)
 
-    put-rows : (i : ℕ) → rowAt put i ≡ rowOf (at (ts ++ last t) i)
-    unfolding putTo
-    put-rows i = go (ℕ-discrete i (s .seen))
+    -- what is kept of each record, with that of one more
+    put-each : {A : Type 0} (d : A) (g : Thread → A) (xs : List A) → length xs ≡ 16 → ((i : ℕ) → getD xs i d ≡ g (at ts i)) → (i : ℕ) → getD (set xs (s .seen) (g t)) i d ≡ g (at (ts ++ last t) i)
+    put-each {A} d g xs l was i = go (ℕ-discrete i (s .seen))
       where
-        go : Dec (i ≡ s .seen) → rowAt put i ≡ rowOf (at (ts ++ last t) i)
-        go (yes e) =
-            let l : Long s = sh .long in
-            let f : t ≡ at (ts ++ last t) i = sym (ap (at (ts ++ last t)) (e ∙ sh .seen) ∙ at-last ts t) in
-            (λ j. record {
-              start = stored (s .starts) (s .seen) (t .start) i (l .starts) h e j;
-              end = stored (s .ends) (s .seen) (t .end) i (l .ends) h e j;
-              place = stored (s .places) (s .seen) (t .place) i (l .places) h e j;
-              height = stored (s .heights) (s .seen) (t .height) i (l .heights) h e j;
-              begin = stored (s .begins) (s .seen) (t .begin) i (l .begins) h e j;
-              base = stored (s .bases) (s .seen) (t .base) i (l .bases) h e j;
-              over = stored (s .overs) (s .seen) (t .over) i (l .overs) h e j;
-            })
-            ∙ ap rowOf f
-        go (no n) =
-            let f : at ts i ≡ at (ts ++ last t) i = sym (at-other ts t i (λ x. n (x ∙ sym (sh .seen)))) in
-            (λ j. record {
-              start = getD-set-other (s .starts) (s .seen) i (t .start) 0 n j;
-              end = getD-set-other (s .ends) (s .seen) i (t .end) 0 n j;
-              place = getD-set-other (s .places) (s .seen) i (t .place) 0 n j;
-              height = getD-set-other (s .heights) (s .seen) i (t .height) 0 n j;
-              begin = getD-set-other (s .begins) (s .seen) i (t .begin) 0 n j;
-              base = getD-set-other (s .bases) (s .seen) i (t .base) 0 n j;
-              over = getD-set-other (s .overs) (s .seen) i (t .over) 0 n j;
-            })
-            ∙ (sh .rows i ∙ ap rowOf f)
-
-    put-needs : (i : ℕ) → getD (put .needs) i 0 ≡ needIn table (at (ts ++ last t) i)
-    unfolding putTo
-    put-needs i = go (ℕ-discrete i (s .seen))
-      where
-        go : Dec (i ≡ s .seen) → getD (set (s .needs) (s .seen) (needIn table t)) i 0 ≡ needIn table (at (ts ++ last t) i)
-        go (yes e) =
-            let l : Long s = sh .long in
-            let f : t ≡ at (ts ++ last t) i = sym (ap (at (ts ++ last t)) (e ∙ sh .seen) ∙ at-last ts t) in
-            stored (s .needs) (s .seen) (needIn table t) i (l .needs) h e ∙ ap (needIn table) f
-        go (no n) =
-            let f : at ts i ≡ at (ts ++ last t) i = sym (at-other ts t i (λ x. n (x ∙ sym (sh .seen)))) in
-            getD-set-other (s .needs) (s .seen) i (needIn table t) 0 n ∙ (sh .needs i ∙ ap (needIn table) f)
+        go : Dec (i ≡ s .seen) → getD (set xs (s .seen) (g t)) i d ≡ g (at (ts ++ last t) i)
+        go (yes e) = stored d xs (s .seen) (g t) i l h e ∙ ap g (sym (ap (at (ts ++ last t)) (e ∙ sh .seen) ∙ at-last ts t))
+        go (no n) = getD-set-other xs (s .seen) i (g t) d n ∙ (was i ∙ ap g (sym (at-other ts t i (λ x. n (x ∙ sym (sh .seen))))))
 
     put-shows : exists t ≡ true → s .count ≡ s .seen → tidy t ≡ true → Shows table (ts ++ last t) put
     unfolding putTo
@@ -197,42 +156,35 @@ module _ (table : List ℤ) (ts : List Thread) (s : Survey) (sh : Shows table ts
           few = omega (arith, more, room);
           count = omega (arith, sh .count, all, number-more ts t all x);
           front = tidy-more ts t (sh .front) all x y;
-          rows = put-rows;
-          needs = put-needs;
+          rows = put-each noRow rowOf (s .rows) (l .rows) (sh .rows);
+          starts = put-each 0 (λ (u : Thread). u .start) (s .starts) (l .starts) (sh .starts);
+          ends = put-each 0 (λ (u : Thread). u .end) (s .ends) (l .ends) (sh .ends);
+          needs = put-each 0 (needIn table) (s .needs) (l .needs) (sh .needs);
           long = record {
             starts = set-long (s .starts) (s .seen) (t .start) (l .starts);
             ends = set-long (s .ends) (s .seen) (t .end) (l .ends);
-            places = set-long (s .places) (s .seen) (t .place) (l .places);
-            heights = set-long (s .heights) (s .seen) (t .height) (l .heights);
-            begins = set-long (s .begins) (s .seen) (t .begin) (l .begins);
-            bases = set-long (s .bases) (s .seen) (t .base) (l .bases);
-            overs = set-long (s .overs) (s .seen) (t .over) (l .overs);
+            rows = set-long (s .rows) (s .seen) (rowOf t) (l .rows);
             needs = set-long (s .needs) (s .seen) (needIn table t) (l .needs);
           };
         }
 
-    pass-rows : Zeros t → (i : ℕ) → rowAt s i ≡ rowOf (at (ts ++ last t) i)
-    unfolding blank
-    pass-rows z i = go (ℕ-discrete i (length ts))
+    -- a record of no thread changes nothing of it
+    pass-each : {A : Type 0} (g : Thread → A) (a : ℕ → A) → g blank ≡ g t → ((i : ℕ) → a i ≡ g (at ts i)) → (i : ℕ) → a i ≡ g (at (ts ++ last t) i)
+    pass-each {A} g a z was i = go (ℕ-discrete i (length ts))
       where
-        go : Dec (i ≡ length ts) → rowAt s i ≡ rowOf (at (ts ++ last t) i)
+        go : Dec (i ≡ length ts) → a i ≡ g (at (ts ++ last t) i)
         go (yes e) =
             let f : at ts i ≡ blank = List·getD-eq-default ts blank {n = i} (omega arith) in
-            let g : t ≡ at (ts ++ last t) i = sym (ap (at (ts ++ last t)) e ∙ at-last ts t) in
-            let k : rowOf blank ≡ rowOf t = λ j. record { start = sym (z .start) j; end = sym (z .end) j; place = sym (z .place) j; height = sym (z .height) j; begin = sym (z .begin) j; base = sym (z .base) j; over = sym (z .over) j } in
-            sh .rows i ∙ (ap rowOf f ∙ (k ∙ ap rowOf g))
-        go (no n) = sh .rows i ∙ ap rowOf (sym (at-other ts t i n))
+            was i ∙ (ap g f ∙ (z ∙ ap g (sym (ap (at (ts ++ last t)) e ∙ at-last ts t))))
+        go (no n) = was i ∙ ap g (sym (at-other ts t i n))
 
-    pass-needs : Zeros t → (i : ℕ) → getD (s .needs) i 0 ≡ needIn table (at (ts ++ last t) i)
+    blank-row : Zeros t → rowOf blank ≡ rowOf t
+    unfolding blank
+    blank-row z = λ j. record { start = sym (z .start) j; end = sym (z .end) j; place = sym (z .place) j; height = sym (z .height) j; begin = sym (z .begin) j; base = sym (z .base) j; over = sym (z .over) j }
+
+    blank-need : Zeros t → needIn table blank ≡ needIn table t
     unfolding blank registers.none
-    pass-needs z i = go (ℕ-discrete i (length ts))
-      where
-        go : Dec (i ≡ length ts) → getD (s .needs) i 0 ≡ needIn table (at (ts ++ last t) i)
-        go (yes e) =
-            let f : at ts i ≡ blank = List·getD-eq-default ts blank {n = i} (omega arith) in
-            let g : t ≡ at (ts ++ last t) i = sym (ap (at (ts ++ last t)) e ∙ at-last ts t) in
-            sh .needs i ∙ (ap (needIn table) f ∙ (no-need table blank refl refl ∙ (sym (no-need table t (z .reads) (z .backs)) ∙ ap (needIn table) g)))
-        go (no n) = sh .needs i ∙ ap (needIn table) (sym (at-other ts t i n))
+    blank-need z = no-need table blank refl refl ∙ sym (no-need table t (z .reads) (z .backs))
 
     pass-shows : exists t ≡ false → allZero t ≡ true → Shows table (ts ++ last t) (passTo s)
     unfolding passTo
@@ -244,9 +196,11 @@ module _ (table : List ℤ) (ts : List Thread) (s : Survey) (sh : Shows table ts
           few = omega (arith, more, room);
           count = sh .count ∙ sym (number-none ts t x);
           front = tidy-none ts t (sh .front) x z;
-          rows = pass-rows (zeros-of t z);
-          needs = pass-needs (zeros-of t z);
-          long = record { starts = l .starts; ends = l .ends; places = l .places; heights = l .heights; begins = l .begins; bases = l .bases; overs = l .overs; needs = l .needs };
+          rows = pass-each rowOf (rowAt s) (blank-row (zeros-of t z)) (sh .rows);
+          starts = pass-each (λ (u : Thread). u .start) (λ (i : ℕ). getD (s .starts) i 0) (ap (λ (r : Row). r .start) (blank-row (zeros-of t z))) (sh .starts);
+          ends = pass-each (λ (u : Thread). u .end) (λ (i : ℕ). getD (s .ends) i 0) (ap (λ (r : Row). r .end) (blank-row (zeros-of t z))) (sh .ends);
+          needs = pass-each (needIn table) (λ (i : ℕ). getD (s .needs) i 0) (blank-need (zeros-of t z)) (sh .needs);
+          long = record { starts = l .starts; ends = l .ends; rows = l .rows; needs = l .needs };
         }
 
   unfit-bad : {A : Type 0} → unfitTo s ≡ withTo s table t → withTo s table t .good ≡ true → A
@@ -303,20 +257,19 @@ empty-shows table =
       few = omega arith;
       count = refl;
       front = refl;
-      rows = rows;
-      needs = λ i. none i ∙ sym (no-need table blank refl refl);
-      long = record { starts = refl; ends = refl; places = refl; heights = refl; begins = refl; bases = refl; overs = refl; needs = refl };
+      rows = none noRow;
+      starts = none 0;
+      ends = none 0;
+      needs = λ i. none 0 i ∙ sym (no-need table blank refl refl);
+      long = record { starts = refl; ends = refl; rows = refl; needs = refl };
     }
   where
-    none : (i : ℕ) → _≡_ {A = ℕ} (getD (replicate 16 0) i 0) 0
-    none i = go (decLt i 16)
+    none : {A : Type 0} (d : A) (i : ℕ) → getD (replicate 16 d) i d ≡ d
+    none {A} d i = go (decLt i 16)
       where
-        go : Dec (i < 16) → _≡_ {A = ℕ} (getD (replicate 16 0) i 0) 0
-        go (yes l) = getD-replicate 16 i 0 0 l
-        go (no l) = List·getD-eq-default (replicate 16 0) 0 {n = i} (let n : length {A = ℕ} (replicate 16 0) ≡ 16 = refl in omega arith)
-
-    rows : (i : ℕ) → rowAt emptySurvey i ≡ rowOf (at [] i)
-    rows i j = record { start = none i j; end = none i j; place = none i j; height = none i j; begin = none i j; base = none i j; over = none i j }
+        go : Dec (i < 16) → getD (replicate 16 d) i d ≡ d
+        go (yes l) = getD-replicate 16 i d d l
+        go (no l) = List·getD-eq-default (replicate 16 d) d {n = i} (let n : length (replicate 16 d) ≡ 16 = refl in omega arith)
 
 pub survey-shows : (table : List ℤ) (ts : List Thread) → surveyOf table ts .good ≡ true → Shows table ts (surveyOf table ts)
 unfolding surveyOf

@@ -5,6 +5,7 @@ use mathlib.Core.List.{List, [], _∷_}
 use lib.Dec.{eqb, ltb}
 use lib.IntN.{ℤ}
 use lib.ListN.{set, replicate}
+use Rattle.survey.specs.declared.Row.{Row}
 use Rattle.survey.specs.declared.Survey.{Survey}
 use Rattle.thread.specs.declared.Thread.{Thread}
 use Rattle.thread.specs.InnerStep.{staleRead}
@@ -12,17 +13,20 @@ use Rattle.machine.specs.FitTest.{free, allZero}
 use Rattle.word.specs.InnerCount.{saturated}
 use Rattle.word.specs.Registers.{member}
 
+-- the numbers of a thread's record
+abbrev pub rowOf : Thread → Row
+rowOf t = record { start = t .start; end = t .end; place = t .place; height = t .height; begin = t .begin; base = t .base; over = t .over }
+
+abbrev pub noRow : Row
+noRow = record { start = 0; end = 0; place = 0; height = 0; begin = 0; base = 0; over = 0 }
+
 -- no record came yet
 unfoldable pub emptySurvey : Survey
 emptySurvey =
     record {
       starts = replicate 16 0;
       ends = replicate 16 0;
-      places = replicate 16 0;
-      heights = replicate 16 0;
-      begins = replicate 16 0;
-      bases = replicate 16 0;
-      overs = replicate 16 0;
+      rows = replicate 16 noRow;
       needs = replicate 16 0;
       count = 0;
       seen = 0;
@@ -35,11 +39,7 @@ unfitTo s =
     record {
       starts = s .starts;
       ends = s .ends;
-      places = s .places;
-      heights = s .heights;
-      begins = s .begins;
-      bases = s .bases;
-      overs = s .overs;
+      rows = s .rows;
       needs = s .needs;
       count = s .count;
       seen = s .seen;
@@ -52,11 +52,7 @@ passTo s =
     record {
       starts = s .starts;
       ends = s .ends;
-      places = s .places;
-      heights = s .heights;
-      begins = s .begins;
-      bases = s .bases;
-      overs = s .overs;
+      rows = s .rows;
       needs = s .needs;
       count = s .count;
       seen = s .seen + 1;
@@ -69,11 +65,7 @@ putTo s t need =
     record {
       starts = set (s .starts) (s .seen) (t .start);
       ends = set (s .ends) (s .seen) (t .end);
-      places = set (s .places) (s .seen) (t .place);
-      heights = set (s .heights) (s .seen) (t .height);
-      begins = set (s .begins) (s .seen) (t .begin);
-      bases = set (s .bases) (s .seen) (t .base);
-      overs = set (s .overs) (s .seen) (t .over);
+      rows = set (s .rows) (s .seen) (rowOf t);
       needs = set (s .needs) (s .seen) need;
       count = s .count + 1;
       seen = s .seen + 1;

@@ -6,6 +6,7 @@ use mathlib.Core.Option.{Option, none, some}
 use lib.Dec.{eqb, leb, ltb}
 use lib.ListN.{length, getD}
 use Rattle.survey.specs.declared.Survey.{Survey}
+use Rattle.survey.specs.InnerRecords.{noRow}
 use Rattle.survey.specs.declared.Row.{Row}
 use Rattle.survey.specs.declared.Asked.{Asked}
 use Rattle.survey.specs.declared.Walk.{Walk}
@@ -179,16 +180,7 @@ judgeTo bytes starts ends r v =
 
 -- the numbers of record i
 abbrev pub rowAt : Survey → ℕ → Row
-rowAt s i =
-    record {
-      start = getD (s .starts) i 0;
-      end = getD (s .ends) i 0;
-      place = getD (s .places) i 0;
-      height = getD (s .heights) i 0;
-      begin = getD (s .begins) i 0;
-      base = getD (s .bases) i 0;
-      over = getD (s .overs) i 0;
-    }
+rowAt s i = getD (s .rows) i noRow
 
 -- the records from i on
 unfoldable pub judgeFrom : (bytes starts ends : List ℕ) (rows : ℕ → Row) (left i : ℕ) → Verdict → Verdict
@@ -213,11 +205,11 @@ unfoldable pub allMet : (left i : ℕ) (needs : List ℕ) (commits : ℕ) → Bo
 allMet zero i needs commits = true
 allMet (suc left) i needs commits = leb (getD needs i 0) commits && allMet left (suc i) needs commits
 
--- the whole test: 16 records, 64 registers, thread 0 with the whole code, and the threads
-unfoldable pub surveyFits : Survey → (bytes : List ℕ) (registers : ℕ) → Bool
-surveyFits s bytes registers =
+-- the whole test: 16 records, 64 registers, thread 0 with the whole code, and the threads, beside so many COMMITs passed by another job's threads
+unfoldable pub surveyFits : Survey → (bytes : List ℕ) (registers others : ℕ) → Bool
+surveyFits s bytes registers others =
     s .good
     && (eqb (s .seen) 16
     && (eqb registers 64
     && (same (ownAt (s .starts) (s .ends) 0) (record { start = 5; end = length bytes })
-    && (allJudged (judgeAll bytes s) (s .starts) && allMet 16 0 (s .needs) (judgeAll bytes s .commits)))))
+    && (allJudged (judgeAll bytes s) (s .starts) && allMet 16 0 (s .needs) (saturated others (judgeAll bytes s .commits))))))

@@ -13,11 +13,7 @@ ghost use Rattle.word.specs.Registers.{member};
 pub struct Survey {
     pub starts: [usize; 16],
     pub ends: [usize; 16],
-    pub places: [usize; 16],
-    pub heights: [usize; 16],
-    pub begins: [usize; 16],
-    pub bases: [usize; 16],
-    pub overs: [usize; 16],
+    pub rows: [Row; 16],
     // the fewest COMMITs passed by all threads with which each fits
     pub needs: [usize; 16],
     pub count: usize,
@@ -26,14 +22,14 @@ pub struct Survey {
 }
 
 // The numbers of one thread.
-struct Row {
-    start: usize,
-    end: usize,
-    place: usize,
-    height: usize,
-    begin: usize,
-    base: usize,
-    over: usize,
+pub struct Row {
+    pub start: usize,
+    pub end: usize,
+    pub place: usize,
+    pub height: usize,
+    pub begin: usize,
+    pub base: usize,
+    pub over: usize,
 }
 
 // How many records have a FORK's child code as their own, and the set of the records that were asked for.
@@ -220,14 +216,19 @@ impl Survey {
     pub fn start() -> Survey
         ensures { λ r. ⌜ r ≡ emptySurvey ⌝ }
     {
+        let row = Row {
+            start: 0,
+            end: 0,
+            place: 0,
+            height: 0,
+            begin: 0,
+            base: 0,
+            over: 0,
+        };
         Survey {
             starts: [0; 16],
             ends: [0; 16],
-            places: [0; 16],
-            heights: [0; 16],
-            begins: [0; 16],
-            bases: [0; 16],
-            overs: [0; 16],
+            rows: [row; 16],
             needs: [0; 16],
             count: 0,
             seen: 0,
@@ -260,13 +261,18 @@ impl Survey {
     {
         let seen = self.seen;
         let count = self.count;
+        let row = Row {
+            start: t.start,
+            end: t.end,
+            place: t.place,
+            height: t.height,
+            begin: t.begin,
+            base: t.base,
+            over: t.over,
+        };
         self.starts[seen] = t.start;
         self.ends[seen] = t.end;
-        self.places[seen] = t.place;
-        self.heights[seen] = t.height;
-        self.begins[seen] = t.begin;
-        self.bases[seen] = t.base;
-        self.overs[seen] = t.over;
+        self.rows[seen] = row;
         self.needs[seen] = need;
         self.count = count + 1;
         self.seen = seen + 1;
@@ -661,11 +667,7 @@ impl Survey {
     {
         let starts = self.starts;
         let ends = self.ends;
-        let places = self.places;
-        let heights = self.heights;
-        let begins = self.begins;
-        let bases = self.bases;
-        let overs = self.overs;
+        let rows = self.rows;
         let mut v = Verdict {
             asked: 0,
             commits: 0,
@@ -673,24 +675,17 @@ impl Survey {
         };
         let mut i: usize = 0;
         while i < 16 {
-            let row = Row {
-                start: starts[i],
-                end: ends[i],
-                place: places[i],
-                height: heights[i],
-                begin: begins[i],
-                base: bases[i],
-                over: overs[i],
-            };
+            let row = rows[i];
             v = v.judge(code, &starts, &ends, row);
             i += 1;
         }
         v
     }
 
-    // Whether the records that came, with so many registers, are a state that fits the code.
-    pub fn fits(self, code: &[u8], registers: usize) -> bool
-        ensures { λ r. ⌜ r ≡ surveyFits self (now (code .entry)) registers ⌝ }
+    // Whether the records that came, with so many registers, are a state that fits the code, beside so many COMMITs that another job's threads
+    // have passed over the same registers.
+    pub fn fits(self, code: &[u8], registers: usize, others: usize) -> bool
+        ensures { λ r. ⌜ r ≡ surveyFits self (now (code .entry)) registers others ⌝ }
     {
         if !self.good {
             return false;
@@ -714,6 +709,6 @@ impl Survey {
             return false;
         }
         let needs = self.needs;
-        is_all_met(&needs, v.commits)
+        is_all_met(&needs, word::saturating_add(others, v.commits))
     }
 }

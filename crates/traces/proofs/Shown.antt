@@ -89,7 +89,7 @@ module _ {bytes : List ℕ} {j : Job} (c : IsCode bytes j) (sum : Rule) (is : Li
   abbrev trace : List Moment
   trace = moments sum bytes (fresh bytes) is
 
-  keeps : Run c (outer c) sum (fresh bytes) (start registerCells (compileP (j .tree) ε)) is
+  keeps : Run c (outer c) 0 sum (fresh bytes) (start registerCells (compileP (j .tree) ε)) is
   keeps = run-keeps c (outer c) sum is (fresh bytes) (start registerCells (compileP (j .tree) ε)) (fresh-fits bytes) (fresh-typed bytes) (fresh-mirrors bytes c (outer c))
 
   fitting : (m : Moment) → Among m (moments sum bytes (fresh bytes) is) → Fitting c sum m

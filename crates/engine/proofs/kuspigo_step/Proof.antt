@@ -174,7 +174,7 @@ module _ {M : Type 1} (𝓤 : URA M) (H : Heap 𝓤) (A : Atoms 𝓤) (W : Given
 
   -- what is admitted after a survey v
   abbrev first : Survey → Progress
-  first v = admittedTo (readCode cd) (surveyFits v cd (length rs)) (v .count) 1
+  first v = admittedTo (readCode cd) (surveyFits v cd (length rs) 0) (v .count) 1
 
   -- what the triple of `gather` binds outside
   abbrev to-gather : ℕ → ℕ → GName → GName → Gather 𝓤 H A mem rn .Ghost

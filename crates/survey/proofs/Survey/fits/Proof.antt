@@ -3,6 +3,7 @@ use mathlib.Core.Path.{sym, ap, _∙_}
 use borrow.Author.Tests.{not-true, not-false}
 use Rattle.survey.specs.declared.Verdict.{Verdict}
 use Rattle.survey.specs.InnerWalk.{allAsked, allMet}
+use Rattle.word.specs.InnerCount.{saturated}
 use Rattle.survey.proofs.Yes.{is-false, alike, clash}
 use Rattle.survey.proofs.Judging.{survey-parts, survey-whole}
 use borrow.Author.Needs.{needs}
@@ -10,13 +11,13 @@ use Rattle.survey.proofs.Survey.fits.Statement.{statement}
 use Rattle.survey.proofs.Survey.fits.Tie as tie
 
 returns : tie.Need-returns
-returns c = is-false _ (λ e. clash (not-true _ (c .if1 .taken)) (survey-parts (c .before .before .before .args .self) (c .before .before .before .args .code .now) (c .before .before .before .args .registers) e .good))
+returns c = is-false _ (λ e. clash (not-true _ (c .if1 .taken)) (survey-parts (c .before .before .before .args .self) (c .before .before .before .args .code .now) (c .before .before .before .args .registers) (c .before .before .before .args .others) e .good))
 
 returns-2 : tie.Need-returns-2
-returns-2 c = is-false _ (λ e. c .if2 .taken (survey-parts (c .before .before .before .before .before .args .self) (c .before .before .before .before .before .args .code .now) (c .before .before .before .before .before .args .registers) e .seen))
+returns-2 c = is-false _ (λ e. c .if2 .taken (survey-parts (c .before .before .before .before .before .args .self) (c .before .before .before .before .before .args .code .now) (c .before .before .before .before .before .args .registers) (c .before .before .before .before .before .args .others) e .seen))
 
 returns-3 : tie.Need-returns-3
-returns-3 c = is-false _ (λ e. c .if3 .taken (survey-parts (c .before .before .before .before .before .before .args .self) (c .before .before .before .before .before .before .args .code .now) (c .before .before .before .before .before .before .args .registers) e .table))
+returns-3 c = is-false _ (λ e. c .if3 .taken (survey-parts (c .before .before .before .before .before .before .args .self) (c .before .before .before .before .before .before .args .code .now) (c .before .before .before .before .before .before .args .registers) (c .before .before .before .before .before .before .args .others) e .table))
 
 array-read-is-same : tie.Need-array-read-is-same
 array-read-is-same c = search needs
@@ -28,25 +29,35 @@ is-same-requires : tie.Need-is-same-requires
 is-same-requires c κs = search needs
 
 returns-4 : tie.Need-returns-4
-returns-4 c = is-false _ (λ e. clash (sym (c .before .is-same .ensures) ∙ not-true _ (c .if4 .taken)) (survey-parts (c .before .before .before .before .before .before .before .before .before .before .args .self) (c .before .before .before .before .before .before .before .before .before .before .args .code .now) (c .before .before .before .before .before .before .before .before .before .before .args .registers) e .root))
+returns-4 c = is-false _ (λ e. clash (sym (c .before .is-same .ensures) ∙ not-true _ (c .if4 .taken)) (survey-parts (c .before .before .before .before .before .before .before .before .before .before .args .self) (c .before .before .before .before .before .before .before .before .before .before .args .code .now) (c .before .before .before .before .before .before .before .before .before .before .args .registers) (c .before .before .before .before .before .before .before .before .before .before .args .others) e .root))
 
 judged-requires : tie.Need-judged-requires
 judged-requires c κs = search needs
 
 returns-5 : tie.Need-returns-5
-returns-5 c = is-false _ (λ e. clash (sym (ap (λ (v : Verdict). v .good) (c .before .before .judged .ensures)) ∙ not-true _ (c .if5 .taken)) (survey-parts (c .before .before .before .before .before .before .before .before .before .before .before .before .before .args .self) (c .before .before .before .before .before .before .before .before .before .before .before .before .before .args .code .now) (c .before .before .before .before .before .before .before .before .before .before .before .before .before .args .registers) e .judged))
+returns-5 c = is-false _ (λ e. clash (sym (ap (λ (v : Verdict). v .good) (c .before .before .judged .ensures)) ∙ not-true _ (c .if5 .taken)) (survey-parts (c .before .before .before .before .before .before .before .before .before .before .before .before .before .args .self) (c .before .before .before .before .before .before .before .before .before .before .before .before .before .args .code .now) (c .before .before .before .before .before .before .before .before .before .before .before .before .before .args .registers) (c .before .before .before .before .before .before .before .before .before .before .before .before .before .args .others) e .judged))
 
 is-all-asked-requires : tie.Need-is-all-asked-requires
 is-all-asked-requires c κs = search needs
 
 returns-6 : tie.Need-returns-6
-returns-6 c = is-false _ (λ e. clash (sym (c .before .is-all-asked .ensures ∙ ap (λ (v : Verdict). allAsked 15 1 (c .before .before .before .before .before .before .before .before .before .before .before .before .before .before .before .before .args .self .starts) (v .asked)) (c .before .before .before .before .before .judged .ensures)) ∙ not-true _ (c .if6 .taken)) (survey-parts (c .before .before .before .before .before .before .before .before .before .before .before .before .before .before .before .before .args .self) (c .before .before .before .before .before .before .before .before .before .before .before .before .before .before .before .before .args .code .now) (c .before .before .before .before .before .before .before .before .before .before .before .before .before .before .before .before .args .registers) e .asked))
+returns-6 c = is-false _ (λ e. clash (sym (c .before .is-all-asked .ensures ∙ ap (λ (v : Verdict). allAsked 15 1 (c .before .before .before .before .before .before .before .before .before .before .before .before .before .before .before .before .args .self .starts) (v .asked)) (c .before .before .before .before .before .judged .ensures)) ∙ not-true _ (c .if6 .taken)) (survey-parts (c .before .before .before .before .before .before .before .before .before .before .before .before .before .before .before .before .args .self) (c .before .before .before .before .before .before .before .before .before .before .before .before .before .before .before .before .args .code .now) (c .before .before .before .before .before .before .before .before .before .before .before .before .before .before .before .before .args .registers) (c .before .before .before .before .before .before .before .before .before .before .before .before .before .before .before .before .args .others) e .asked))
+
+saturating-add-requires : tie.Need-saturating-add-requires
+saturating-add-requires c κs = search needs
 
 is-all-met-requires : tie.Need-is-all-met-requires
 is-all-met-requires c κs = search needs
 
 returns-7 : tie.Need-returns-7
-returns-7 c = alike _ _ (λ e. survey-whole (c .before .before .before .before .before .before .before .before .before .before .before .before .before .before .before .before .before .before .before .args .self) (c .before .before .before .before .before .before .before .before .before .before .before .before .before .before .before .before .before .before .before .args .code .now) (c .before .before .before .before .before .before .before .before .before .before .before .before .before .before .before .before .before .before .before .args .registers) (record { good = not-false _ (c .before .before .before .before .before .before .before .before .before .before .before .before .before .before .before .before .if1 .left); seen = c .before .before .before .before .before .before .before .before .before .before .before .before .before .before .if2 .left; table = c .before .before .before .before .before .before .before .before .before .before .before .before .before .if3 .left; root = sym (c .before .before .before .before .before .before .before .before .before .before .is-same .ensures) ∙ not-false _ (c .before .before .before .before .before .before .before .before .before .if4 .left); judged = sym (ap (λ (v : Verdict). v .good) (c .before .before .before .before .before .before .before .before .judged .ensures)) ∙ not-false _ (c .before .before .before .before .before .before .if5 .left); asked = sym (c .before .before .before .before .is-all-asked .ensures ∙ ap (λ (v : Verdict). allAsked 15 1 (c .before .before .before .before .before .before .before .before .before .before .before .before .before .before .before .before .before .before .before .args .self .starts) (v .asked)) (c .before .before .before .before .before .before .before .before .judged .ensures)) ∙ not-false _ (c .before .before .before .if6 .left); met = sym (c .is-all-met .ensures ∙ ap (λ (v : Verdict). allMet 16 0 (c .before .before .before .before .before .before .before .before .before .before .before .before .before .before .before .before .before .before .before .args .self .needs) (v .commits)) (c .before .before .before .before .before .before .before .before .judged .ensures)) ∙ e })) (λ e. (c .is-all-met .ensures ∙ ap (λ (v : Verdict). allMet 16 0 (c .before .before .before .before .before .before .before .before .before .before .before .before .before .before .before .before .before .before .before .args .self .needs) (v .commits)) (c .before .before .before .before .before .before .before .before .judged .ensures)) ∙ survey-parts (c .before .before .before .before .before .before .before .before .before .before .before .before .before .before .before .before .before .before .before .args .self) (c .before .before .before .before .before .before .before .before .before .before .before .before .before .before .before .before .before .before .before .args .code .now) (c .before .before .before .before .before .before .before .before .before .before .before .before .before .before .before .before .before .before .before .args .registers) e .met)
+returns-7 c =
+    let s = c .before .before .before .before .before .before .before .before .before .before .before .before .before .before .before .before .before .before .before .before .args .self in
+    let code = c .before .before .before .before .before .before .before .before .before .before .before .before .before .before .before .before .before .before .before .before .args .code .now in
+    let registers = c .before .before .before .before .before .before .before .before .before .before .before .before .before .before .before .before .before .before .before .before .args .registers in
+    let others = c .before .before .before .before .before .before .before .before .before .before .before .before .before .before .before .before .before .before .before .before .args .others in
+    let judged = c .before .before .before .before .before .before .before .before .before .judged .ensures in
+    let met = c .is-all-met .ensures ∙ ap (allMet 16 0 (s .needs)) (c .before .saturating-add .ensures ∙ ap (λ (v : Verdict). saturated others (v .commits)) judged) in
+    alike _ _ (λ e. survey-whole s code registers others (record { good = not-false _ (c .before .before .before .before .before .before .before .before .before .before .before .before .before .before .before .before .before .if1 .left); seen = c .before .before .before .before .before .before .before .before .before .before .before .before .before .before .before .if2 .left; table = c .before .before .before .before .before .before .before .before .before .before .before .before .before .before .if3 .left; root = sym (c .before .before .before .before .before .before .before .before .before .before .before .is-same .ensures) ∙ not-false _ (c .before .before .before .before .before .before .before .before .before .before .if4 .left); judged = sym (ap (λ (v : Verdict). v .good) judged) ∙ not-false _ (c .before .before .before .before .before .before .before .if5 .left); asked = sym (c .before .before .before .before .before .is-all-asked .ensures ∙ ap (λ (v : Verdict). allAsked 15 1 (s .starts) (v .asked)) judged) ∙ not-false _ (c .before .before .before .before .if6 .left); met = sym met ∙ e })) (λ e. met ∙ survey-parts s code registers others e .met)
 
 pub fits-spec : {M : Type 1} → statement M
 fits-spec =
@@ -63,5 +74,6 @@ fits-spec =
     returns-5
     is-all-asked-requires
     returns-6
+    saturating-add-requires
     is-all-met-requires
     returns-7)

@@ -17,41 +17,17 @@ mul-self-2 c = search needs
 element-write-self-2 : tie.Need-element-write-self-2
 element-write-self-2 c = search needs
 
+mul-row : tie.Need-mul-row
+mul-row c = search needs
+
+element-set-from-row : tie.Need-element-set-from-row
+element-set-from-row c = search needs
+
 mul-self-3 : tie.Need-mul-self-3
 mul-self-3 c = search needs
 
 element-write-self-3 : tie.Need-element-write-self-3
 element-write-self-3 c = search needs
-
-mul-self-4 : tie.Need-mul-self-4
-mul-self-4 c = search needs
-
-element-write-self-4 : tie.Need-element-write-self-4
-element-write-self-4 c = search needs
-
-mul-self-5 : tie.Need-mul-self-5
-mul-self-5 c = search needs
-
-element-write-self-5 : tie.Need-element-write-self-5
-element-write-self-5 c = search needs
-
-mul-self-6 : tie.Need-mul-self-6
-mul-self-6 c = search needs
-
-element-write-self-6 : tie.Need-element-write-self-6
-element-write-self-6 c = search needs
-
-mul-self-7 : tie.Need-mul-self-7
-mul-self-7 c = search needs
-
-element-write-self-7 : tie.Need-element-write-self-7
-element-write-self-7 c = search needs
-
-mul-self-8 : tie.Need-mul-self-8
-mul-self-8 c = search needs
-
-element-write-self-8 : tie.Need-element-write-self-8
-element-write-self-8 c = search needs
 
 add-self : tie.Need-add-self
 add-self c = search needs
@@ -71,18 +47,10 @@ put-spec =
     element-write-self
     mul-self-2
     element-write-self-2
+    mul-row
+    element-set-from-row
     mul-self-3
     element-write-self-3
-    mul-self-4
-    element-write-self-4
-    mul-self-5
-    element-write-self-5
-    mul-self-6
-    element-write-self-6
-    mul-self-7
-    element-write-self-7
-    mul-self-8
-    element-write-self-8
     add-self
     add-self-2
     returns)

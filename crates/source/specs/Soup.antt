@@ -9,15 +9,15 @@ use lib.ListN.{length, getD}
 use Rattle.code.specs.Compile.{Code, PUSH, ADD, READ, WRITE, BEGIN, COMMIT, FORK, ε, _⨾_, compileP}
 use Rattle.thread.specs.declared.Thread.{Thread}
 use Rattle.thread.specs.Threads.{readLog, writeLog}
 use Rattle.machine.specs.Steps.{State, numberOf, threadAt, pick}
 use Rattle.stm.specs.Rules as rules
 use Rattle.stm.specs.Rules.{MachineRule}
 use Rattle.stm.specs.Events.{Event, idle, pushed, summed, forked, begun, looked, wrote, committed, sentBack}
-use Rattle.machine.specs.Source.{empty, SThread, consistent, StepM, Preempt, ForkM, PushM, AddM, BeginM, ReadM, WriteM, Committed, Failed}
+use Rattle.source.specs.Source.{empty, SThread, consistent, StepM, Preempt, ForkM, PushM, AddM, BeginM, ReadM, WriteM, Committed, Failed}
 use Rattle.script.specs.Tree.{Proc}
 use Rattle.script.specs.Turns.{Registers}
 use Rattle.script.specs.Soup.{Same}
 use Rattle.machine.specs.Stands.{Stands, ValuedC, stackFrom}
 use Rattle.word.specs.Sum.{Rule}
 
 -- A record and a thread of the source. Its code is the record's own code from its place on; while a transaction is open, f is the code from

@@ -17,15 +17,15 @@ use Rattle.code.specs.Ops as code
 use Rattle.thread.specs.declared.Thread.{Thread}
 use Rattle.thread.specs.Threads.{withRule, zeros, spawned, push, add, begin, below, sourceOf, readFrom, noted, read, write, closed, stale, firstStale, overlaid, logOf, readLog, writeLog}
 use Rattle.stm.specs.Events.{Source, fromWrites, fromReads, fromTable, committed, sentBack}
 use Rattle.machine.specs.Steps.{State, Stepped, numberOf, committing, commit, instruction, movedBy, ruled, act, perform, settle}
 use Rattle.machine.specs.Fits.{nextPlace, TypedThread}
-use Rattle.machine.specs.Source.{Log, empty, updated, SThread, Looked, lookedUp, lookUp, agrees, consistent, entered, overridden, StepM, ForkM, PushM, AddM, BeginM, ReadM, WriteM, Committed, Failed}
+use Rattle.source.specs.Source.{Log, empty, updated, SThread, Looked, lookedUp, lookUp, agrees, consistent, entered, overridden, StepM, ForkM, PushM, AddM, BeginM, ReadM, WriteM, Committed, Failed}
 use Rattle.script.specs.Turns.{Registers}
-use Rattle.machine.specs.Soup.{Carries, ruleOf, named, First}
+use Rattle.source.specs.Soup.{Carries, ruleOf, named, First}
 use Rattle.machine.specs.InnerStands.{opOf}
 use Rattle.machine.specs.Stands.{ValuedI, ValuedC, stackFrom}
 use Rattle.machine.proofs.Codes.{stands-next, stands-child}
 use Rattle.machine.proofs.Showings.{stack-suc, stack-push, stack-add, stack-closed, log-none, log-with}
 use Rattle.word.specs.Registers.{member, with}
 use Rattle.word.specs.Sum.{Rule}
 

@@ -3,8 +3,8 @@ use Prim.Native.Nat.{ℕ}
 use mathlib.Core.Path.{_≡_, refl, ap, subst}
 use mathlib.Core.List.{List, [], _∷_, _++_}
 use native.Mathlib.Omega.{arith}
-use Rattle.machine.specs.Source.{SThread, StepM, Preempt, ForkM, PushM, AddM, BeginM, ReadM, WriteM, Committed, Failed}
-use Rattle.machine.specs.Soup.{Name, First, ruleOf, IsFor, ByRule}
+use Rattle.source.specs.Source.{SThread, StepM, Preempt, ForkM, PushM, AddM, BeginM, ReadM, WriteM, Committed, Failed}
+use Rattle.source.specs.Soup.{Name, First, ruleOf, IsFor, ByRule}
 use Rattle.stm.specs.Events.{Event}
 use Rattle.script.specs.Turns.{Registers}
 use Rattle.word.specs.Sum.{Rule}

@@ -19,23 +19,23 @@ use Rattle.script.specs.Outcome.{done}
 use Rattle.script.specs.Turns.{Registers}
 use Rattle.thread.specs.declared.Thread.{Thread}
 use Rattle.thread.specs.Threads.{blank, spawned, exists, readLog, writeLog}
 use Rattle.machine.specs.Steps.{State, Stepped, numberOf, threadAt, instruction, pick, movedBy, act, perform, settle}
 use Rattle.stm.specs.Events.{Event, idle, pushed, summed, forked, begun, looked, wrote, committed, sentBack, isIdle}
 use Rattle.machine.specs.Fits.{Exists}
-use Rattle.machine.specs.Source.{Log, empty, SThread, StepM, Preempt, ForkM, PushM, AddM, BeginM, ReadM, WriteM, Committed, Failed}
+use Rattle.source.specs.Source.{Log, empty, SThread, StepM, Preempt, ForkM, PushM, AddM, BeginM, ReadM, WriteM, Committed, Failed}
 use Rattle.machine.specs.InnerStands.{registerCells, opOf, Ready}
 use Rattle.machine.specs.Stands.{Stands, stackFrom, ValuedC}
-use Rattle.machine.specs.Soup.{First, ruleOf, Carries, nobody, Soup, Name, named, PickOn}
+use Rattle.source.specs.Soup.{First, ruleOf, Carries, nobody, Soup, Name, named, PickOn}
 use Rattle.machine.proofs.Picks.{missing-idle, ended-idle, does}
 use Rattle.machine.proofs.Codes.{stands-end, stands-inside, stands-op, ready-op, ready-takes}
 use Rattle.machine.proofs.Shapes.{taking-two}
 use Rattle.machine.proofs.Walking.{same-op}
 use Rattle.machine.proofs.Showings.{Shows, shut, open′}
 use Rattle.machine.proofs.Simulates.{Held}
 use Rattle.machine.proofs.Mirrors.{Mirrors, same-start, spawned-exists, less-than, no-inside}
 use Rattle.machine.proofs.Numbers.{next-absent, at-end, number-small, number-is, below-exists, exists-below, never}
-use Rattle.machine.proofs.Rules.{preempted, preempted-rule, named-same, Peeled, peel, only}
-use Rattle.machine.proofs.Carryings.{carries-moved, newborn, Forks, nobody as no-child, child, Follows, Fine, follows}
+use Rattle.source.proofs.Rules.{preempted, preempted-rule, named-same, Peeled, peel, only}
+use Rattle.source.proofs.Carryings.{carries-moved, newborn, Forks, nobody as no-child, child, Follows, Fine, follows}
 use Rattle.stm.specs.InnerTasks.{Task, outside, System, taskAt, did, stepOutside, stepTask}
 use Rattle.stm.specs.InnerMeaning.{taking1, TakesOutside, TakesInside, Outside, Inside}
 use Rattle.word.specs.Sum.{Rule}

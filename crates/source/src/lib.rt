@@ -1,0 +1,1 @@
+// No functions: the source's machine, and the agreement of picks with it.
