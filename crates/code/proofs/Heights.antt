@@ -6,7 +6,8 @@ use mathlib.Core.List.{List, [], _∷_, _++_}
 use native.Mathlib.Omega.{arith}
 use lib.IntN.{ℤ}
 use Rattle.code.specs.Compile.{Code, PUSH, ADD, READ, WRITE, BEGIN, COMMIT, FORK, ε, _⨾_, compileT, compileP}
-use Rattle.code.specs.Counts.{instructionCount, codeCount, untilCommit, longestAt, longestIn, endHeight, greatest, Takes, RunsIn}
+use Rattle.code.specs.Counts.{instructionCount, codeCount, untilCommit, longestAt, longestIn}
+use Rattle.code.specs.InnerHeights.{endHeight, greatest, Takes, RunsIn}
 use Rattle.script.specs.Tree.{Tran, ValT, AddT, Read, Write, Proc, ValP, AddP, Atomic, Fork}
 use Rattle.script.specs.Count.{nodesT, nodesP, depthT, depthP, atomics, instructions, longest, heightT, heightP, childHeights, heights}
 use Rattle.script.specs.Limits.{Within}

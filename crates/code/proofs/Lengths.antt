@@ -5,7 +5,8 @@ use mathlib.Core.List.{append-nil}
 use native.Mathlib.Omega.{arith}
 use lib.ListN.{length, length-append}
 use Rattle.code.specs.Compile.{Code, FORK, ε, compileP}
-use Rattle.code.specs.Bytes.{instructionBytes, instructionsBytes, OccursIn, first, later, inside, StatesLength}
+use Rattle.code.specs.Bytes.{instructionBytes, instructionsBytes, OccursIn, first, later, inside}
+use Rattle.code.specs.InnerLengths.{StatesLength}
 use Rattle.script.specs.Bytes.{bytes16}
 use Rattle.script.specs.Count.{codeP}
 use Rattle.script.specs.Jobs.{Job}

@@ -1,5 +1,5 @@
 -- Document 01, "The stack code": the code's bytes, and which code is foreign.
-use Prim.Native.Nat.{ℕ, _+_, _*_}
+use Prim.Native.Nat.{ℕ}
 use mathlib.Core.Path.{_≡_}
 use mathlib.Core.List.{List, [], _∷_, _++_}
 use lib.ListN.{length}
@@ -33,13 +33,6 @@ pub data OccursIn (i : Instruction) : Code → Type 0 where
   first : {c : Code} → OccursIn i (i ⨾ c)
   later : {k : Instruction} {c : Code} → OccursIn i c → OccursIn i (k ⨾ c)
   inside : {child c : Code} → OccursIn i child → OccursIn i (FORK child ⨾ c)
-
--- "of exactly the stated length in bytes": the two bytes behind a FORK's opcode hold the length of its child's code, which follows
-pub record StatesLength (child : Code) : Type 0 where
-  pub high : ℕ
-  pub low : ℕ
-  pub text : instructionBytes (FORK child) ≡ 7 ∷ high ∷ low ∷ instructionsBytes child
-  pub exact : high * 256 + low ≡ length (instructionsBytes child)
 
 -- the mark `WSC`
 unfoldable pub codeMark : List ℕ

@@ -12,24 +12,28 @@ itemKind (tran t) = 3
 itemKind begun = 0
 itemKind (forked n) = 1
 
+-- its depth
 abbrev pub itemDepth : Item → ℕ
 itemDepth (proc p) = depthP p
 itemDepth (tran t) = depthT t
 itemDepth begun = 1
 itemDepth (forked n) = 1
 
+-- its nodes
 abbrev pub itemNodes : Item → ℕ
 itemNodes (proc p) = nodesP p
 itemNodes (tran t) = nodesT t
 itemNodes begun = 1
 itemNodes (forked n) = 1
 
+-- its FORKs
 abbrev pub itemForks : Item → ℕ
 itemForks (proc p) = forks p
 itemForks (tran t) = 0
 itemForks begun = 0
 itemForks (forked n) = 1
 
+-- its bytes in the job
 abbrev pub itemBytes : Item → List ℕ
 itemBytes (proc p) = bytesP p
 itemBytes (tran t) = bytesT t
@@ -46,6 +50,7 @@ unfoldable pub nodesI : List Item → ℕ
 nodesI [] = 0
 nodesI (x ∷ s) = nodesI s + itemNodes x
 
+-- a stack's FORKs
 unfoldable pub forksI : List Item → ℕ
 forksI [] = 0
 forksI (x ∷ s) = forksI s + itemForks x

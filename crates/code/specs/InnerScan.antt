@@ -32,6 +32,7 @@ pub record ListScan : Type 0 where
   pub forks : ℕ
   pub size : ℕ
 
+-- before the first instruction
 unfoldable pub scanStart : ListScan
 scanStart = record { stack = []; inside = false; ends = []; place = 5; nodes = 0; forks = 0; size = 7 }
 
@@ -70,11 +71,13 @@ merged s kind reach below inside nodes size =
     })
     reach
 
+-- the two topmost items, or 11
 abbrev pub twoTop : ListScan → List ScanItem → (ScanItem → ScanItem → List ScanItem → Outcome ListScan) → Outcome ListScan
 twoTop s [] f = foreign
 twoTop s (b ∷ []) f = foreign
 twoTop s (b ∷ a ∷ below) f = f b a below
 
+-- the topmost item, or 11
 abbrev pub oneTop : ListScan → List ScanItem → (ScanItem → List ScanItem → Outcome ListScan) → Outcome ListScan
 oneTop s [] f = foreign
 oneTop s (a ∷ below) f = f a below
@@ -189,9 +192,11 @@ pub record Summary : Type 0 where
   pub nodes : ℕ
   pub size : ℕ
 
+-- of a job
 unfoldable pub summary : Job → Summary
 summary j = record { version = j .version; nodes = nodesP (j .tree); size = length (jobBytes (j .version) (j .tree)) }
 
+-- what the scan of code comes to
 unfoldable pub scanCode : List ℕ → Outcome Summary
 scanCode bs =
     refuse

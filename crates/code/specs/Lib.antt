@@ -6,3 +6,5 @@ pub mod Ops
 pub mod Reader
 pub mod InnerParts
 pub mod InnerScan
+pub mod InnerHeights
+pub mod InnerLengths

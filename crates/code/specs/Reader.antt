@@ -34,6 +34,7 @@ sumP b (tran t ∷ items) = foreign
 sumP b (begun ∷ items) = foreign
 sumP b (forked size ∷ items) = foreign
 
+-- the same, the topmost part being a transaction
 abbrev pub sumT : Tran → List Item → Outcome (List Item)
 sumT b [] = foreign
 sumT b (proc p ∷ items) = foreign
@@ -41,6 +42,7 @@ sumT b (tran a ∷ items) = done (tran (AddT a b) ∷ items)
 sumT b (begun ∷ items) = foreign
 sumT b (forked size ∷ items) = foreign
 
+-- the same of a stack
 abbrev pub sumTop : List Item → Outcome (List Item)
 sumTop [] = foreign
 sumTop (proc b ∷ items) = sumP b items
@@ -64,6 +66,7 @@ atomicWith t (tran u ∷ items) = foreign
 atomicWith t (begun ∷ items) = done (proc (Atomic t) ∷ items)
 atomicWith t (forked size ∷ items) = foreign
 
+-- COMMIT of a stack
 abbrev pub commitTop : List Item → Outcome (List Item)
 commitTop [] = foreign
 commitTop (proc p ∷ items) = foreign
@@ -79,6 +82,7 @@ forkWith p (tran t ∷ items) = foreign
 forkWith p (begun ∷ items) = foreign
 forkWith p (forked size ∷ items) = done (proc (Fork p) ∷ items)
 
+-- the end of a FORK's child, of a stack
 abbrev pub childEnded : List Item → Outcome (List Item)
 childEnded [] = foreign
 childEnded (proc p ∷ items) = forkWith p items
@@ -92,9 +96,11 @@ pub record Done : Type 0 where
   pub items : List Item
   pub inside : Bool
 
+-- the stack as it comes to be, and whether a transaction is then open
 abbrev pub doneWith : Bool → Outcome (List Item) → Outcome Done
 doneWith inside o = onward o (λ items. done (record { items = items; inside = inside }))
 
+-- one instruction
 unfoldable pub doOp : Op → (inside : Bool) → List Item → Outcome Done
 doOp (push n) inside items = doneWith inside (done (valueItem inside n ∷ items))
 doOp add inside items = doneWith inside (sumTop items)
@@ -119,6 +125,7 @@ pub record OpenParts : Type 0 where
   pub ends : List ℕ
   pub items : List Item
 
+-- every child that ends at this place is closed
 unfoldable pub endedAt : (place : ℕ) → List ℕ → List Item → Outcome OpenParts
 endedAt place [] items = done (record { ends = []; items = items })
 endedAt place (end ∷ ends) items =
@@ -132,6 +139,7 @@ abbrev pub oneLeft : Proc → List Item → Outcome Proc
 oneLeft p [] = done p
 oneLeft p (item ∷ items) = foreign
 
+-- the one process that is left of a stack
 abbrev pub lastOf : List Item → Outcome Proc
 lastOf [] = foreign
 lastOf (proc p ∷ items) = oneLeft p items
@@ -139,6 +147,7 @@ lastOf (tran t ∷ items) = foreign
 lastOf (begun ∷ items) = foreign
 lastOf (forked size ∷ items) = foreign
 
+-- the same, no FORK being open
 abbrev pub ended : OpenParts → Outcome Proc
 ended open′ = elim (open′ .ends) [ [] ↦ lastOf (open′ .items) | end ∷ ends ↦ foreign ]
 

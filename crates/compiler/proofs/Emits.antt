@@ -12,8 +12,8 @@ use Rattle.compiler.proofs.Lists.{rest, rest-length, back, lent}
 use Rattle.delivery.proofs.Places.{placed-onto, onto-placed, onto-length}
 use Rattle.compiler.proofs.Nodes.{PushAt, ReadAt, OneAt, TwoAt, AtomicAt, ForkAt, WriteAt}
 use Rattle.script.specs.Tree.{Sort, Tree}
-use Rattle.script.specs.Count.{depth}
-use Rattle.script.specs.Bytes.{bytes, bytes16}
+use Rattle.script.specs.InnerTrees.{depth, bytes}
+use Rattle.script.specs.Bytes.{bytes16}
 
 -- ---- before: what a node that is ready says of its parts
 pub record OnePart (bs : List ℕ) (i k d n : ℕ) (front : ℕ → List ℕ) (behind : List ℕ) : Type 0 where

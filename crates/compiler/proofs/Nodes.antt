@@ -16,8 +16,9 @@ use Rattle.code.specs.Compile.{ε}
 use Rattle.code.specs.Bytes.{instructionsBytes}
 use Rattle.code.proofs.Flat.{flatT, flatP, flat-tran, flat-proc}
 use Rattle.script.specs.Tree.{Tran, ValT, AddT, Read, Write, Proc, ValP, AddP, Atomic, Fork, Sort, process, transaction, Tree}
-use Rattle.script.specs.Count.{depth, depthT, depthP}
-use Rattle.script.specs.Bytes.{bytes, bytesT, bytesP, bytes32, nodeBytes}
+use Rattle.script.specs.Count.{depthT, depthP}
+use Rattle.script.specs.InnerTrees.{depth, bytes}
+use Rattle.script.specs.Bytes.{bytesT, bytesP, bytes32, nodeBytes}
 use Rattle.word.specs.Sum.{residue}
 
 -- ---- what stands at a place

@@ -8,9 +8,10 @@ use Rattle.delivery.specs.Delivered.{onto}
 use Rattle.code.specs.Compile.{ε, compileT, compileP}
 use Rattle.code.specs.Bytes.{instructionsBytes, codeMark}
 use Rattle.script.specs.Tree.{Sort, process, transaction, Tree}
-use Rattle.script.specs.Count.{depth}
-use Rattle.script.specs.Bytes.{bytes, bytes16}
+use Rattle.script.specs.InnerTrees.{depth, bytes}
+use Rattle.script.specs.Bytes.{bytes16}
 
+-- the place behind a node in the job, and the bytes of code written for it
 abbrev pub part : (next size : ℕ) → Part
 part next size = record { next = next; size = size }
 
@@ -18,12 +19,15 @@ part next size = record { next = next; size = size }
 abbrev pub codeHeader : ℕ → List ℕ
 codeHeader version = codeMark ++ bytes16 version
 
+-- a PUSH of the number behind the kind byte at i
 abbrev pub pushBytes : List ℕ → ℕ → List ℕ
 pushBytes job i = 1 ∷ getD job (i + 1) 0 ∷ getD job (i + 2) 0 ∷ getD job (i + 3) 0 ∷ getD job (i + 4) 0 ∷ []
 
+-- a READ of the register behind the kind byte at i
 abbrev pub readBytes : List ℕ → ℕ → List ℕ
 readBytes job i = 3 ∷ getD job (i + 1) 0 ∷ []
 
+-- a FORK with a child of this size
 abbrev pub forkBytes : ℕ → List ℕ
 forkBytes size = 7 ∷ bytes16 size
 

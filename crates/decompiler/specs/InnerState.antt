@@ -16,6 +16,7 @@ pub record Pass : Type 0 where
   pub place : ℕ
   pub size : ℕ
 
+-- a cursor with its two arrays
 abbrev pub joined : Cursor → (starts ends : List ℕ) → Pass
 joined c starts ends =
     record {
@@ -28,9 +29,11 @@ joined c starts ends =
       size = c .size;
     }
 
+-- before the first instruction: behind both headers
 abbrev pub firstCursor : Cursor
 firstCursor = record { height = 0; forked = 0; inside = Bool.false; place = 5; size = 7 }
 
+-- the same with its arrays
 abbrev pub firstState : Pass
 firstState = joined firstCursor (replicate 64 0) (replicate 15 0)
 

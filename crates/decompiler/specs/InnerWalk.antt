@@ -32,6 +32,7 @@ OutsideItems (tran t ∷ s) = ⊥
 OutsideItems (begun ∷ s) = ⊥
 OutsideItems (forked n ∷ s) = OutsideItems s
 
+-- a stack inside a transaction
 abbrev pub InsideItems : List Item → Type 0
 InsideItems [] = ⊥
 InsideItems (proc p ∷ s) = ⊥
@@ -39,6 +40,7 @@ InsideItems (tran t ∷ s) = InsideItems s
 InsideItems (begun ∷ s) = OutsideItems s
 InsideItems (forked n ∷ s) = ⊥
 
+-- a stack, by whether a transaction is open
 abbrev pub Sorted : Bool → List Item → Type 0
 Sorted true s = InsideItems s
 Sorted false s = OutsideItems s
@@ -67,6 +69,7 @@ pub record Follows (code head before : List ℕ) (p : Proc) (out : List ℕ) (s 
   pub wide : length (s .starts) ≡ 64
   pub narrow : length (s .ends) ≡ 15
 
+-- so for some stack, some open ends and what is left to read
 pub record Walk (code head before : List ℕ) (p : Proc) (out : List ℕ) (s : Pass) : Type 0 where
   pub items : List Item
   pub open′ : List ℕ

@@ -7,6 +7,7 @@ use Rattle.script.specs.Bytes.{jobBytes}
 use Rattle.script.specs.Outcome.{mapped}
 use Rattle.script.specs.Jobs.{Job}
 
+-- the job as bytes
 abbrev pub bytesOf : Job → List ℕ
 bytesOf j = jobBytes (j .version) (j .tree)
 

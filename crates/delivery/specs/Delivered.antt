@@ -7,6 +7,7 @@ use Rattle.delivery.specs.declared.Answer.{Answer}
 use Rattle.delivery.specs.declared.Answer.the-variants.{Done, Refused}
 use Rattle.script.specs.Outcome.{Outcome, refused, done, refuse, onward}
 
+-- the answer of a call, and the whole output after it
 pub record Delivered : Type 0 where
   pub answer : Answer
   pub output : List ℕ
@@ -24,5 +25,6 @@ abbrev pub settled : Outcome (List ℕ) → (before : List ℕ) → Delivered
 settled (refused number place) before = record { answer = Refused number place; output = before }
 settled (done result) before = record { answer = Done (length result); output = onto result before }
 
+-- the tests before 10, then 10; then the answer and the output
 unfoldable pub delivered : Outcome (List ℕ) → (before : List ℕ) → Delivered
 delivered outcome before = settled (onward outcome (roomFor before)) before

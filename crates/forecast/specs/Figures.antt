@@ -48,6 +48,7 @@ refusedWith number place =
       heights = replicate 16 0;
     }
 
+-- the figures of an accepted job, or the refusal
 abbrev pub forecastOf : Outcome Job → ForecastReply
 forecastOf (refused number place) = refusedWith number place
 forecastOf (done j) = figures (j .tree)

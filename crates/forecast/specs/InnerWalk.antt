@@ -36,6 +36,7 @@ pub record State : Type 0 where
   pub place : ℕ
   pub totals : Totals
 
+-- the figures that a cursor and the heights hold
 abbrev pub totalsOf : Cursor → (heights : List ℕ) → Totals
 totalsOf c heights =
     record {
@@ -49,6 +50,7 @@ totalsOf c heights =
       heights = heights;
     }
 
+-- a cursor with its two arrays
 abbrev pub stateOf : Cursor → (due heights : List ℕ) → State
 stateOf c due heights = record { due = due; height = c .height; place = c .place; totals = totalsOf c heights }
 
@@ -87,6 +89,7 @@ counted t =
       heights = t .heights;
     }
 
+-- a FORK
 abbrev pub forked : Totals → Totals
 forked t =
     record {
@@ -142,6 +145,7 @@ withRead register t =
       heights = t .heights;
     }
 
+-- a WRITE names a register
 abbrev pub withWrite : ℕ → Totals → Totals
 withWrite register t =
     record {
@@ -175,6 +179,7 @@ pushed thread base t =
 abbrev pub behind : State → (height size : ℕ) → Totals → State
 behind s height size t = record { due = s .due; height = height; place = s .place + size; totals = t }
 
+-- the same with other figures
 abbrev pub withTotals : State → Totals → State
 withTotals s t = record { due = s .due; height = s .height; place = s .place; totals = t }
 
@@ -188,6 +193,7 @@ withTwo s part t =
       totals = t;
     }
 
+-- the node on top has one part, the child of a new thread
 abbrev pub withChild : State → Totals → State
 withChild s t =
     record {
@@ -231,6 +237,7 @@ pub record Small (c : Cursor) : Type 0 where
   pub instructions : c .instructions ≤ 2000
   pub current : c .current ≤ 1002
 
+-- and of the part that is due
 pub record CanCount (c : Cursor) (part : ℕ) : Type 0 where
   pub small : Small c
   pub some : 1 ≤ c .height

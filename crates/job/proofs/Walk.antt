@@ -16,7 +16,8 @@ use Rattle.job.specs.declared.Cursor.{Cursor}
 use Rattle.job.specs.Answer.{answer}
 use Rattle.job.specs.InnerScan.{kindByte, tested, codeOfKind, Reader, joined, firstCursor, partDepth, advanced, CanAdvance, heldPart, dueOf}
 use Rattle.script.specs.Tree.{Sort, process, transaction}
-use Rattle.script.specs.Count.{codeT, codeP, codeLength, codeSize}
+use Rattle.script.specs.Count.{codeT, codeP, codeLength}
+use Rattle.script.specs.InnerTrees.{codeSize}
 use Rattle.script.specs.Bytes.{Bytes, bytes32, Node, VALP, ADDP, ATOMIC, FORK, VALT, ADDT, READ, WRITE, nodeBytes}
 use Rattle.script.specs.Outcome.{Outcome, refused, done, mapped}
 use Rattle.script.specs.Jobs.{Due, operand, partsThen, forkOf, root}

@@ -13,6 +13,7 @@ use Rattle.script.specs.Bytes.{Node, VALP, ADDP, ATOMIC, FORK, VALT, ADDT, READ
 use Rattle.script.specs.Outcome.{Outcome, refused, done}
 use Rattle.script.specs.Jobs.{Due, operand}
 
+-- the sort of a part, by whether it is a transaction
 abbrev pub sortOf : Bool → Sort
 sortOf true = transaction
 sortOf false = process
@@ -46,6 +47,7 @@ pub record Reader : Type 0 where
   pub place : ℕ
   pub code : ℕ
 
+-- a cursor with the array of what is due
 abbrev pub joined : Cursor → List ℕ → Reader
 joined c due = record { due = due; height = c .height; left = c .left; forks = c .forks; place = c .place; code = c .code }
 
@@ -65,6 +67,7 @@ withNone s size code =
       code = s .code + code;
     }
 
+-- one part becomes due
 abbrev pub withOne : Reader → (part forks size code : ℕ) → Reader
 withOne s part forks size code =
     record {
@@ -76,6 +79,7 @@ withOne s part forks size code =
       code = s .code + code;
     }
 
+-- two parts become due
 abbrev pub withTwo : Reader → (part : ℕ) → Reader
 withTwo s part =
     record {
@@ -133,6 +137,7 @@ pub record CanAdvance (c : Cursor) (kind depth : ℕ) : Type 0 where
 unfoldable pub heldPart : ℕ → Due
 heldPart n = record { sort = sortOf (leb 128 n); depth = n % 128 }
 
+-- the topmost n entries of the array
 unfoldable pub dueOf : List ℕ → ℕ → List Due
 dueOf a zero = []
 dueOf a (suc n) = heldPart (getD a n 0) ∷ dueOf a n

@@ -67,14 +67,16 @@ unfoldable pub threadLines : ℕ → List Thread → List ℕ
 threadLines i [] = []
 threadLines i (t ∷ ts) = cond (exists t) (threadLine i t) [] ++ threadLines (suc i) ts
 
--- "Registers not 0 follow, ascending": the first one being register v
+-- whether a number is 0
 abbrev pub isZero : ℤ → Bool
 isZero (pos n) = eqb n 0
 isZero (negsuc n) = false
 
+-- the line of register v with the value n, none if that is 0
 unfoldable pub registerLine : ℕ → ℤ → List ℕ
 registerLine v n = cond (isZero n) [] (ascii "register " ++ (decimal v ++ (ascii " " ++ (integer n ++ ascii "\n"))))
 
+-- "Registers not 0 follow, ascending": the first one being register v
 unfoldable pub registerLines : ℕ → List ℤ → List ℕ
 registerLines v [] = []
 registerLines v (n ∷ ns) = registerLine v n ++ registerLines (suc v) ns
@@ -87,6 +89,7 @@ listing c s = countsLine c ++ (threadLines 0 (s .threads) ++ registerLines 0 (s 
 unfoldable pub refusalLine : (number place : ℕ) → List ℕ
 refusalLine number place = ascii "refused " ++ (decimal number ++ (ascii " at " ++ (decimal place ++ ascii "\n")))
 
+-- the listing of a run, or the line of its refusal
 unfoldable pub printed : Outcome Ran → List ℕ
 printed (refused number place) = refusalLine number place
 printed (done r) = listing (countsOf (r .events)) (r .state)

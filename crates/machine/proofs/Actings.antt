@@ -12,7 +12,7 @@ use lib.ListN.{length, drop, getD, set, length-append}
 use lib.Seq.{set-getD}
 use Rattle.code.specs.Compile.{Instruction, Code, PUSH, ADD, READ, WRITE, BEGIN, COMMIT, FORK, ε, _⨾_}
 use Rattle.code.specs.Bytes.{instructionBytes, instructionsBytes, IsCode}
-use Rattle.code.specs.Counts.{Takes}
+use Rattle.code.specs.InnerHeights.{Takes}
 use Rattle.code.specs.Ops.{Op, opAt}
 use Rattle.code.specs.Ops as code
 use Rattle.ops.specs.Shown.{showOp, shownOp}

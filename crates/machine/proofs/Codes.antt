@@ -7,7 +7,7 @@ use lib.ListN.{length, drop, length-append}
 use lib.Seq.{drop-at}
 use Rattle.code.specs.Compile.{Instruction, Code, PUSH, ADD, READ, WRITE, BEGIN, COMMIT, FORK, ε, _⨾_, compileT, compileP}
 use Rattle.code.specs.Bytes.{instructionBytes, instructionsBytes, codeMark, codeBytes, compiled, IsCode}
-use Rattle.code.specs.Counts.{RunsIn, Takes, heightAfter}
+use Rattle.code.specs.InnerHeights.{RunsIn, Takes, heightAfter}
 use Rattle.code.specs.Ops.{opAt}
 use Rattle.code.proofs.Ops.{opBytes, ValuedO, op-reads}
 use Rattle.code.proofs.Flat.{flatP, flat-proc, flat-lengthP}

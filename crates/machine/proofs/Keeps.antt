@@ -14,7 +14,7 @@ use Rattle.code.specs.Compile.{Code, ε, compileP}
 use Rattle.code.specs.Bytes.{IsCode}
 use Rattle.script.specs.Jobs.{Job}
 use Rattle.thread.specs.declared.Thread.{Thread}
-use Rattle.thread.specs.Threads.{blank, withRule, spawned, exists, stale}
+use Rattle.thread.specs.Threads.{blank, withNotes, withRule, spawned, exists, stale}
 use Rattle.machine.specs.InnerStands.{registerCells}
 use Rattle.machine.specs.Steps.{State, Stepped, numberOf, threadAt, Child, movedBy}
 use Rattle.machine.specs.Fits.{Walked, Walks, starts, In, here, there, ownCode, Passed, Placed, Exists, ThreadOf, Forked, OneThread, CommitsPassed, BacksWithin, FitsBeside, TypedThread, Typed}
@@ -547,15 +547,43 @@ keeps-passed {bytes} c o s f y i e q r d x =
     subst (CommitsPassed bytes (r .state .threads)) (sym (more-plus (isCommit (r .event)) (f .commits)))
     (born-commits c o s f y i e (movedBy (r .event) (x .thread)) (typed-moved _ _ (x .thread) (x .typed)) (placed-moved _ _ (x .thread) (x .placed)) (x .start) (x .end) (oneMore (isCommit (r .event)) 0) a (d .children) (x .born) (r .state .threads) (x .threads))
 
+-- no COMMIT more is passed
+none-more : (beside n : ℕ) {table : List ℤ} {t : Thread} → BacksWithin (beside + n) table t → BacksWithin (beside + (0 + n)) table t
+none-more beside n {table} {t} = subst (λ (m : ℕ). BacksWithin m table t) (let z : beside + n ≡ beside + (0 + n) = omega arith in z)
+
 -- a thread's last rule is free, and its number of send-backs as far as the COMMITs passed allow
 pub numbers-free : {bytes : List ℕ} {j : Job} {beside : ℕ} → IsCode bytes j → Outside (compileP (j .tree) ε) 0 → (s : State) → (f : FitsBeside beside bytes s) → Typed s → (i : ℕ) → Exists s i → (rule backs : ℕ) → BacksWithin (beside + f .commits) (s .registers) (withRule rule backs (threadAt s i)) → FitsBeside beside bytes (record { registers = s .registers; threads = set (s .threads) i (withRule rule backs (threadAt s i)) })
 unfolding placed-moved
 numbers-free {bytes} {j} {beside} c o s f y i e rule backs x =
     quiet-fits c o s f y i e (withRule rule backs (threadAt s i)) (typed-moved rule backs (threadAt s i) (y i)) (placed-moved rule backs (threadAt s i) (f .placed i e)) refl refl (s .registers) (f .registers) refl
-    0 (omega arith) (λ k h. same (f .tallied k h)) (same x)
+    0 (omega arith) (λ k h. none-more beside (f .commits) (f .tallied k h)) (none-more beside (f .commits) x)
+
+-- document 02 No. 2: its count is free as far as the ADDs passed since its BEGIN allow
+pub note-free : {bytes : List ℕ} {j : Job} {beside : ℕ} → IsCode bytes j → Outside (compileP (j .tree) ε) 0 → (s : State) (f : FitsBeside beside bytes s) → Typed s → (i : ℕ) (e : Exists s i) (over : ℕ) → over ≤ f .placed i e .walked .adds
+    → FitsBeside beside bytes (record { registers = s .registers; threads = set (s .threads) i (withNotes (threadAt s i .begin) (threadAt s i .base) over (threadAt s i)) })
+note-free {bytes} {j} {beside} c o s f y i e over low =
+    quiet-fits c o s f y i e t (record { cells = y i .cells; readlog = y i .readlog; writelog = y i .writelog })
+    (record {
+      walked = p .walked;
+      walks = p .walks;
+      height = p .height;
+      begin = p .begin;
+      base = p .base;
+      over = low;
+      no-reads = p .no-reads;
+      no-writes = p .no-writes;
+      reads-free = p .reads-free;
+      writes-free = p .writes-free;
+      cells-free = p .cells-free;
+    })
+    refl refl (s .registers) (f .registers) refl 0 (omega arith) (λ k h. none-more beside (f .commits) (f .tallied k h))
+    (none-more beside (f .commits) (record { not-above = f .tallied i e .not-above; not-stale = λ q v. stale-by (threadAt s i) t (s .registers) refl refl v (f .tallied i e .not-stale q v) }))
   where
-    same : {t : Thread} → BacksWithin (beside + f .commits) (s .registers) t → BacksWithin (beside + (0 + f .commits)) (s .registers) t
-    same {t} = subst (λ (n : ℕ). BacksWithin n (s .registers) t) (let z : beside + f .commits ≡ beside + (0 + f .commits) = omega arith in z)
+    t : Thread
+    t = withNotes (threadAt s i .begin) (threadAt s i .base) over (threadAt s i)
+
+    p : Placed bytes (threadAt s i)
+    p = f .placed i e
 
 -- and where it forks a child, there is a record for it
 pub has-room : {bytes : List ℕ} {j : Job} {beside : ℕ} → IsCode bytes j → Outside (compileP (j .tree) ε) 0 → (s : State) → FitsBeside beside bytes s → Typed s → (i : ℕ) → Exists s i → (q : Placed bytes (threadAt s i)) (r : Stepped) (d : Did registerCells) → Simulated bytes s i (threadAt s i) (q .walked) r d → (k : Code) → d .children ≡ k ∷ [] → numberOf (s .threads) < 16

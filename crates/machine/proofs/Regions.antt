@@ -8,7 +8,7 @@ use lib.Dec.{eqb}
 use lib.ListN.{length, drop, length-append}
 use Rattle.code.specs.Compile.{Instruction, Code, PUSH, ADD, READ, WRITE, BEGIN, COMMIT, FORK, ε, _⨾_, compileP}
 use Rattle.code.specs.Bytes.{instructionBytes, instructionsBytes, IsCode}
-use Rattle.code.specs.Counts.{heightAfter}
+use Rattle.code.specs.InnerHeights.{heightAfter}
 use Rattle.code.specs.Ops.{Op, opAt}
 use Rattle.code.specs.Ops as code
 use Rattle.script.specs.Bytes.{bytes16}

@@ -12,7 +12,7 @@ use lib.IntN.{ℤ, pos}
 use lib.ListN.{length, getD, set}
 use Rattle.code.specs.Compile.{Instruction, Code, PUSH, ADD, READ, WRITE, BEGIN, COMMIT, FORK, _⨾_}
 use Rattle.code.specs.Bytes.{instructionsBytes}
-use Rattle.code.specs.Counts.{Takes}
+use Rattle.code.specs.InnerHeights.{Takes}
 use Rattle.code.specs.Ops as code
 use Rattle.thread.specs.declared.Thread.{Thread}
 use Rattle.thread.specs.Threads.{zeros, spawned, push, add, begin, below, sumTold, sumNoted, sourceOf, readFrom, noted, read, write, closed, stale, firstStale, overlaid, logOf, readLog, writeLog}

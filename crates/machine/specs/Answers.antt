@@ -38,6 +38,7 @@ fitting code s behind = refuse (not (fits code s)) 12 0 behind
 unfoldable pub freshOf : (code : List ℕ) → State → Outcome State
 freshOf code s = onward (readCode code) (λ j. rightLengths s (done (fresh code)))
 
+-- what a step comes to: 11, then 12, else the pick
 unfoldable pub stepOf : (code : List ℕ) → State → (pick : ℕ) → Outcome Stepped
 stepOf code s i = onward (readCode code) (λ j. fitting code s (done (pick (sumOf j) code s i)))
 
@@ -46,10 +47,12 @@ unfoldable pub runOf : (code : List ℕ) → State → (picks : List ℕ) → Ou
 runOf code s is = onward (readCode code) (λ j. fitting code s (refuse (ltb 32768 (length is)) 13 0 (done (run (sumOf j) code s is))))
 
 -- ---- document 01's number, place and values in each answer; refusal 0 is none
+-- the answer of laying down a fresh state
 abbrev pub freshReply : Outcome State → FreshReply
 freshReply (refused number place) = record { refusal = number; place = place }
 freshReply (done s) = record { refusal = 0; place = 0 }
 
+-- the answer of a step
 abbrev pub stepReply : Outcome Stepped → StepReply
 stepReply (refused number place) = record { refusal = number; place = place; event = 0; register = 0; turn = 0; over = 0 }
 stepReply (done r) =
@@ -62,6 +65,7 @@ stepReply (done r) =
       over = r .over;
     }
 
+-- the answer of a run: the counts of what its picks did
 abbrev pub runReply : Outcome Ran → RunReply
 runReply (refused number place) = record { refusal = number; place = place; steps = 0; idle = 0; commits = 0; back = 0; over = 0 }
 runReply (done r) =
@@ -73,6 +77,7 @@ abbrev pub saying : {A : Type 0} → (refusal place : ℕ) → A → Outcome A
 saying zero place a = done a
 saying (suc number) place a = refused (suc number) place
 
+-- what the answer of laying down a fresh state says
 abbrev pub freshSays : FreshReply → Outcome (Unit {0})
 freshSays r = saying (r .refusal) (r .place) tt
 
@@ -81,6 +86,7 @@ pub record Told : Type 0 where
   pub event : Event
   pub over : ℕ
 
+-- what the answer of a step says
 abbrev pub stepSays : StepReply → Outcome Told
 stepSays r = saying (r .refusal) (r .place) (record { event = eventOf (r .event) (r .register) (r .turn); over = r .over })
 
@@ -88,6 +94,7 @@ stepSays r = saying (r .refusal) (r .place) (record { event = eventOf (r .event)
 abbrev pub ruleNamed : StepReply → Outcome (Option MachineRule)
 ruleNamed r = mapped (λ (t : Told). usedBy (t .event)) (stepSays r)
 
+-- what the answer of a run says
 abbrev pub runSays : RunReply → Outcome Counts
 runSays r = saying (r .refusal) (r .place) (record { steps = r .steps; idle = r .idle; commits = r .commits; back = r .back; over = r .over })
 
@@ -96,6 +103,7 @@ pub record Returned (Reply : Type 0) : Type 0 where
   pub state : State
   pub reply : Reply
 
+-- these registers, these records and this answer
 abbrev pub answered : {Reply : Type 0} → List ℤ → List Thread → Reply → Returned Reply
 answered rs ts reply = record { state = stateFrom rs ts; reply = reply }
 
@@ -104,16 +112,20 @@ abbrev pub returned : {A Reply : Type 0} → (A → State) → (Outcome A → Re
 returned leaves answer s (refused number place) = record { state = s; reply = answer (refused number place) }
 returned leaves answer s (done a) = record { state = leaves a; reply = answer (done a) }
 
+-- what laying down a fresh state returns
 unfoldable pub freshCall : (code : List ℕ) → State → Returned FreshReply
 freshCall code s = returned (λ (r : State). r) freshReply s (freshOf code s)
 
+-- what a step returns
 unfoldable pub stepCall : (code : List ℕ) → State → (pick : ℕ) → Returned StepReply
 stepCall code s i = returned (λ (r : Stepped). r .state) stepReply s (stepOf code s i)
 
+-- what a run returns
 unfoldable pub runCall : (code : List ℕ) → State → (picks : List ℕ) → Returned RunReply
 runCall code s is = returned (λ (r : Ran). r .state) runReply s (runOf code s is)
 
 -- ---- the table's rows 11 to 13, each with the tests before it passed: what a call returns, memory and answer
+-- of laying down a fresh state: 11, then 12, else the fresh state
 pub data FreshAnswer (code : List ℕ) (s : State) : Returned FreshReply → Type 0 where
   foreign-code : Foreign code → FreshAnswer code s (record { state = s; reply = freshReply (refused 11 0) })
   foreign-state :
@@ -123,6 +135,7 @@ pub data FreshAnswer (code : List ℕ) (s : State) : Returned FreshReply → Typ
       {j : Job} → IsCode code j → length (s .threads) ≡ 16 → length (s .registers) ≡ 64 →
       FreshAnswer code s (record { state = fresh code; reply = freshReply (done (fresh code)) })
 
+-- of a step: 11, then 12, else one pick
 pub data StepAnswer (code : List ℕ) (s : State) (i : ℕ) : Returned StepReply → Type 0 where
   foreign-code : Foreign code → StepAnswer code s i (record { state = s; reply = stepReply (refused 11 0) })
   foreign-state : {j : Job} → IsCode code j → (Fits code s → ⊥) → StepAnswer code s i (record { state = s; reply = stepReply (refused 12 0) })
@@ -130,6 +143,7 @@ pub data StepAnswer (code : List ℕ) (s : State) (i : ℕ) : Returned StepReply
       {j : Job} → IsCode code j → Fits code s →
       StepAnswer code s i (record { state = pick (sumOf j) code s i .state; reply = stepReply (done (pick (sumOf j) code s i)) })
 
+-- of a run: 11, then 12, then 13, else the picks
 pub data RunAnswer (code : List ℕ) (s : State) (is : List ℕ) : Returned RunReply → Type 0 where
   foreign-code : Foreign code → RunAnswer code s is (record { state = s; reply = runReply (refused 11 0) })
   foreign-state : {j : Job} → IsCode code j → (Fits code s → ⊥) → RunAnswer code s is (record { state = s; reply = runReply (refused 12 0) })
@@ -158,6 +172,7 @@ stepCounts r =
       over = r .over;
     })
 
+-- a run's, as they stand in its answer
 abbrev pub runCounts : RunReply → Counts
 runCounts r = reporting (r .refusal) (record { steps = r .steps; idle = r .idle; commits = r .commits; back = r .back; over = r .over })
 

@@ -17,6 +17,7 @@ use Rattle.script.specs.Outcome.{Outcome, refused, done}
 use Rattle.word.specs.Registers.{member}
 use Rattle.word.specs.Registers as registers
 
+-- on with the instruction that is found, or nothing
 abbrev pub goingOn : Outcome Op → (Op → Option Walked) → Option Walked
 goingOn (refused number place) f = none
 goingOn (done op) f = f op
@@ -33,9 +34,11 @@ walk (suc fuel) bytes end target place w =
       ]
     ]
 
+-- along a thread's own code up to its place
 unfoldable pub walkTo : List ℕ → Thread → Option Walked
 walkTo bytes t = walk (suc (t .place)) bytes (t .end) (t .place) (t .start) unmoved
 
+-- whether a number is 0
 abbrev pub isZero : ℤ → Bool
 isZero n = not (ltZ n (pos 0) || ltZ (pos 0) n)
 
@@ -44,9 +47,11 @@ unfoldable pub freeFrom : (left v : ℕ) → (ℕ → Bool) → List ℤ → Boo
 freeFrom zero v marked ns = true
 freeFrom (suc left) v marked ns = (marked v || isZero (getD ns v (pos 0))) && freeFrom left (suc v) marked ns
 
+-- so of all 64
 abbrev pub free : (ℕ → Bool) → List ℤ → Bool
 free marked ns = freeFrom 64 0 marked ns
 
+-- whether height, notes and logs are such as the walk leaves
 abbrev pub agreesWith : Thread → Option Walked → Bool
 agreesWith t none = false
 agreesWith t (some w) =
@@ -80,10 +85,12 @@ unfoldable pub noneBehind : List Thread → Bool
 noneBehind [] = true
 noneBehind (t ∷ ts) = allZero t && noneBehind ts
 
+-- the records from one on: a thread is placed and goes before the others, else no thread is behind
 unfoldable pub inFront : List ℕ → List Thread → Bool
 inFront bytes [] = true
 inFront bytes (t ∷ ts) = elim (exists t) [ true ↦ placed bytes t && inFront bytes ts | false ↦ noneBehind (t ∷ ts) ]
 
+-- whether two child codes are the same
 abbrev pub same : Child → Child → Bool
 same a b = eqb (a .start) (b .start) && eqb (a .end) (b .end)
 
@@ -92,10 +99,12 @@ abbrev pub childrenOf : Option Walked → List Child
 childrenOf none = []
 childrenOf (some w) = w .children
 
+-- of all threads
 unfoldable pub passedBy : List ℕ → List Thread → List Child
 passedBy bytes [] = []
 passedBy bytes (t ∷ ts) = cond (exists t) (childrenOf (walkTo bytes t) ++ passedBy bytes ts) (passedBy bytes ts)
 
+-- whether a child code is one of a list
 unfoldable pub among : Child → List Child → Bool
 among c [] = false
 among c (d ∷ ds) = same c d || among c ds
@@ -110,6 +119,7 @@ unfoldable pub threadsOf : Child → List Thread → ℕ
 threadsOf c [] = 0
 threadsOf c (t ∷ ts) = cond (exists t && same c (ownCode t)) (suc (threadsOf c ts)) (threadsOf c ts)
 
+-- each of these child codes has one thread
 unfoldable pub oneEach : List Child → List Thread → Bool
 oneEach [] ts = true
 oneEach (c ∷ cs) ts = eqb (threadsOf c ts) 1 && oneEach cs ts
@@ -119,6 +129,7 @@ abbrev pub commitsOf : Option Walked → ℕ
 commitsOf none = 0
 commitsOf (some w) = w .commits
 
+-- the COMMITs passed by all threads of a list
 unfoldable pub commitsPassed : List ℕ → List Thread → ℕ
 commitsPassed bytes [] = 0
 commitsPassed bytes (t ∷ ts) = cond (exists t) (commitsOf (walkTo bytes t)) 0 + commitsPassed bytes ts
@@ -127,6 +138,7 @@ commitsPassed bytes (t ∷ ts) = cond (exists t) (commitsOf (walkTo bytes t)) 0 
 unfoldable pub needs : List ℤ → Thread → ℕ
 needs table t = cond (ltb (firstStale 64 0 t table) 64) (suc (t .backs)) (t .backs)
 
+-- so many COMMITs passed are enough for every record
 unfoldable pub allTallied : (passed : ℕ) → List ℤ → List Thread → Bool
 allTallied passed table [] = true
 allTallied passed table (t ∷ ts) = leb (needs table t) passed && allTallied passed table ts

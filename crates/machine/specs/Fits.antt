@@ -26,16 +26,19 @@ pub record Walked : Type 0 where
   pub commits : ℕ
   pub children : List Child
 
+-- at the start of a thread's own code
 abbrev pub unmoved : Walked
 unmoved = record { height = 0; begin = 0; base = 0; adds = 0; commits = 0; children = [] }
 
--- another stack height; other notes, no ADD passed since; an ADD passed; a COMMIT passed; a FORK passed
+-- another stack height
 abbrev pub risen : ℕ → Walked → Walked
 risen height w = record { height = height; begin = w .begin; base = w .base; adds = w .adds; commits = w .commits; children = w .children }
 
+-- other notes, a BEGIN's place and stack height, no ADD being passed since
 abbrev pub notes : (begin base : ℕ) → Walked → Walked
 notes begin base w = record { height = w .height; begin = begin; base = base; adds = 0; commits = w .commits; children = w .children }
 
+-- an ADD passed, which counts while a transaction is open
 abbrev pub addPassed : Walked → Walked
 addPassed w =
     record {
@@ -47,10 +50,12 @@ addPassed w =
       children = w .children;
     }
 
+-- a COMMIT passed
 abbrev pub commitPassed : Walked → Walked
 commitPassed w =
     record { height = w .height; begin = w .begin; base = w .base; adds = w .adds; commits = suc (w .commits); children = w .children }
 
+-- a FORK passed, whose child has this code
 abbrev pub forking : Child → Walked → Walked
 forking child w =
     record { height = w .height; begin = w .begin; base = w .base; adds = w .adds; commits = w .commits; children = child ∷ w .children }
@@ -91,6 +96,7 @@ pub data In (x : Child) : List Child → Type 0 where
   here : {xs : List Child} → In x (x ∷ xs)
   there : {y : Child} {xs : List Child} → In x xs → In x (y ∷ xs)
 
+-- a thread's own code, from its start up to its end
 abbrev pub ownCode : Thread → Child
 ownCode t = record { start = t .start; end = t .end }
 
@@ -187,6 +193,7 @@ pub record TypedThread (t : Thread) : Type 0 where
   pub readlog : length (t .readlog) ≡ 64
   pub writelog : length (t .writelog) ≡ 64
 
+-- every record of a state has them
 abbrev pub Typed : State → Type 0
 Typed s = (i : ℕ) → TypedThread (threadAt s i)
 
@@ -207,6 +214,7 @@ pub record RangedThread (t : Thread) : Type 0 where
   pub rule : t .rule < 2 ^ 64
   pub backs : t .backs < 2 ^ 64
 
+-- the same of a state: its registers, and each of its records
 pub record Ranged (s : State) : Type 0 where
   pub registers : (v : ℕ) → InRange (getD (s .registers) v (pos 0))
   pub threads : (i : ℕ) → RangedThread (threadAt s i)

@@ -6,7 +6,7 @@ use lib.IntN.{ℤ}
 use lib.ListN.{length}
 use Rattle.code.specs.Compile.{Instruction, Code, PUSH, ADD, READ, WRITE, BEGIN, COMMIT, FORK}
 use Rattle.code.specs.Bytes.{instructionsBytes}
-use Rattle.code.specs.Counts.{RunsIn}
+use Rattle.code.specs.InnerHeights.{RunsIn}
 use Rattle.code.specs.Ops.{Op}
 use Rattle.code.specs.Ops as code
 use Rattle.machine.specs.Fits.{Walked, risen, shut}

@@ -15,6 +15,7 @@ pub record Progress : Type 0 where
 abbrev pub advanced : Event → (over : ℕ) → Progress → Progress
 advanced e over p = record { threads = more (isFork e) (p .threads); counts = tally e over (p .counts) }
 
+-- the state, and what is carried
 pub record Tallied : Type 0 where
   pub state : State
   pub progress : Progress

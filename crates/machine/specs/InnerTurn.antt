@@ -12,6 +12,7 @@ use Rattle.thread.specs.InnerStep.{Handed}
 abbrev pub childrenAs : (event start end : ℕ) → List Child
 childrenAs event start end = cond (eqb event 3) (record { start = start; end = end } ∷ []) []
 
+-- what is handed back, as an instruction leaves it
 unfoldable pub actedAs : Handed → Acted
 actedAs h =
     record {
@@ -27,6 +28,7 @@ abbrev pub childOf : List Child → Child
 childOf [] = record { start = 0; end = 0 }
 childOf (c ∷ cs) = c
 
+-- what an instruction leaves, as it is handed back
 unfoldable pub handedAs : Acted → Handed
 handedAs a =
     record {

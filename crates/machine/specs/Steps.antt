@@ -30,6 +30,7 @@ unfoldable pub numberOf : List Thread → ℕ
 numberOf [] = 0
 numberOf (t ∷ ts) = cond (exists t) (suc (numberOf ts)) 0
 
+-- the record of thread i; of no thread if there are fewer
 abbrev pub threadAt : State → ℕ → Thread
 threadAt s i = getD (s .threads) i blank
 
@@ -59,6 +60,7 @@ abbrev pub committing : (stale : Bool) → (table : List ℤ) → Thread → (v 
 committing true table t v = alters (closed (t .begin) (t .base) t) table (sentBack v) 0
 committing false table t v = alters (closed (t .place + 1) (t .height) t) (overlaid 64 0 t table) committed (t .over)
 
+-- COMMIT, v being the first stale register, or 64
 unfoldable pub commit : (table : List ℤ) → Thread → (v : ℕ) → Acted
 commit table t v = committing (ltb v 64) table t v
 
@@ -83,6 +85,7 @@ perform sum table t code.commit = commit table t (firstStale 64 0 t table)
 abbrev pub movedBy : Event → Thread → Thread
 movedBy e t = withRule (ruleAfter e (t .rule)) (backsAfter e (t .backs)) t
 
+-- what an instruction leaves, with both held in its thread's record
 abbrev pub ruled : Acted → Acted
 ruled a = record { thread = movedBy (a .event) (a .thread); table = a .table; children = a .children; event = a .event; over = a .over }
 
@@ -91,6 +94,7 @@ unfoldable pub act : Rule → (table : List ℤ) → Thread → Op → Acted
 act sum table t op = ruled (perform sum table t op)
 
 -- ---- one pick
+-- what a pick leaves: the state, what it did, and how many sums that fell outside the range it tells of
 pub record Stepped : Type 0 where
   pub state : State
   pub event : Event
@@ -110,6 +114,7 @@ settle count s i a =
       over = a .over;
     }
 
+-- the instruction at the thread's place is done; where there is none the pick is idle
 abbrev pub doing : Rule → (count : ℕ) → State → ℕ → Thread → Outcome Op → Stepped
 doing sum count s i t (refused number place) = record { state = s; event = idle; over = 0 }
 doing sum count s i t (done op) = settle count s i (act sum (s .registers) t op)
@@ -123,6 +128,7 @@ pickAmong sum bytes count s i =
       | false ↦ doing sum count s i (threadAt s i) (opAt (drop (threadAt s i .place) bytes))
     ]
 
+-- one pick of thread i, a forked child becoming the next thread
 abbrev pub pick : Rule → (code : List ℕ) → State → ℕ → Stepped
 pick sum bytes s i = pickAmong sum bytes (numberOf (s .threads)) s i
 
@@ -182,6 +188,7 @@ unfoldable pub fresh : (code : List ℕ) → State
 fresh bytes =
     record { registers = replicate 64 (pos 0); threads = spawned 5 (length bytes) ∷ replicate 15 blank }
 
+-- what picks leave: the state, and what each of them did
 pub record Ran : Type 0 where
   pub state : State
   pub events : List Happened

@@ -68,6 +68,7 @@ pub record Given : Type 0 where
   pub picked : Picked
   pub table : List ℤ
 
+-- what a pick leaves and the table
 abbrev pub given : Picked → List ℤ → Given
 given r table = record { picked = r; table = table }
 
@@ -84,6 +85,7 @@ pickedOf h p =
     })
     (h .table)
 
+-- one pick; of 16 and above it is idle
 unfoldable pub pickedBy : (code : List ℕ) (table : List ℤ) (pick : ℕ) → Thread → Progress → Given
 pickedBy bytes table pick t p =
     cond (ltb pick 16) (pickedOf (stepped wrapping bytes table t) p) (pickedOf (handed (unacted t) table) p)
@@ -124,6 +126,7 @@ beginning refusal threads picks =
       turn = 0;
     }
 
+-- the same, by what the code and the state are
 abbrev pub admittedTo : Outcome Job → (fitting : Bool) (threads picks : ℕ) → Progress
 admittedTo read fitting threads picks = beginning (refusalOf read fitting picks) threads picks
 
@@ -131,9 +134,11 @@ admittedTo read fitting threads picks = beginning (refusalOf read fitting picks)
 abbrev pub freshReplyOf : (refusal : ℕ) → FreshReply
 freshReplyOf refusal = record { refusal = refusal; place = 0 }
 
+-- of a step
 abbrev pub stepReplyOf : Progress → StepReply
 stepReplyOf p = record { refusal = p .refusal; place = 0; event = p .event; register = p .register; turn = p .turn; over = p .over }
 
+-- of a run
 abbrev pub runReplyOf : Progress → RunReply
 runReplyOf p =
     record { refusal = p .refusal; place = 0; steps = p .steps; idle = p .idle; commits = p .commits; back = p .back; over = p .over }
@@ -168,13 +173,16 @@ settledBy s who g =
     }
 
 -- ---- picks, one after the other
+-- what they leave: the state, and what is carried from pick to pick
 pub record Driven : Type 0 where
   pub state : State
   pub progress : Progress
 
+-- one pick's record and child put into the state
 abbrev pub drivenBy : State → (who : ℕ) → Given → Driven
 drivenBy s who g = record { state = settledBy s who g .state; progress = g .picked .progress }
 
+-- the first `left` of the picks
 unfoldable pub driven : (code : List ℕ) (left : ℕ) (picks : List ℕ) → Driven → Driven
 driven bytes zero is d = d
 driven bytes (suc left) [] d = d
@@ -195,6 +203,7 @@ pub record Room (n : ℕ) (p : Progress) : Type 0 where
 abbrev pub answering : Driven → Returned RunReply
 answering d = record { state = d .state; reply = runReplyOf (d .progress) }
 
+-- with what a call on a state begins
 unfoldable pub admitting : (code : List ℕ) → State → (picks : ℕ) → Progress
 admitting code s picks =
     admittedTo
@@ -203,6 +212,7 @@ admitting code s picks =
     (surveyOf (s .registers) (s .threads) .count)
     picks
 
+-- a run by value
 unfoldable pub ranBy : (code : List ℕ) → State → (picks : List ℕ) → Returned RunReply
 ranBy code s picks =
     let p = admitting code s (length picks) in

@@ -30,6 +30,7 @@ pub record ScanState : Type 0 where
   pub size : ℕ
   pub good : Bool
 
+-- a scan with its two arrays
 abbrev pub state : Scan → (items ends : List ℕ) → ScanState
 state s items ends =
     record {
@@ -50,10 +51,12 @@ unfoldable pub stackOf : List ℕ → ℕ → List ScanItem
 stackOf items zero = []
 stackOf items (suc n) = record { kind = getD items n 0; reach = getD items (64 + n) 0 } ∷ stackOf items n
 
+-- the ends, the innermost first
 unfoldable pub endsOf : List ℕ → ℕ → List ℕ
 endsOf ends zero = []
 endsOf ends (suc n) = getD ends n 0 ∷ endsOf ends n
 
+-- a scan as the lists have it
 abbrev pub view : ScanState → list.ListScan
 view s =
     record {
@@ -66,10 +69,12 @@ view s =
       size = s .size;
     }
 
+-- foreign unless it is good
 abbrev pub ifGood : Bool → list.ListScan → Outcome list.ListScan
 ifGood true s = done s
 ifGood false s = foreign
 
+-- what a scan comes to, as the lists have it
 abbrev pub viewed : ScanState → Outcome list.ListScan
 viewed s = ifGood (s .good) (view s)
 
@@ -110,6 +115,7 @@ pub record Limits (s : Scan) : Type 0 where
 abbrev pub ItemRoom : ℕ → ℕ → Type 0
 ItemRoom height reach = reach ≤ 64 → height < 64
 
+-- before the first instruction
 unfoldable pub emptyScan : ScanState
 emptyScan =
     record {
@@ -125,6 +131,7 @@ emptyScan =
       good = true;
     }
 
+-- no code of a job
 unfoldable pub bad : ScanState → ScanState
 bad s =
     record {
@@ -156,6 +163,7 @@ itemPut s height kind reach inside nodes forks size =
       good = s .good;
     }
 
+-- the same within the limits, else bad
 unfoldable pub setTo : ScanState → (height kind reach : ℕ) → Bool → (nodes forks size : ℕ) → ScanState
 setTo s height kind reach inside nodes forks size =
     cond
@@ -166,6 +174,7 @@ setTo s height kind reach inside nodes forks size =
     (bad s)
     (cond (ltb 15 (s .forks + forks)) (bad s) (itemPut s height kind reach inside nodes forks size)))
 
+-- a new item on top
 unfoldable pub topTo : ScanState → (kind : ℕ) → Bool → (forks size : ℕ) → ScanState
 topTo s kind inside forks size = setTo s (s .height) kind (s .height + 1) inside 1 forks size
 
@@ -173,9 +182,11 @@ topTo s kind inside forks size = setTo s (s .height) kind (s .height + 1) inside
 abbrev pub kindAt : ScanState → ℕ → ℕ
 kindAt s i = getD (s .items) (s .height - i) 0
 
+-- its reach
 abbrev pub reachAt : ScanState → ℕ → ℕ
 reachAt s i = getD (s .items) (64 + (s .height - i)) 0
 
+-- ADD
 unfoldable pub addTo : ScanState → ScanState
 addTo s =
     cond
@@ -189,6 +200,7 @@ addTo s =
     (setTo s (s .height - 2) (kindAt s 2) (max (reachAt s 2 + 1) (reachAt s 1)) (s .inside) 1 0 1)
     (bad s)))
 
+-- WRITE
 unfoldable pub writeTo : ScanState → ScanState
 writeTo s =
     cond
@@ -199,6 +211,7 @@ writeTo s =
     (cond (eqb (kindAt s 1) 3) (setTo s (s .height - 1) 3 (reachAt s 1 + 1) true 1 0 2) (bad s))
     (bad s))
 
+-- COMMIT
 unfoldable pub commitTo : ScanState → ScanState
 commitTo s =
     cond
@@ -228,6 +241,7 @@ joined s =
       good = s .good;
     }
 
+-- a FORK's child ends, if a process stands behind its FORK
 unfoldable pub closeTo : ScanState → ScanState
 closeTo s =
     cond
@@ -235,6 +249,7 @@ closeTo s =
     (bad s)
     (cond (eqb (kindAt s 1) 2) (cond (eqb (kindAt s 2) 1) (joined s) (bad s)) (bad s))
 
+-- so many bytes of code further
 unfoldable pub movedTo : ScanState → ℕ → ScanState
 movedTo s size =
     record {
@@ -250,6 +265,7 @@ movedTo s size =
       good = s .good;
     }
 
+-- a FORK's child begins, of so many bytes
 unfoldable pub opened : ScanState → ℕ → ScanState
 opened s size =
     record {
@@ -265,6 +281,7 @@ opened s size =
       good = s .good;
     }
 
+-- the same if the scan is good
 unfoldable pub enterTo : ScanState → ℕ → ScanState
 enterTo s size = cond (s .good) (opened s size) s
 
@@ -272,9 +289,11 @@ enterTo s size = cond (s .good) (opened s size) s
 abbrev pub leafTo : ScanState → (refused : Bool) → (kind : ℕ) → Bool → (size : ℕ) → ScanState
 leafTo s refused kind inside size = cond refused (bad s) (movedTo (topTo s kind inside 0 size) size)
 
+-- FORK
 abbrev pub forkTo : ScanState → ℕ → ScanState
 forkTo s size = cond (s .inside) (bad s) (enterTo (topTo s 1 false 1 1) size)
 
+-- one instruction
 unfoldable pub stepTo : ScanState → Op → ScanState
 stepTo s (op.Push n) = leafTo s false (cond (s .inside) 3 2) (s .inside) 5
 stepTo s op.Add = movedTo (addTo s) 1
@@ -285,6 +304,7 @@ stepTo s op.Commit = movedTo (commitTo s) 1
 stepTo s (op.Fork size) = forkTo s size
 stepTo s op.Foreign = bad s
 
+-- the end of the code: no FORK is open, and one process is left
 unfoldable pub finishTo : ScanState → ScanState
 finishTo s =
     cond (eqb (s .forked) 0) (cond (eqb (s .height) 1) (cond (eqb (getD (s .items) 0 0) 2) s (bad s)) (bad s)) (bad s)

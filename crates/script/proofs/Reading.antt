@@ -7,9 +7,10 @@ use lib.Dec.{eqb, eqb·suc-zero}
 use lib.ListN.{length, length-append}
 use lib.Seq.{drop-append-seam}
 use Rattle.script.specs.Tree.{Tran, ValT, AddT, Read, Write, Proc, ValP, AddP, Atomic, Fork, Sort, process, transaction, Tree}
-use Rattle.script.specs.Count.{nodesT, nodesP, depthT, depthP, forks, nodes, depth, forksIn}
-use Rattle.script.specs.Limits.{ValuedT, ValuedP, Valued}
-use Rattle.script.specs.Bytes.{Bytes, Node, VALP, ADDP, ATOMIC, FORK, VALT, ADDT, READ, WRITE, nodeBytes, bytesT, bytesP, bytes}
+use Rattle.script.specs.Count.{nodesT, nodesP, depthT, depthP, forks}
+use Rattle.script.specs.Limits.{ValuedT, ValuedP}
+use Rattle.script.specs.Bytes.{Bytes, Node, VALP, ADDP, ATOMIC, FORK, VALT, ADDT, READ, WRITE, nodeBytes, bytesT, bytesP}
+use Rattle.script.specs.InnerTrees.{nodes, depth, forksIn, Valued, bytes}
 use Rattle.script.specs.Outcome.{Outcome, refused, done, mapped}
 use Rattle.script.specs.Jobs.{Due, partsThen, forkOf}
 use Rattle.script.specs.Reader.{Forest, grown, readNodes}

@@ -10,7 +10,7 @@ use lib.Signed.{leZ-yes}
 use Rattle.script.specs.Tree.{Tran, ValT, AddT, Read, Write, Proc, ValP, AddP, Atomic, Fork}
 use Rattle.script.specs.Limits.{ValuedT, ValuedP}
 use Rattle.script.specs.Turns.{Registers, Worked, work, Reduced, value, moved, reduceSum, reduce, Script, initial, idle, after, turn, left, turns}
-use Rattle.script.specs.Kept.{Table, Kept}
+use Rattle.script.specs.InnerKept.{Table, Kept}
 use Rattle.word.specs.Sum.{InRange, wrapping}
 use Rattle.word.proofs.Sums.{wrapping-in-range}
 

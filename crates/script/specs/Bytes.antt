@@ -3,7 +3,7 @@ use Prim.Native.Nat.{ℕ, _/_, _%_, _<_}
 use mathlib.Core.List.{List, [], _∷_, _++_}
 use lib.IntN.{ℤ}
 use lib.ListN.{getD, length}
-use Rattle.script.specs.Tree.{Tran, ValT, AddT, Read, Write, Proc, ValP, AddP, Atomic, Fork, Sort, process, transaction, Tree}
+use Rattle.script.specs.Tree.{Tran, ValT, AddT, Read, Write, Proc, ValP, AddP, Atomic, Fork, Sort, process, transaction}
 use Rattle.script.specs.Count.{nodesP}
 use Rattle.word.specs.Sum.{residue}
 
@@ -15,6 +15,7 @@ pub record Bytes (bs : List ℕ) : Type 0 where
 unfoldable pub bytes16 : ℕ → List ℕ
 bytes16 n = n / 256 % 256 ∷ n % 256 ∷ []
 
+-- the same in four bytes
 unfoldable pub bytes32 : ℕ → List ℕ
 bytes32 n = n / 16777216 % 256 ∷ n / 65536 % 256 ∷ n / 256 % 256 ∷ n % 256 ∷ []
 
@@ -44,15 +45,12 @@ bytesT (AddT a b) = nodeBytes ADDT ++ (bytesT a ++ bytesT b)
 bytesT (Read v) = nodeBytes (READ v)
 bytesT (Write v t) = nodeBytes (WRITE v) ++ bytesT t
 
+-- the same of a process
 unfoldable pub bytesP : Proc → List ℕ
 bytesP (ValP n) = nodeBytes (VALP n)
 bytesP (AddP a b) = nodeBytes ADDP ++ (bytesP a ++ bytesP b)
 bytesP (Atomic t) = nodeBytes ATOMIC ++ bytesT t
 bytesP (Fork p) = nodeBytes FORK ++ bytesP p
-
-abbrev pub bytes : (s : Sort) → Tree s → List ℕ
-bytes process p = bytesP p
-bytes transaction t = bytesT t
 
 -- the mark `WSJ`
 unfoldable pub jobMark : List ℕ

@@ -1,16 +1,17 @@
 -- What documents 01 and 02 count in a script, each as a fold over its tree.
 use Prim.Native.Nat.{ℕ, suc, _+_, _*_, _-_, max}
 use mathlib.Core.List.{List, [], _∷_, _++_}
-use Rattle.script.specs.Tree.{Tran, ValT, AddT, Read, Write, Proc, ValP, AddP, Atomic, Fork, Sort, process, transaction, Tree}
+use Rattle.script.specs.Tree.{Tran, ValT, AddT, Read, Write, Proc, ValP, AddP, Atomic, Fork}
 use Rattle.word.specs.Registers.{none, with}
 
--- nodes
+-- the nodes of a transaction
 unfoldable pub nodesT : Tran → ℕ
 nodesT (ValT n) = 1
 nodesT (AddT a b) = suc (nodesT a + nodesT b)
 nodesT (Read v) = 1
 nodesT (Write v t) = suc (nodesT t)
 
+-- the nodes of a process
 unfoldable pub nodesP : Proc → ℕ
 nodesP (ValP n) = 1
 nodesP (AddP a b) = suc (nodesP a + nodesP b)
@@ -24,6 +25,7 @@ depthT (AddT a b) = suc (max (depthT a) (depthT b))
 depthT (Read v) = 1
 depthT (Write v t) = suc (depthT t)
 
+-- the depth of a process
 unfoldable pub depthP : Proc → ℕ
 depthP (ValP n) = 1
 depthP (AddP a b) = suc (max (depthP a) (depthP b))
@@ -77,6 +79,7 @@ codeT (AddT a b) = codeT a + codeT b + 1
 codeT (Read v) = 2
 codeT (Write v t) = codeT t + 2
 
+-- the same of a process
 unfoldable pub codeP : Proc → ℕ
 codeP (ValP n) = 5
 codeP (AddP a b) = codeP a + codeP b + 1
@@ -94,6 +97,7 @@ heightT (AddT a b) = max (heightT a) (suc (heightT b))
 heightT (Read v) = 1
 heightT (Write v t) = heightT t
 
+-- the same of a process: FORK pushes 0, and its child has a stack of its own
 unfoldable pub heightP : Proc → ℕ
 heightP (ValP n) = 1
 heightP (AddP a b) = max (heightP a) (suc (heightP b))
@@ -107,53 +111,42 @@ childHeights (AddP a b) = childHeights a ++ childHeights b
 childHeights (Atomic t) = []
 childHeights (Fork p) = heightP p ∷ childHeights p
 
+-- the root's, and then theirs
 unfoldable pub heights : Proc → List ℕ
 heights p = heightP p ∷ childHeights p
 
--- document 02 No. 1: "the set of registers named by READ and the set named by WRITE"; a set with those of a tree besides, and those of a tree
+-- a set with the registers that READ names in a transaction
 unfoldable pub withReadsT : Tran → (set : ℕ) → ℕ
 withReadsT (ValT n) set = set
 withReadsT (AddT a b) set = withReadsT b (withReadsT a set)
 withReadsT (Read v) set = with set v
 withReadsT (Write v t) set = withReadsT t set
 
+-- a set with the registers that READ names in a process
 unfoldable pub withReads : Proc → (set : ℕ) → ℕ
 withReads (ValP n) set = set
 withReads (AddP a b) set = withReads b (withReads a set)
 withReads (Atomic t) set = withReadsT t set
 withReads (Fork p) set = withReads p set
 
+-- a set with the registers that WRITE names in a transaction
 unfoldable pub withWritesT : Tran → (set : ℕ) → ℕ
 withWritesT (ValT n) set = set
 withWritesT (AddT a b) set = withWritesT b (withWritesT a set)
 withWritesT (Read v) set = set
 withWritesT (Write v t) set = withWritesT t (with set v)
 
+-- a set with the registers that WRITE names in a process
 unfoldable pub withWrites : Proc → (set : ℕ) → ℕ
 withWrites (ValP n) set = set
 withWrites (AddP a b) set = withWrites b (withWrites a set)
 withWrites (Atomic t) set = withWritesT t set
 withWrites (Fork p) set = withWrites p set
 
+-- document 02 No. 1: "the set of registers named by READ"
 unfoldable pub readSet : Proc → ℕ
 readSet p = withReads p none
 
+-- document 02 No. 1: "the set named by WRITE"
 unfoldable pub writeSet : Proc → ℕ
 writeSet p = withWrites p none
-
--- nodes, depth, FORKs and code bytes of a tree of either sort
-abbrev pub nodes : (s : Sort) → Tree s → ℕ
-nodes process p = nodesP p
-nodes transaction t = nodesT t
-
-abbrev pub depth : (s : Sort) → Tree s → ℕ
-depth process p = depthP p
-depth transaction t = depthT t
-
-abbrev pub forksIn : (s : Sort) → Tree s → ℕ
-forksIn process p = forks p
-forksIn transaction t = 0
-
-abbrev pub codeSize : (s : Sort) → Tree s → ℕ
-codeSize process p = codeP p
-codeSize transaction t = codeT t

@@ -16,6 +16,7 @@ pub record Job : Type 0 where
 abbrev pub number16 : List ℕ → ℕ → ℕ
 number16 bs i = getD bs i 0 * 256 + getD bs (suc i) 0
 
+-- the number that the first four bytes hold
 abbrev pub number32 : List ℕ → ℕ
 number32 bs = ((getD bs 0 0 * 256 + getD bs 1 0) * 256 + getD bs 2 0) * 256 + getD bs 3 0
 

@@ -8,7 +8,8 @@ pub mod Outcome
 pub mod Reader
 pub mod Refusal
 pub mod Turns
-pub mod Kept
 pub mod Source
 pub mod Soup
 pub mod Overflows
+pub mod InnerKept
+pub mod InnerTrees

@@ -62,14 +62,17 @@ ValuedN (WRITE v) = v < 64
 pub record Headed (bs : List ℕ) : Type 0 where
   pub enough : 7 ≤ length bs
 
+-- and its mark is `WSJ`
 pub record Marked (bs : List ℕ) : Type 0 where
   pub before : Headed bs
   pub mark : take 3 bs ≡ jobMark
 
+-- and its version is one that is taken
 pub record Versioned (bs : List ℕ) : Type 0 where
   pub before : Marked bs
   pub version : Taken (number16 bs 3)
 
+-- and its node count is 1 to 1,000: the whole header passes
 pub record Counted (bs : List ℕ) : Type 0 where
   pub before : Versioned bs
   pub some : 1 ≤ number16 bs 5

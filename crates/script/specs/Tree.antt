@@ -20,6 +20,7 @@ pub data Proc : Type 0 where
 pub data Sort : Type 0 where
   process transaction : Sort
 
+-- a tree of a sort
 abbrev pub Tree : Sort → Type 0
 Tree process = Proc
 Tree transaction = Tran

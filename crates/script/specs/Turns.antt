@@ -40,6 +40,7 @@ reduceSum sum rs a b (moved a′ rs′ new) right = moved (AddP a′ b) rs′ ne
 reduceSum sum rs a b (value m) (moved b′ rs′ new) = moved (AddP a b′) rs′ new
 reduceSum sum rs a b (value m) (value n) = moved (ValP (sum m n)) rs []
 
+-- "ATOMIC and FORK are due themselves": what the turn makes of a process
 unfoldable pub reduce : Rule → Registers → Proc → Reduced
 reduce sum rs (ValP n) = value n
 reduce sum rs (AddP a b) = reduceSum sum rs a b (reduce sum rs a) (reduce sum rs b)
@@ -51,6 +52,7 @@ pub record Script : Type 0 where
   pub registers : Registers
   pub threads : List Proc
 
+-- at first: every register 0, and the job's process as thread 0
 unfoldable pub initial : Proc → Script
 initial p = record { registers = replicate 64 (pos 0); threads = p ∷ [] }
 
@@ -59,6 +61,7 @@ pub data Turned : Type 0 where
   idle : Turned
   turned : Script → Turned
 
+-- what a turn of thread i leaves: "FORK p becomes VALP 0, and p is the next thread"
 abbrev pub after : Script → ℕ → Reduced → Turned
 after s i (value n) = idle
 after s i (moved p rs new) = turned (record { registers = rs; threads = set (s .threads) i p ++ new })

@@ -13,7 +13,7 @@ use lib.IntN.{ℤ}
 use lib.ListN.{length, drop, getD, set, length-set, length-append, List·getD-append}
 use lib.Seq.{getD-set-same, getD-set-other, getD-append-seam}
 use Rattle.code.specs.Compile.{Instruction, Code, PUSH, ADD, READ, WRITE, BEGIN, COMMIT, FORK, ε, _⨾_}
-use Rattle.code.specs.Counts.{Takes}
+use Rattle.code.specs.InnerHeights.{Takes}
 use Rattle.code.specs.Ops.{Op, opAt}
 use Rattle.script.specs.Outcome.{done}
 use Rattle.script.specs.Turns.{Registers}

@@ -17,6 +17,7 @@ use Rattle.word.specs.Sum.{Rule}
 abbrev pub Log : Type 0
 Log = ℕ → Option ℤ
 
+-- the empty log
 abbrev pub empty : Log
 empty v = none
 
@@ -46,11 +47,13 @@ pub record Looked : Type 0 where
   pub value : ℤ
   pub reads : Log
 
+-- the value in the write log if there, else in the read log if there, else the table's, which enters the read log
 abbrev pub lookedUp : (written logged : Option ℤ) → (table : ℤ) → Log → ℕ → Looked
 lookedUp (some n) logged h r v = record { value = n; reads = r }
 lookedUp none (some n) h r v = record { value = n; reads = r }
 lookedUp none none h r v = record { value = h; reads = updated r v h }
 
+-- READ of v, with the table and both logs
 unfoldable pub lookUp : Registers → ℕ → Log → Log → Looked
 lookUp h v r w = lookedUp (w v) (r v) (getD h v (pos 0)) r v
 
@@ -59,6 +62,7 @@ abbrev pub agrees : Option ℤ → ℤ → Bool
 agrees none n = true
 agrees (some m) n = not (ltZ m n || ltZ n m)
 
+-- so of every register from v on, `left` of them being left
 unfoldable pub consistent : (left v : ℕ) → Log → Registers → Bool
 consistent zero v r h = true
 consistent (suc left) v r h = agrees (r v) (getD h v (pos 0)) && consistent left (suc v) r h
@@ -68,6 +72,7 @@ abbrev pub entered : Option ℤ → ℕ → Registers → Registers
 entered none v h = h
 entered (some n) v h = set h v n
 
+-- the write log goes into the table, from register v on, `left` of them being left
 unfoldable pub overridden : (left v : ℕ) → Registers → Log → Registers
 overridden zero v h w = h
 overridden (suc left) v h w = overridden left (suc v) (entered (w v) v h) w

@@ -5,7 +5,8 @@ use mathlib.Core.Path.{_≡_, refl, sym, ap}
 use mathlib.Core.List.{List, [], _∷_, _++_}
 use native.Mathlib.Omega.{arith}
 use lib.Dec.{eqb}
-use Rattle.stm.specs.Events.{Source, fromWrites, fromReads, fromTable, Event, idle, pushed, summed, forked, begun, looked, wrote, committed, sentBack, Happened, counted, isIdle, isCommit, isBack, isTurn, order, backs, overs, Counts, uncounted, more, tally, countsOf, together, eventNumber, eventRegister, turnNumber, eventOf}
+use Rattle.stm.specs.Events.{Source, fromWrites, fromReads, fromTable, Event, idle, pushed, summed, forked, begun, looked, wrote, committed, sentBack, Happened, counted, isIdle, isCommit, isBack, isTurn, order, backs, Counts, uncounted, more, tally, countsOf, together, eventNumber, eventRegister, turnNumber, eventOf}
+use Rattle.stm.specs.InnerTasks.{overs}
 
 pub counted-append : (f : Event → Bool) (hs ks : List Happened) → counted f (hs ++ ks) ≡ counted f hs + counted f ks
 unfolding counted

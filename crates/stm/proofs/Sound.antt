@@ -10,13 +10,13 @@ use lib.ListN.{length, getD, set, replicate, List·getD-eq-default}
 use borrow.Author.Tests.{ltb-false}
 use lib.Seq.{set-getD}
 use Rattle.stm.specs.InnerCells.{Cells}
-use Rattle.stm.specs.InnerTasks.{Log, Task, outside, inside, ended, Did, System, taskAt, started, did, next, endOf, eventsOf, start}
+use Rattle.stm.specs.InnerTasks.{Log, Task, outside, inside, ended, Did, System, taskAt, started, did, next, endOf, eventsOf, start, overs}
 use Rattle.stm.specs.InnerMeaning.{processOf, meant, meantAll, valuesOf, Outside, Known, Good, Linked}
 use Rattle.stm.proofs.Codes.{proc-means, proc-runs}
 use Rattle.stm.proofs.Logs.{values-blank}
 use Rattle.stm.proofs.Opens.{Scripted, quiet, taken, Fine, task-fine}
 use Rattle.code.specs.Compile.{ε, compileP}
-use Rattle.stm.specs.Events.{isTurn, order, overs}
+use Rattle.stm.specs.Events.{isTurn, order}
 use Rattle.script.specs.Tree.{Proc, ValP}
 use Rattle.script.specs.Limits.{ValuedP}
 use Rattle.script.specs.Overflows.{overflowsP, overflowsTurns}

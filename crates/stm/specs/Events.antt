@@ -44,14 +44,17 @@ pub record Kind : Type 0 where
   pub number : ℕ
   pub register : ℕ
 
+-- the kind of an event that is not idle
 abbrev kind : (commit back fork turn : Bool) (number register : ℕ) → Kind
 kind c b f t n r = record { idle = false; commit = c; back = b; fork = f; turn = t; number = n; register = r }
 
+-- the number of a READ, by where it found its value
 abbrev readNumber : Source → ℕ
 readNumber fromWrites = 5
 readNumber fromReads = 6
 readNumber fromTable = 7
 
+-- the one table of events; its columns behind idle: commit, back, fork, turn, number, register
 abbrev pub kindOf : Event → Kind
 kindOf idle = record { idle = true; commit = false; back = false; fork = false; turn = false; number = 0; register = 0 }
 kindOf pushed = kind false false false false 1 0
@@ -63,18 +66,23 @@ kindOf wrote = kind false false false false 8 0
 kindOf committed = kind true false false true 9 0
 kindOf (sentBack v) = kind false true false false 10 v
 
+-- the table's columns, one by one: whether an event is idle
 abbrev pub isIdle : Event → Bool
 isIdle e = kindOf e .idle
 
+-- whether it is a COMMIT that took effect
 abbrev pub isCommit : Event → Bool
 isCommit e = kindOf e .commit
 
+-- whether it is a send-back
 abbrev pub isBack : Event → Bool
 isBack e = kindOf e .back
 
+-- whether it is a FORK
 abbrev pub isFork : Event → Bool
 isFork e = kindOf e .fork
 
+-- whether it is a turn
 abbrev pub isTurn : Event → Bool
 isTurn e = kindOf e .turn
 
@@ -88,11 +96,6 @@ unfoldable pub backs : ℕ → List Happened → ℕ
 backs i [] = 0
 backs i (h ∷ hs) = cond (eqb (h .thread) i && isBack (h .event)) (suc (backs i hs)) (backs i hs)
 
--- the sums that the events tell of
-unfoldable pub overs : List Happened → ℕ
-overs [] = 0
-overs (h ∷ hs) = h .over + overs hs
-
 -- ---- "`steps` are picks not idle, `commits` those that took effect, `back` those sent back"; "The run reports `over`"
 pub record Counts : Type 0 where
   pub steps : ℕ
@@ -101,6 +104,7 @@ pub record Counts : Type 0 where
   pub back : ℕ
   pub over : ℕ
 
+-- no pick
 abbrev pub uncounted : Counts
 uncounted = record { steps = 0; idle = 0; commits = 0; back = 0; over = 0 }
 
@@ -108,6 +112,7 @@ uncounted = record { steps = 0; idle = 0; commits = 0; back = 0; over = 0 }
 abbrev pub more : Bool → ℕ → ℕ
 more b n = cond b (suc n) n
 
+-- the counts with one event more
 unfoldable pub tally : Event → (over : ℕ) → Counts → Counts
 tally e over c =
     record {
@@ -118,6 +123,7 @@ tally e over c =
       over = c .over + over;
     }
 
+-- the counts of a list of events
 unfoldable pub countsOf : List Happened → Counts
 countsOf [] = uncounted
 countsOf (h ∷ hs) = tally (h .event) (h .over) (countsOf hs)
@@ -134,9 +140,11 @@ together a b =
     }
 
 -- ---- events as numbers
+-- document 02 No. 4's order: 0 idle, 1 to 9 from push to commit, 10 sent back
 unfoldable pub eventNumber : Event → ℕ
 eventNumber e = kindOf e .number
 
+-- the first stale register of a send-back, else 0
 unfoldable pub eventRegister : Event → ℕ
 eventRegister e = kindOf e .register
 

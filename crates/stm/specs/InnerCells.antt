@@ -26,20 +26,25 @@ pub record Cells : Type 1 where
   pub not-stale : (l c : Cell) → Past l c → stale l c ≡ false → value l ≡ value c
 
 -- ---- differing values, as they are tested
+-- no number of this kind is less than itself
 nat-self : (n : ℕ) → ltb n n ≡ false
 nat-self n = le-ltb n n (omega arith)
 
+-- no number is less than itself
 self : (c : ℤ) → ltZ c c ≡ false
 self (pos n) = nat-self n
 self (negsuc n) = nat-self n
 
+-- a number does not differ from itself, as it is tested
 pub same-not-less : (c : ℤ) → (ltZ c c || ltZ c c) ≡ false
 same-not-less c = rw (self c)
 
+-- neither of the two is true
 both-false : (a b : Bool) → (a || b) ≡ false → (a ≡ false) × (b ≡ false)
 both-false true b e = absurd (let z : _≡_ {A = ℕ} 0 1 = cc in omega arith)
 both-false false b e = (refl, e)
 
+-- what does not differ, as it is tested, is equal
 pub neither-less : (l c : ℤ) → (ltZ l c || ltZ c l) ≡ false → l ≡ c
 neither-less (pos a) (pos b) e =
     let f = both-false (ltb a b) (ltb b a) e in

@@ -22,19 +22,23 @@ summedP [] = []
 summedP (b ∷ []) = b ∷ []
 summedP (b ∷ a ∷ ps) = AddP a b ∷ ps
 
+-- the same of transactions
 abbrev pub summedT : List Tran → List Tran
 summedT [] = []
 summedT (b ∷ []) = b ∷ []
 summedT (b ∷ a ∷ ts) = AddT a b ∷ ts
 
+-- WRITE of the topmost part
 abbrev pub writtenT : ℕ → List Tran → List Tran
 writtenT v [] = []
 writtenT v (t ∷ ts) = Write v t ∷ ts
 
+-- COMMIT: the topmost transaction becomes an ATOMIC
 abbrev pub atomic : List Tran → List Proc → List Proc
 atomic [] ps = ps
 atomic (t ∷ ts) ps = Atomic t ∷ ps
 
+-- the process that is left
 abbrev pub topmost : List Proc → Proc
 topmost [] = ValP (pos 0)
 topmost (p ∷ ps) = p
@@ -77,6 +81,7 @@ abbrev pub meant : (K : Cells) → Task K → Proc
 meant K (outside c σ) = processOf c (values σ)
 meant K (inside body base c σ r w over) = processOf (BEGIN ⨾ body) (values base)
 
+-- the processes of all tasks
 abbrev pub meantAll : (K : Cells) → List (Task K) → List Proc
 meantAll K [] = []
 meantAll K (t ∷ ts) = meant K t ∷ meantAll K ts
@@ -92,6 +97,7 @@ taking2 P zero = ⊥
 taking2 P (suc zero) = ⊥
 taking2 P (suc (suc h)) = P (suc h)
 
+-- a WRITE takes one, and leaves it
 abbrev pub taking1 : (ℕ → Type 0) → ℕ → Type 0
 taking1 P zero = ⊥
 taking1 P (suc h) = P (suc h)
@@ -130,6 +136,7 @@ pub record Finished : Type 0 where
   pub registers : Registers
   pub over : ℕ
 
+-- a transaction worked out whole on these registers
 abbrev pub wholly : Rule → Tran → Registers → Finished
 wholly sum t rs = record { value = work sum t rs .value; registers = work sum t rs .registers; over = overflowsT sum t rs }
 
@@ -153,6 +160,7 @@ abbrev pub enter : Option ℤ → ℕ → Registers → Registers
 enter none v rs = rs
 enter (some n) v rs = set rs v n
 
+-- from register v on, `left` of them being left
 unfoldable pub overlay : (left v : ℕ) → Log ℤ → Registers → Registers
 overlay zero v w rs = rs
 overlay (suc left) v w rs = overlay left (suc v) w (enter (w v) v rs)
@@ -187,6 +195,7 @@ module _ (K : Cells) (sum : Rule) where
   abbrev pub Known : Log (K .Cell) → List (K .Cell) → Type 0
   Known r h = (v : ℕ) (c : K .Cell) → v < 64 → r v ≡ some c → K .Past c (cellAt K h v)
 
+  -- a task that is well formed, on this table
   abbrev pub Good : List (K .Cell) → Task K → Type 0
   Good h (outside c σ) = Outside c (length σ)
   Good h (inside body base c σ r w over) = Open body base c σ r w over × Known r h
@@ -214,6 +223,7 @@ unfoldable mutual
   begins ε = 0
   begins (i ⨾ c) = beginsIn i + begins c
 
+-- FORKs of code, each FORK's child included
 unfoldable mutual
   pub forksIn : Instruction → ℕ
   forksIn (PUSH n) = 0
@@ -233,10 +243,12 @@ abbrev pub toCome : (K : Cells) → Task K → ℕ
 toCome K (outside c σ) = codeCount c
 toCome K (inside body base c σ r w over) = codeCount c
 
+-- its transactions whose commit is to come
 abbrev pub commitsToCome : (K : Cells) → Task K → ℕ
 commitsToCome K (outside c σ) = begins c
 commitsToCome K (inside body base c σ r w over) = suc (begins c)
 
+-- its FORKs to come
 abbrev pub forksToCome : (K : Cells) → Task K → ℕ
 forksToCome K (outside c σ) = forksOf c
 forksToCome K (inside body base c σ r w over) = forksOf c

@@ -16,9 +16,11 @@ use Rattle.word.specs.Sum.{Rule, overOf}
 abbrev pub Log : Type 0 → Type 0
 Log A = ℕ → Option A
 
+-- an empty log
 abbrev pub nothing : {A : Type 0} → Log A
 nothing v = none
 
+-- a log that holds a of register v besides
 abbrev pub logged : {A : Type 0} → Log A → ℕ → A → Log A
 logged log v a u = cond (eqb u v) (some a) (log u)
 
@@ -41,6 +43,7 @@ module _ (K : Cells) where
     pub event : Event
     pub over : ℕ
 
+  -- the cell of register v
   abbrev pub cellAt : List (K .Cell) → ℕ → K .Cell
   cellAt h v = getD h v (K .blank)
 
@@ -50,11 +53,13 @@ module _ (K : Cells) where
     pub source : Source
     pub reads : Log (K .Cell)
 
+  -- by what the logs hold of the register, and the table's cell
   abbrev pub foundIn : Option ℤ → Option (K .Cell) → (now : K .Cell) → Log (K .Cell) → ℕ → Found
   foundIn (some n) l now r v = record { value = n; source = fromWrites; reads = r }
   foundIn none (some c) now r v = record { value = K .value c; source = fromReads; reads = r }
   foundIn none none now r v = record { value = K .value now; source = fromTable; reads = logged r v now }
 
+  -- READ of register v
   unfoldable pub found : List (K .Cell) → Log (K .Cell) → Log ℤ → ℕ → Found
   found h r w v = foundIn (w v) (r v) (cellAt h v) r v
 
@@ -63,6 +68,7 @@ module _ (K : Cells) where
   staleIn none now = false
   staleIn (some c) now = K .stale c now
 
+  -- that register, or v + `left` if none of them is stale
   unfoldable pub firstStale : (left v : ℕ) → Log (K .Cell) → List (K .Cell) → ℕ
   firstStale zero v r h = v
   firstStale (suc left) v r h = elim (staleIn (r v) (cellAt h v)) [ true ↦ v | false ↦ firstStale left (suc v) r h ]
@@ -72,6 +78,7 @@ module _ (K : Cells) where
   entered none v h = h
   entered (some n) v h = set h v (K .written (cellAt h v) n)
 
+  -- from register v on, `left` of them being left
   unfoldable pub overwritten : (left v : ℕ) → Log ℤ → List (K .Cell) → List (K .Cell)
   overwritten zero v w h = h
   overwritten (suc left) v w h = overwritten left (suc v) w (entered (w v) v h)
@@ -84,9 +91,11 @@ module _ (K : Cells) where
         | false ↦ record { task = outside c (n ∷ base); table = overwritten 64 0 w h; children = []; event = committed; over = over }
       ]
 
+  -- an idle pick
   abbrev pub stays : Task K → List (K .Cell) → Did
   stays t h = record { task = t; table = h; children = []; event = idle; over = 0 }
 
+  -- an instruction that forks nothing and tells of no sum
   abbrev pub goes : Task K → List (K .Cell) → Event → Did
   goes t h e = record { task = t; table = h; children = []; event = e; over = 0 }
 
@@ -118,6 +127,7 @@ module _ (K : Cells) where
   stepInside sum h body base (COMMIT ⨾ c) (n ∷ σ) r w over = commits h body base c n w over (firstStale 64 0 r h)
   stepInside sum h body base (FORK k ⨾ c) σ r w over = stays (inside body base (FORK k ⨾ c) σ r w over) h
 
+  -- one instruction of a task
   unfoldable pub stepTask : Rule → List (K .Cell) → Task K → Did
   stepTask sum h (outside c σ) = stepOutside sum h c σ
   stepTask sum h (inside body base c σ r w over) = stepInside sum h body base c σ r w over
@@ -127,6 +137,7 @@ module _ (K : Cells) where
     pub table : List (K .Cell)
     pub tasks : List (Task K)
 
+  -- task i; an ended one if there are fewer
   abbrev pub taskAt : System → ℕ → Task K
   taskAt s i = getD (s .tasks) i ended
 
@@ -135,6 +146,7 @@ module _ (K : Cells) where
   started [] = []
   started (k ∷ ks) = outside k [] ∷ started ks
 
+  -- what a step of task i leaves is put into the system
   abbrev pub put : System → ℕ → Did → System
   put s i d = record { table = d .table; tasks = set (s .tasks) i (d .task) ++ started (d .children) }
 
@@ -142,6 +154,7 @@ module _ (K : Cells) where
   abbrev pub did : Rule → System → ℕ → Did
   did sum s i = stepTask sum (s .table) (taskAt s i)
 
+  -- the system after it
   unfoldable pub next : Rule → System → ℕ → System
   next sum s i = put s i (did sum s i)
 
@@ -150,6 +163,7 @@ module _ (K : Cells) where
   endOf sum s [] = s
   endOf sum s (i ∷ is) = endOf sum (next sum s i) is
 
+  -- the events of picks, one after the other
   unfoldable pub eventsOf : Rule → System → List ℕ → List Happened
   eventsOf sum s [] = []
   eventsOf sum s (i ∷ is) = record { thread = i; event = did sum s i .event; over = did sum s i .over } ∷ eventsOf sum (next sum s i) is
@@ -157,3 +171,8 @@ module _ (K : Cells) where
   -- a job's code alone, every cell blank
   unfoldable pub start : Code → System
   start c = record { table = replicate 64 (K .blank); tasks = outside c [] ∷ [] }
+
+-- the sums that the events tell of
+unfoldable pub overs : List Happened → ℕ
+overs [] = 0
+overs (h ∷ hs) = h .over + overs hs

@@ -79,6 +79,7 @@ held (some r) rule = ruleNumber (some r)
 unfoldable pub ruleAfter : Event → (rule : ℕ) → ℕ
 ruleAfter e rule = held (usedBy e) rule
 
+-- the number of send-backs after it
 unfoldable pub backsAfter : Event → (backs : ℕ) → ℕ
 backsAfter e backs = more (isBack e) backs
 
@@ -87,6 +88,7 @@ abbrev pub lastly : (later earlier : Option MachineRule) → Option MachineRule
 lastly none earlier = earlier
 lastly (some r) earlier = some r
 
+-- of picks, the later one deciding
 unfoldable pub lastRule : ℕ → List Happened → Option MachineRule
 lastRule i [] = none
 lastRule i (h ∷ hs) = lastly (lastRule i hs) (cond (eqb (h .thread) i) (usedBy (h .event)) none)

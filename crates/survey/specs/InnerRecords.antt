@@ -17,6 +17,7 @@ use Rattle.word.specs.Registers.{member}
 abbrev pub rowOf : Thread → Row
 rowOf t = record { start = t .start; end = t .end; place = t .place; height = t .height; begin = t .begin; base = t .base; over = t .over }
 
+-- no record's
 abbrev pub noRow : Row
 noRow = record { start = 0; end = 0; place = 0; height = 0; begin = 0; base = 0; over = 0 }
 

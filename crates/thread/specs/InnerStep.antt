@@ -30,11 +30,13 @@ pub record Marked (set from r : ℕ) : Type 0 where
   pub past : (v : ℕ) → from ≤ v → v < r → member set v ≡ false
   pub here : r < 64 → member set r ≡ true
 
+-- whether register v is stale
 unfoldable pub staleIn : (reads : ℕ) (readlog table : List ℤ) → ℕ → Bool
 staleIn reads readlog table v =
     member reads v
     && (ltZ (getD readlog v (pos 0)) (getD table v (pos 0)) || ltZ (getD table v (pos 0)) (getD readlog v (pos 0)))
 
+-- the first stale register from v on, `left` of them being left
 unfoldable pub firstStaleIn : (left v : ℕ) (reads : ℕ) (readlog table : List ℤ) → ℕ
 firstStaleIn zero v reads readlog table = v
 firstStaleIn (suc left) v reads readlog table =
@@ -44,17 +46,21 @@ firstStaleIn (suc left) v reads readlog table =
 unfoldable pub staleRead : (table : List ℤ) → Thread → Bool
 staleRead table t = cond (eqb (length table) 64) (ltb (firstStale 64 0 t table) 64) false
 
+-- the table with the write log in it, from register v on, `left` of them being left
 unfoldable pub storedIn : (left v : ℕ) (writes : ℕ) (writelog table : List ℤ) → List ℤ
 storedIn zero v writes writelog table = table
 storedIn (suc left) v writes writelog table =
     storedIn left (suc v) writes writelog (cond (member writes v) (set table v (getD writelog v (pos 0))) table)
 
+-- the cells above a height are 0
 abbrev pub cleared : (height : ℕ) → List ℤ → List ℤ
 cleared height cells = take height cells ++ replicate (64 - height) (pos 0)
 
+-- the event's number of a READ of v, by the sets of both logs
 unfoldable pub sourceNumber : (writes reads v : ℕ) → ℕ
 sourceNumber writes reads v = cond (member writes v) 5 (cond (member reads v) 6 7)
 
+-- an ADD takes a turn where no transaction is open
 unfoldable pub outsideTurn : (begin : ℕ) → ℕ
 outsideTurn begin = cond (eqb begin 0) 1 0
 
@@ -67,9 +73,11 @@ pub record Handed : Type 0 where
   pub acted : Action
   pub table : List ℤ
 
+-- an action and the table
 abbrev pub handed : Action → List ℤ → Handed
 handed a table = record { acted = a; table = table }
 
+-- an idle step
 abbrev pub unacted : Thread → Action
 unacted t = record { thread = t; event = 0; register = 0; turn = 0; over = 0; start = 0; end = 0 }
 
@@ -77,6 +85,7 @@ unacted t = record { thread = t; event = 0; register = 0; turn = 0; over = 0; st
 unfoldable pub ruleAt : (event rule : ℕ) → ℕ
 ruleAt event rule = cond (eqb event 0) rule event
 
+-- a step that forks nothing and is no send-back
 abbrev pub acting : (event turn over : ℕ) → Thread → Action
 acting event turn over t =
     record {
@@ -93,6 +102,7 @@ acting event turn over t =
 unfoldable pub noteAfter : (begin over : ℕ) → Bool → ℕ
 noteAfter begin over overflowed = cond (eqb begin 0) over (cond overflowed (saturated over 1) over)
 
+-- what the sum counts at once: 1 if it left the range where no transaction is open
 unfoldable pub overAtOnce : (begin : ℕ) → Bool → ℕ
 overAtOnce begin overflowed = cond (eqb begin 0) (cond overflowed 1 0) 0
 
@@ -102,6 +112,7 @@ summing sum t =
     let s = added sum (below t 2) (below t 1) in
     acting 2 (outsideTurn (t .begin)) (overAtOnce (t .begin) (s .overflowed)) (adding (noteAfter (t .begin) (t .over) (s .overflowed)) (s .value) t)
 
+-- COMMIT, by whether register v is stale
 abbrev pub committedBy : (stale : Bool) (v : ℕ) (table : List ℤ) → Thread → Handed
 committedBy true v table t =
     handed
@@ -117,6 +128,7 @@ committedBy true v table t =
     table
 committedBy false v table t = handed (acting 9 1 (t .over) (closed (t .place + 1) (t .height) t)) (overlaid 64 0 t table)
 
+-- COMMIT
 unfoldable pub committed : (table : List ℤ) → Thread → Handed
 committed table t =
     let v = firstStale 64 0 t table in
@@ -138,6 +150,7 @@ takesOp op.Commit h b r left = cond (ltb 64 b) false (cond (eqb r 64) (enoughFor
 takesOp (op.Fork size) h b r left = cond (ltb left 3) false (enoughFor 0 h 63 size (left - 3))
 takesOp op.Foreign h b r left = false
 
+-- one instruction of a record that has what it takes
 unfoldable pub performed : Rule → (table : List ℤ) → Thread → Op → Handed
 performed sum table t (op.Push n) = handed (acting 1 0 0 (push n (t .place + 5) t)) table
 performed sum table t op.Add = handed (summing sum t) table
@@ -178,6 +191,7 @@ pub record Due (o : Op) (registers : ℕ) (t : Thread) : Type 0 where
   pub short : length code < 2 ^ 64
   pub is : o ≡ dueOp code registers t
 
+-- the same of any record: idle if it has not what the instruction takes
 unfoldable pub attempted : Rule → (code : List ℕ) (table : List ℤ) → Thread → Op → Handed
 attempted sum bytes table t o =
     elim (takesOp o (t .height) (t .base) (length table) (length bytes - t .place)) [
@@ -185,6 +199,7 @@ attempted sum bytes table t o =
       | false ↦ handed (unacted t) table
     ]
 
+-- one step of a record: idle if there is no such thread or it has ended
 unfoldable pub stepped : Rule → (code : List ℕ) (table : List ℤ) → Thread → Handed
 stepped sum bytes table t =
     elim (eqb (t .start) 0 || eqb (t .place) (t .end)) [
@@ -208,6 +223,7 @@ stackEvent op.Foreign = 0
 unfoldable pub stackedOp : Op → (height left : ℕ) → Bool
 stackedOp o h left = cond (eqb (stackEvent o) 0) false (takesOp o h 0 0 left)
 
+-- the number of a PUSH, else 0
 unfoldable pub numberOp : Op → ℤ
 numberOp (op.Push n) = n
 numberOp op.Add = pos 0
@@ -222,6 +238,7 @@ numberOp op.Foreign = pos 0
 unfoldable pub stackOnly : (code : List ℕ) → Thread → Op → Op
 stackOnly bytes t o = elim (stackedOp o (t .height) (length bytes - t .place)) [ true ↦ o | false ↦ op.Foreign ]
 
+-- the instruction of a record's step if it is one of them, else Foreign
 unfoldable pub plainOp : (code : List ℕ) → Thread → Op
 plainOp bytes t =
     elim (eqb (t .start) 0 || eqb (t .place) (t .end)) [
@@ -238,6 +255,7 @@ pub record Stackable (event height place : ℕ) : Type 0 where
   pub push : event ≡ 1 → (height < 64) × (place + 5 < 2 ^ 64)
   pub add : event ≡ 2 → (2 ≤ height) × (height ≤ 64) × (place + 1 < 2 ^ 64)
 
+-- which cells change, the height and the place after it
 unfoldable pub planOf : (event height place : ℕ) → Plan
 planOf event height place =
     elim (eqb event 1) [
@@ -248,6 +266,7 @@ planOf event height place =
       ]
     ]
 
+-- the low cell's value, and whether the sum left the range
 unfoldable pub valueOf : (event : ℕ) (n a b : ℤ) → Added
 valueOf event n a b =
     elim (eqb event 1) [
@@ -255,6 +274,7 @@ valueOf event n a b =
       | false ↦ elim (eqb event 2) [ true ↦ added wrapping a b | false ↦ record { value = a; overflowed = false } ]
     ]
 
+-- the record after it
 unfoldable pub stackedBy : (event : ℕ) (n : ℤ) → Thread → Action
 stackedBy event n t =
     elim (eqb event 1) [
@@ -262,5 +282,6 @@ stackedBy event n t =
       | false ↦ elim (eqb event 2) [ true ↦ summing wrapping t | false ↦ acting event 0 0 t ]
     ]
 
+-- whether it takes a turn
 unfoldable pub stackTurn : (event begin : ℕ) → ℕ
 stackTurn event begin = cond (eqb event 2) (outsideTurn begin) 0

@@ -45,14 +45,16 @@ exists t = not (eqb (t .start) 0)
 unfoldable pub logOf : (set : ℕ) (values : List ℤ) → ℕ → Option ℤ
 logOf set values v = cond (member set v) (some (getD values v (pos 0))) none
 
--- the read log and the write log of a record
+-- the read log of a record
 abbrev pub readLog : Thread → ℕ → Option ℤ
 readLog t = logOf (t .reads) (t .readlog)
 
+-- the write log of a record
 abbrev pub writeLog : Thread → ℕ → Option ℤ
 writeLog t = logOf (t .writes) (t .writelog)
 
 -- ---- a record with another place, another stack, other notes, other logs, another last rule and number of send-backs
+-- a record with another place
 abbrev pub withPlace : ℕ → Thread → Thread
 withPlace place t =
     record {
@@ -72,6 +74,7 @@ withPlace place t =
       backs = t .backs;
     }
 
+-- a record with another stack
 abbrev pub withStack : (height : ℕ) (cells : List ℤ) → Thread → Thread
 withStack height cells t =
     record {
@@ -91,6 +94,7 @@ withStack height cells t =
       backs = t .backs;
     }
 
+-- a record with other notes
 abbrev pub withNotes : (begin base over : ℕ) → Thread → Thread
 withNotes begin base over t =
     record {
@@ -110,6 +114,7 @@ withNotes begin base over t =
       backs = t .backs;
     }
 
+-- a record with other logs
 abbrev pub withLogs : (reads : ℕ) (readlog : List ℤ) (writes : ℕ) (writelog : List ℤ) → Thread → Thread
 withLogs reads readlog writes writelog t =
     record {
@@ -129,6 +134,7 @@ withLogs reads readlog writes writelog t =
       backs = t .backs;
     }
 
+-- a record with another last rule and another number of send-backs
 abbrev pub withRule : (rule backs : ℕ) → Thread → Thread
 withRule rule backs t =
     record {
@@ -207,6 +213,7 @@ begin t = withPlace (t .place + 1) (withNotes (t .place) (t .height) 0 (withoutL
 unfoldable pub sourceOf : Thread → ℕ → Source
 sourceOf t v = cond (member (t .writes) v) fromWrites (cond (member (t .reads) v) fromReads fromTable)
 
+-- the value that READ of v finds there
 abbrev pub readFrom : Source → List ℤ → Thread → ℕ → ℤ
 readFrom fromWrites table t v = getD (t .writelog) v (pos 0)
 readFrom fromReads table t v = getD (t .readlog) v (pos 0)
@@ -218,6 +225,7 @@ noted fromWrites v n t = t
 noted fromReads v n t = t
 noted fromTable v n t = withLogs (with (t .reads) v) (set (t .readlog) v n) (t .writes) (t .writelog) t
 
+-- READ of v: the value is pushed, and from the table it "enters the read log"
 unfoldable pub read : List ℤ → ℕ → Thread → Thread
 read table v t =
     let source = sourceOf t v in

@@ -6,7 +6,7 @@ use native.Mathlib.Omega.{arith}
 use native.Mathlib.Decide.{decLt}
 use lib.ListN.{drop}
 use Rattle.code.specs.Compile.{Instruction, Code, PUSH, ADD, READ, WRITE, BEGIN, COMMIT, FORK, ε, _⨾_, compileP}
-use Rattle.code.specs.Counts.{heightAfter, endHeight, greatest}
+use Rattle.code.specs.InnerHeights.{heightAfter, endHeight, greatest}
 use Rattle.code.specs.Ops.{Op, opAt}
 use Rattle.code.specs.Ops as code
 use Rattle.code.proofs.Heights.{one-left, greatest-least}

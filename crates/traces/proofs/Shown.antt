@@ -10,7 +10,7 @@ use lib.IntN.{ℤ}
 use lib.ListN.{length, drop}
 use Rattle.code.specs.Bytes.{IsCode}
 use Rattle.code.specs.Compile.{Instruction, Code, PUSH, ADD, READ, WRITE, BEGIN, COMMIT, FORK, ε, _⨾_, compileP}
-use Rattle.code.specs.Counts.{greatest}
+use Rattle.code.specs.InnerHeights.{greatest}
 use Rattle.code.specs.Ops.{Op, opAt}
 use Rattle.code.specs.Ops as code
 use Rattle.machine.specs.Fits.{Walked, Walks, starts, Exists, ThreadOf, OneThread}

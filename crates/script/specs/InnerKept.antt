@@ -1,4 +1,5 @@
--- What every turn keeps: the table of 64 registers, and "n is a signed 32-bit number and v a register, 0 to 63".
+-- For the proofs, nobody has to believe it: what every turn keeps, the table of 64 registers, and "n is a signed 32-bit number and v a register, 0 to 63".
+-- `turns-keep` (proofs/Turns) says that it holds after every list of turns.
 use Prim.Native.Nat.{ℕ}
 use mathlib.Core.Path.{_≡_}
 use lib.IntN.{pos}
