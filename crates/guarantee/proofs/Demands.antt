@@ -2,7 +2,7 @@
 use Prim.Native.Nat.{ℕ}
 use mathlib.Core.Path.{_≡_, ap, _∙_}
 use mathlib.Core.List.{List, _∷_}
-use Rattle.guarantee.specs.Demands.{Readers, Demand1, Demand2, Demand3}
+use Rattle.guarantee.specs.Demands.{Readers, Replies, Demand1, Demand2, Demand3}
 use Rattle.guarantee.proofs.Agreement.{agreement}
 use Rattle.guarantee.proofs.Histories.{call-lists, sound, told-overs, every-order, sent-back, bounded}
 use Rattle.guarantee.proofs.RoundTrip.{read-back-exactly, compile-then-back, back-then-compile}
@@ -14,7 +14,7 @@ use Rattle.code.proofs.ReadBack.{code-read, read-is-code}
 use Rattle.machine.proofs.FitTests.{fits-exactly}
 use Rattle.script.proofs.Accepts.{accepted-is-job, job-is-accepted}
 use Rattle.script.proofs.Refuses.{refused-is-read, read-is-refused}
-use Rattle.machine.proofs.Calls.{fresh-answers, step-answers, run-answers}
+use Rattle.machine.proofs.Calls.{fresh-answers, step-answers, run-answers, fresh-says, step-says, run-says}
 use Rattle.script.specs.Bytes.{Bytes}
 use Rattle.script.specs.Outcome.{done}
 use Rattle.script.specs.Jobs.{Job}
@@ -36,6 +36,9 @@ readers =
       only-foreign = only-foreign;
       fitting = fits-exactly;
     }
+
+pub replies : Replies
+replies = record { fresh = fresh-says; step = step-says; run = run-says }
 
 pub demand-1 : Demand1
 demand-1 =

@@ -11,7 +11,7 @@ use lib.IntN.{pos}
 use lib.ListN.{length, getD, replicate, List·getD-append}
 use Rattle.code.specs.Bytes.{compiled, IsCode}
 use Rattle.code.specs.Compile.{ε, compileP}
-use Rattle.code.specs.Counts.{greatest}
+use Rattle.code.specs.InnerHeights.{greatest}
 use Rattle.code.specs.Ops as code
 use Rattle.code.proofs.Flat.{code-length}
 use Rattle.code.proofs.Heights.{count-proc, longest-proc, greatest-height}

@@ -19,7 +19,7 @@ use Rattle.code.proofs.Foreign.{there-and-back, code-bytes}
 use Rattle.thread.specs.declared.Thread.{Thread}
 use Rattle.machine.specs.Steps as steps
 use Rattle.machine.specs.Steps.{State, Stepped, numberOf, threadAt, pick, fresh, Ran}
-use Rattle.stm.specs.Events.{Happened, counted, isIdle, isCommit, isBack, backs, order, overs, countsOf, Counts, together}
+use Rattle.stm.specs.Events.{Happened, counted, isIdle, isCommit, isBack, backs, order, countsOf, Counts, together}
 use Rattle.machine.specs.Fits.{Exists, Fits, Typed, Ranged}
 use Rattle.machine.specs.FitTest.{fits}
 use Rattle.machine.specs.Answers.{sumOf, fitting, Returned, stepOf, runOf}
@@ -48,7 +48,7 @@ use Rattle.machine.proofs.Mirrors.{Mirrors}
 use Rattle.machine.proofs.Fresh.{fresh-typed, fresh-fits, fresh-mirrors}
 use Rattle.machine.proofs.Ranges.{wrapping-in-range, fresh-ranged, run-ranged}
 use Rattle.machine.proofs.Runs.{Run, run-keeps}
-use Rattle.stm.specs.InnerTasks.{Log, Task, outside, inside, System, taskAt, next, start, endOf, eventsOf}
+use Rattle.stm.specs.InnerTasks.{Log, Task, outside, inside, System, taskAt, next, start, endOf, eventsOf, overs}
 use Rattle.stm.specs.InnerMeaning.{Outside, Inside, processOf, values, meant, valuesOf, Linked}
 use Rattle.stm.proofs.Sound.{start-linked, run-linked, meant-length, meant-at}
 use Rattle.stm.proofs.Complete.{Below, Realised, start-outside, complete}
@@ -489,6 +489,7 @@ module _ (job : List ℕ) (j : Job) (b : Bytes job) (accepted : readJob job ≡ 
         refused-keeps = refused-keeps′;
         taken-leaves = taken-leaves′;
         mixed = mixed′;
+        same-code = λ h. code-kept job j b accepted h;
         goes-on = goes-on′;
         step-is-run = step-is-run′;
         one-run = λ h. history-run job j b accepted h;

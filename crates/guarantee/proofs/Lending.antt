@@ -9,10 +9,12 @@ use lib.IntN.{ℤ, pos}
 use lib.ListN.{length, getD}
 use denote.Builtin.{u8, i32}
 use Rattle.engine.proofs.Rows.{ThreadR, Known, known-thread, known-blank, small}
+use Rattle.guarantee.specs.ByType.{LentByType, ByType}
 use Rattle.guarantee.specs.Histories.{Lent, step, run}
 use Rattle.guarantee.specs.Values.{Valued, AllValued}
 use Rattle.machine.proofs.Calls.{fresh-answers, step-answers, run-answers}
 use Rattle.machine.specs.Answers.{freshCall, stepCall, runCall, FreshAnswer, StepAnswer, RunAnswer}
+use Rattle.machine.specs.Fits.{Typed, Ranged}
 use Rattle.machine.specs.Steps.{stateFrom}
 use Rattle.script.specs.Bytes.{Bytes}
 use Rattle.thread.specs.Threads.{blank}
@@ -29,7 +31,7 @@ bytes-small (b ∷ bs) v zero h = byte b (v .0)
 bytes-small (b ∷ bs) v (suc i) h = bytes-small bs (v .1) i (omega (arith, h))
 
 -- a slice of bytes
-pub bytes-by-type : (bs : List ℕ) → AllValued u8 bs → Bytes bs
+bytes-by-type : (bs : List ℕ) → AllValued u8 bs → Bytes bs
 bytes-by-type bs v = record { small = bytes-small bs v }
 
 -- registers
@@ -46,32 +48,31 @@ threads-by-type [] a i = known-blank
 threads-by-type (t ∷ ts) a zero = known-thread t (a .0 .0) (a .0 .1)
 threads-by-type (t ∷ ts) a (suc i) = threads-by-type ts (a .1) i
 
-module _ (code : List ℕ) (rs : List ℤ) (ts : List Thread) (c : AllValued u8 code) (r : AllValued i32 rs) (t : AllValued ThreadR ts) where
-  pub step-by-type : (pick : ℕ) → Valued u8 pick → Lent (step code (stateFrom rs ts) pick)
+module _ (code : List ℕ) (rs : List ℤ) (ts : List Thread) (l : LentByType code rs ts) where
+  state-typed : Typed (stateFrom rs ts)
+  state-typed i = threads-by-type ts (l .records) i .typed
+
+  state-ranged : Ranged (stateFrom rs ts)
+  state-ranged = record { registers = registers-by-type rs (l .registers); threads = λ i. threads-by-type ts (l .records) i .ranged }
+
+  code-bytes : Bytes code
+  code-bytes = bytes-by-type code (l .bytes)
+
+  step-by-type : (pick : ℕ) → Valued u8 pick → Lent (step code (stateFrom rs ts) pick)
   unfolding AllValued
-  step-by-type pick v =
-      record {
-        code = bytes-by-type code c;
-        state = λ i. threads-by-type ts t i .typed;
-        ranges = record { registers = registers-by-type rs r; threads = λ i. threads-by-type ts t i .ranged };
-        picks = bytes-by-type (pick ∷ []) (v, tt);
-      }
+  step-by-type pick v = record { code = code-bytes; state = state-typed; ranges = state-ranged; picks = bytes-by-type (pick ∷ []) (v, tt) }
 
-  pub run-by-type : (picks : List ℕ) → AllValued u8 picks → Lent (run code (stateFrom rs ts) picks)
-  run-by-type picks v =
-      record {
-        code = bytes-by-type code c;
-        state = λ i. threads-by-type ts t i .typed;
-        ranges = record { registers = registers-by-type rs r; threads = λ i. threads-by-type ts t i .ranged };
-        picks = bytes-by-type picks v;
-      }
+  run-by-type : (picks : List ℕ) → AllValued u8 picks → Lent (run code (stateFrom rs ts) picks)
+  run-by-type picks v = record { code = code-bytes; state = state-typed; ranges = state-ranged; picks = bytes-by-type picks v }
 
-  -- so that what each call returns is what one row of document 01's table says
-  pub fresh-row : FreshAnswer code (stateFrom rs ts) (freshCall code (stateFrom rs ts))
-  fresh-row = fresh-answers code (stateFrom rs ts) (bytes-by-type code c) (freshCall code (stateFrom rs ts)) .1 refl
+  fresh-row : FreshAnswer code (stateFrom rs ts) (freshCall code (stateFrom rs ts))
+  fresh-row = fresh-answers code (stateFrom rs ts) code-bytes (freshCall code (stateFrom rs ts)) .1 refl
 
-  pub step-row : (pick : ℕ) → StepAnswer code (stateFrom rs ts) pick (stepCall code (stateFrom rs ts) pick)
-  step-row pick = step-answers code (stateFrom rs ts) pick (bytes-by-type code c) (λ i. threads-by-type ts t i .typed) (stepCall code (stateFrom rs ts) pick) .1 refl
+  step-row : (pick : ℕ) → StepAnswer code (stateFrom rs ts) pick (stepCall code (stateFrom rs ts) pick)
+  step-row pick = step-answers code (stateFrom rs ts) pick code-bytes state-typed (stepCall code (stateFrom rs ts) pick) .1 refl
 
-  pub run-row : (picks : List ℕ) → RunAnswer code (stateFrom rs ts) picks (runCall code (stateFrom rs ts) picks)
-  run-row picks = run-answers code (stateFrom rs ts) picks (bytes-by-type code c) (λ i. threads-by-type ts t i .typed) (runCall code (stateFrom rs ts) picks) .1 refl
+  run-row : (picks : List ℕ) → RunAnswer code (stateFrom rs ts) picks (runCall code (stateFrom rs ts) picks)
+  run-row picks = run-answers code (stateFrom rs ts) picks code-bytes state-typed (runCall code (stateFrom rs ts) picks) .1 refl
+
+pub by-type : ByType
+by-type = record { bytes = bytes-by-type; step = step-by-type; run = run-by-type; fresh-row = fresh-row; step-row = step-row; run-row = run-row }

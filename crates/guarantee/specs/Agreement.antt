@@ -28,9 +28,11 @@ module _ (j : Job) where
   abbrev its : List ℕ
   its = compiled j
 
+  -- its rule for sums
   abbrev sum : Rule
   sum = sumOf j
 
+  -- what holds of every pick of the job's code, of the fit, and of the source's machine beside it
   pub record Agreement : Type 0 where
     -- ---- picks
     -- "A pick of a thread that does not exist or has ended is idle and changes nothing but the idle count"

@@ -1,4 +1,5 @@
--- The three demands, in the user's words. The theorems `demand-1`, `demand-2`, `demand-3` (guarantee/proofs/Demands) say that they hold.
+-- The three demands, in the user's words, and before them what they speak in. The theorems `readers`, `replies`, `demand-1`, `demand-2`, `demand-3`
+-- (guarantee/proofs/Demands) say that they hold.
 use Prim.Native.Nat.{ℕ, _≤_}
 use mathlib.Core.Bool.{true}
 use mathlib.Core.Logic.{_↔_}
@@ -17,10 +18,11 @@ use Rattle.delivery.specs.Delivered.{Delivered, onto}
 use Rattle.delivery.specs.declared.Answer.the-variants.{Done}
 use Rattle.job.specs.Answer.{answer}
 use Rattle.job.specs.declared.Reading.{Reading}
-use Rattle.machine.specs.Answers.{sumOf, Returned, freshCall, stepCall, runCall, FreshAnswer, StepAnswer, RunAnswer}
+use Rattle.machine.specs.Answers.{sumOf, freshOf, stepOf, runOf, freshSays, stepSays, runSays}
+use Rattle.machine.specs.Answers.{Returned, freshCall, stepCall, runCall, FreshAnswer, StepAnswer, RunAnswer}
 use Rattle.machine.specs.FitTest.{fits}
 use Rattle.machine.specs.Fits.{Typed, Fits}
-use Rattle.machine.specs.Steps.{State}
+use Rattle.machine.specs.Steps.{State, Stepped, Ran}
 use Rattle.machine.specs.declared.FreshReply.{FreshReply}
 use Rattle.machine.specs.declared.RunReply.{RunReply}
 use Rattle.machine.specs.declared.StepReply.{StepReply}
@@ -50,12 +52,23 @@ pub record Readers : Type 0 where
   -- a state fits
   pub fitting : (code : List ℕ) (s : State) → Typed s → (fits code s ≡ true) ↔ Fits code s
 
+-- What the answers of fresh, step and run say, which are structs of numbers: just what the call comes to. So no refusal has number 0, and a step's
+-- event, with its register and turn, is told by its numbers.
+pub record Replies : Type 0 where
+  pub fresh : (code : List ℕ) (s : State) → freshSays (freshCall code s .reply) ≡ mapped (λ (r : State). tt) (freshOf code s)
+  pub step :
+      (code : List ℕ) (s : State) (pick : ℕ) →
+      stepSays (stepCall code s pick .reply) ≡ mapped (λ (r : Stepped). record { event = r .event; over = r .over }) (stepOf code s pick)
+  pub run :
+      (code : List ℕ) (s : State) (picks : List ℕ) →
+      runSays (runCall code s picks .reply) ≡ mapped (λ (r : Ran). countsOf (r .events)) (runOf code s picks)
+
 -- 1. "Each job, code, state and pick list that meets document 01's rules, lent an output long enough, is carried through to its result, always
 -- ending, inside the memory lent. Each other call is refused with the number and place document 01 gives, and no lent memory is altered."
 -- The rows say what a call returns, answer and all lent memory: a result, or the number and place with the memory as it was. What a call
 -- comes to is what one row says, and no row says anything else. That the functions end, inside the memory lent, is what the checker proves
 -- of every function. At each field stands the function whose contract is the equation; what is asked of bytes and states, every slice has by
--- its type (`bytes-by-type`, `step-by-type`, `run-by-type`, guarantee/proofs/Lending).
+-- its type (`ByType`).
 pub record Demand1 : Type 0 where
   -- `job::read_job`
   pub job-reader : (job : List ℕ) → Bytes job → (r : Reading) → JobAnswer job r ↔ (r ≡ answer (readJob job))

@@ -21,14 +21,17 @@ pub data Call : Type 0 where
   step : (code : List ℕ) (state : State) (pick : ℕ) → Call
   run : (code : List ℕ) (state : State) (picks : List ℕ) → Call
 
+-- the code that it is lent
 abbrev pub codeOf : Call → List ℕ
 codeOf (step code s i) = code
 codeOf (run code s is) = code
 
+-- the state that it is lent
 abbrev pub stateOf : Call → State
 stateOf (step code s i) = s
 stateOf (run code s is) = s
 
+-- its picks
 abbrev pub picksOf : Call → List ℕ
 picksOf (step code s i) = i ∷ []
 picksOf (run code s is) = is
@@ -44,6 +47,7 @@ pub record Lent (c : Call) : Type 0 where
 abbrev pub alone : ℕ → Stepped → Ran
 alone i r = record { state = r .state; events = record { thread = i; event = r .event; over = r .over } ∷ [] }
 
+-- what a call comes to
 abbrev pub comesTo : Call → Outcome Ran
 comesTo (step code s i) = mapped (alone i) (stepOf code s i)
 comesTo (run code s is) = runOf code s is
@@ -91,6 +95,7 @@ abbrev pub reportedBy : Call → Counts
 reportedBy (step code s i) = stepCounts (stepCall code s i .reply)
 reportedBy (run code s is) = runCounts (runCall code s is .reply)
 
+-- the counts that the answers of a list of calls report together
 unfoldable pub reported : List Call → Counts
 reported [] = uncounted
 reported (c ∷ cs) = together (reportedBy c) (reported cs)
@@ -154,7 +159,8 @@ pub record CallLists (j : Job) : Type 0 where
       (is js : List ℕ) → Bytes is → Bytes js → length is ≤ 32768 → 32768 < length js →
       (now : Session) × ((events : List Happened) × ((h : History (compiled j) now events) ×
       (callsOf h ≡ step [] (fresh (compiled j)) 0 ∷ run (compiled j) (fresh (compiled j)) js ∷ run (compiled j) (fresh (compiled j)) is ∷ [])))
-  -- after any list any bytes up to 32,768 can be run next: such a call is lent what its types allow, and is not refused
+  -- after any list the code is the job's, and any bytes up to 32,768 can be run next: such a call is lent what its types allow, and is not refused
+  pub same-code : {now : Session} {events : List Happened} → History (compiled j) now events → now .code ≡ compiled j
   pub goes-on :
       {now : Session} {events : List Happened} → History (compiled j) now events → (is : List ℕ) → Bytes is → length is ≤ 32768 →
       Lent (run (compiled j) (now .state) is) ×

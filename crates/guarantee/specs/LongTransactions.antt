@@ -41,6 +41,7 @@ pub record OfTree (job : List ℕ) (j : Job) : Type 0 where
   pub foreign : (i : ℕ) → FirstLong (j .tree) i → Foreign (compiled j)
   pub not-foreign : AllShort j → Foreign (compiled j) → ⊥
 
+-- document 02 No. 3, of every job that no test for 1 to 9 turns down
 pub record LongTransactions : Type 0 where
   pub of-tree : (job : List ℕ) (j : Job) → Bytes job → IsTree job j → OfTree job j
   -- so M is at most 202

@@ -38,6 +38,7 @@ module _ (j : Job) where
   abbrev its : List ℕ
   its = compiled j
 
+  -- its rule for sums
   abbrev sum : Rule
   sum = sumOf j
 
@@ -49,6 +50,7 @@ module _ (j : Job) where
   abbrev renumbered : State → ℕ → (rule backs : ℕ) → State
   renumbered s i rule n = record { registers = s .registers; threads = set (s .threads) i (withRule rule n (threadAt s i)) }
 
+  -- document 02 No. 4, of every step of the job's code, of every thread's record, and of the state test
   pub record RulesNamed : Type 0 where
     -- ---- "Each step names the machine rule it used": its answer does, unless it is a refusal
     pub names : (s : State) (i : ℕ) → ruleNamed (stepCall its s i .reply) ≡ mapped (λ (r : Stepped). usedBy (r .event)) (stepOf its s i)

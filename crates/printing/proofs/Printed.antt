@@ -22,12 +22,10 @@ use Rattle.script.specs.Outcome.{Outcome, refused, done, onward, refuse}
 use Rattle.script.specs.Reader.{readJob}
 use Rattle.stm.specs.Events.{countsOf}
 use Rattle.listing.specs.Listed.{listing, printed, jobRun, listed, refusalLine}
+use Rattle.printing.specs.Printing.{inputOf, ranOf}
 use Rattle.printing.proofs.FirstBytes.{short-job, refused-13}
 
 -- an input that has a job and picks prints what they do
-abbrev inputOf : (job picks : List ℕ) → List ℕ
-inputOf job picks = bytes16 (length job) ++ (job ++ picks)
-
 pub listed-job : (job picks : List ℕ) → length job < 65536 → listed (inputOf job picks) ≡ printed (jobRun job picks)
 unfolding listed bytes16
 listed-job job picks small =
@@ -80,9 +78,8 @@ long-listed job picks j b e long =
     listed-job job picks (omega (arith, short-job job j b e)) ∙ ap (λ (o : Outcome Job). printed (onward o (λ (k : Job). runOf (compiled k) (fresh (compiled k)) picks))) e ∙ ap printed (refused-13 job picks j b e long)
 
 module _ (job picks : List ℕ) (j : Job) (bytes : Bytes job) (accepted : readJob job ≡ done j) (few : length picks ≤ 32768) where
-  -- the run of its code from a fresh state
   abbrev ran : Ran
-  ran = run (sumOf j) (compiled j) (fresh (compiled j)) picks
+  ran = ranOf j picks
 
   pub taken : runOf (compiled j) (fresh (compiled j)) picks ≡ done ran
   unfolding runOf

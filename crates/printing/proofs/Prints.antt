@@ -31,9 +31,10 @@ use Rattle.stm.specs.Events.{Counts, countsOf}
 use Rattle.stm.proofs.Counts.{same-counts}
 use Rattle.thread.specs.Threads.{exists, blank}
 use Rattle.thread.specs.declared.Thread.{Thread}
-use Rattle.printing.specs.Printing.{linesOf, HasLine, doneLine, openLine, Tells, SameResults}
+use Rattle.printing.specs.Printing.{linesOf, HasLine, doneLine, openLine, Tells, SameResults, inputOf, ranOf, RunProgram}
+use Rattle.printing.proofs.FirstBytes.{first-bytes}
 use Rattle.printing.proofs.Lines.{never, ofThreads, ofRegisters, heldLine, listing-lines, Among, split-first, first, later, split, in-front, behind, Thread's, of-threads, to-threads, Register's, of-registers, to-registers}
-use Rattle.printing.proofs.Printed.{taken, accepted-input}
+use Rattle.printing.proofs.Printed.{input-splits, cut-listed, refused-listed, long-listed, taken, accepted-input}
 use Rattle.printing.proofs.Spelling.{decimal-told, integer-told, follows, precedes, decimal-free, apart}
 
 -- ---- a line tells its numbers
@@ -248,9 +249,8 @@ module _ (c : Counts) (s : State) (one-left : (i : ℕ) → Exists s i → threa
 
 -- ---- what the run program prints of an accepted job with at most 32,768 picks
 module _ (job picks : List ℕ) (j : Job) (bytes : Bytes job) (small : Bytes picks) (accepted : readJob job ≡ done j) (few : length picks ≤ 32768) where
-  -- the run of its code from a fresh state
-  abbrev pub ran : Ran
-  ran = run (sumOf j) (compiled j) (fresh (compiled j)) picks
+  abbrev ran : Ran
+  ran = ranOf j picks
 
   -- the list of that one call
   history : History (compiled j) (record { code = compiled j; state = ran .state }) ([] ++ ran .events)
@@ -272,7 +272,7 @@ module _ (job picks : List ℕ) (j : Job) (bytes : Bytes job) (small : Bytes pic
   fitting = agreement job j bytes accepted .history-fits history .0
 
   -- an input that has the job and the picks prints a text that tells its run
-  pub prints : Tells (listed (bytes16 (length job) ++ (job ++ picks))) (countsOf (ran .events)) (ran .state)
+  pub prints : Tells (listed (inputOf job picks)) (countsOf (ran .events)) (ran .state)
   prints =
       subst (λ (l : List ℕ). Tells l (countsOf (ran .events)) (ran .state)) (sym (accepted-input job picks j bytes accepted few))
       (listing-tells (countsOf (ran .events)) (ran .state) height)
@@ -315,7 +315,7 @@ module _ (job picks : List ℕ) (j : Job) (bytes : Bytes job) (small : Bytes pic
   two = ran job′ picks′ j′ bytes′ small′ accepted′ few′
 
   pub told-apart :
-      listed (bytes16 (length job) ++ (job ++ picks)) ≡ listed (bytes16 (length job′) ++ (job′ ++ picks′)) →
+      listed (inputOf job picks) ≡ listed (inputOf job′ picks′) →
       SameResults (countsOf (one .events)) (one .state) (countsOf (two .events)) (two .state)
   told-apart e =
       record {
@@ -325,10 +325,10 @@ module _ (job picks : List ℕ) (j : Job) (bytes : Bytes job) (small : Bytes pic
         results = same-results a b;
       }
     where
-      a : Tells (listed (bytes16 (length job) ++ (job ++ picks))) (countsOf (one .events)) (one .state)
+      a : Tells (listed (inputOf job picks)) (countsOf (one .events)) (one .state)
       a = prints job picks j bytes small accepted few
 
-      b : Tells (listed (bytes16 (length job) ++ (job ++ picks))) (countsOf (two .events)) (two .state)
+      b : Tells (listed (inputOf job picks)) (countsOf (two .events)) (two .state)
       b = subst (λ (l : List ℕ). Tells l (countsOf (two .events)) (two .state)) (sym e) (prints job′ picks′ j′ bytes′ small′ accepted′ few′)
 
       f : Fits (compiled j) (one .state)
@@ -336,3 +336,17 @@ module _ (job picks : List ℕ) (j : Job) (bytes : Bytes job) (small : Bytes pic
 
       g : Fits (compiled j′) (two .state)
       g = fitting job′ picks′ j′ bytes′ small′ accepted′ few′
+
+pub run-program : RunProgram
+run-program =
+    record {
+      cut = cut-listed;
+      splits = input-splits;
+      refused-job = refused-listed;
+      long-list = long-listed;
+      accepted = accepted-input;
+      tells = prints;
+      refusal-told = refusal-told;
+      told-apart = told-apart;
+      first-bytes = first-bytes;
+    }

@@ -1,23 +1,31 @@
--- What a listing tells, line by line: document 01, "The run program". The theorems `prints` and `told-apart` (printing/proofs/Prints) say that it holds.
-use Prim.Native.Nat.{ℕ, _<_}
+-- What the run program prints, and what a listing tells, line by line: document 01, "The run program". The theorem `run-program`
+-- (printing/proofs/Prints) says that it holds.
+use Prim.Native.Nat.{ℕ, _+_, _<_, _≤_}
 use mathlib.Core.Bool.{false, cond}
 use mathlib.Core.Logic.{_↔_}
 use mathlib.Core.Path.{_≡_}
 use mathlib.Core.List.{List, [], _∷_, _++_}
 use lib.Dec.{eqb}
 use lib.IntN.{ℤ, pos}
-use lib.ListN.{length, getD}
+use lib.ListN.{length, take, drop, getD}
+use Rattle.code.specs.Bytes.{compiled}
 use Rattle.guarantee.specs.Histories.{Ended}
-use Rattle.listing.specs.Listed.{ascii, decimal, integer, countsLine, registerLine, refusalLine, isZero}
+use Rattle.listing.specs.Listed.{ascii, decimal, integer, countsLine, registerLine, refusalLine, isZero, listing, listed}
+use Rattle.machine.specs.Answers.{sumOf}
 use Rattle.machine.specs.Fits.{Exists}
-use Rattle.machine.specs.Steps.{State, threadAt}
-use Rattle.stm.specs.Events.{Counts}
+use Rattle.machine.specs.Steps.{State, Ran, threadAt, run, fresh}
+use Rattle.script.specs.Bytes.{Bytes, bytes16}
+use Rattle.script.specs.Jobs.{Job, number16}
+use Rattle.script.specs.Outcome.{refused, done}
+use Rattle.script.specs.Reader.{readJob}
+use Rattle.stm.specs.Events.{Counts, countsOf}
 
 -- a text cut behind each newline
 abbrev pub before : ℕ → List (List ℕ) → List (List ℕ)
 before c [] = (c ∷ []) ∷ []
 before c (l ∷ ls) = (c ∷ l) ∷ ls
 
+-- the lines of a text, each with its newline
 unfoldable pub linesOf : List ℕ → List (List ℕ)
 linesOf [] = []
 linesOf (c ∷ text) = cond (eqb c 10) ((c ∷ []) ∷ linesOf text) (before c (linesOf text))
@@ -32,6 +40,7 @@ pub record HasLine (text line : List ℕ) : Type 0 where
 abbrev pub doneLine : (i : ℕ) → (result : ℤ) → List ℕ
 doneLine i n = ascii "thread " ++ (decimal i ++ (ascii " done " ++ (integer n ++ ascii "\n")))
 
+-- the line of a thread that has not ended
 abbrev pub openLine : ℕ → List ℕ
 openLine i = ascii "thread " ++ (decimal i ++ ascii " open\n")
 
@@ -54,3 +63,47 @@ pub record SameResults (c : Counts) (s : State) (c′ : Counts) (s′ : State) :
   pub registers : s .registers ≡ s′ .registers
   pub threads : (i : ℕ) → Exists s i ↔ Exists s′ i
   pub results : (i : ℕ) (n : ℤ) → Ended s i n ↔ Ended s′ i n
+
+-- "Standard input: 16-bit job length, the job, then picks."
+abbrev pub inputOf : (job picks : List ℕ) → List ℕ
+inputOf job picks = bytes16 (length job) ++ (job ++ picks)
+
+-- the run of a job's code from a fresh state
+abbrev pub ranOf : Job → (picks : List ℕ) → Ran
+ranOf j picks = run (sumOf j) (compiled j) (fresh (compiled j)) picks
+
+-- What the run program prints for each input. `listed` is the text that `listing::report`, which the run program writes out, delivers.
+pub record RunProgram : Type 0 where
+  -- "Input below 2 bytes or shorter than that length prints `refused 1 at` and the input's length."
+  pub cut : (input : List ℕ) → length input < 2 + number16 input 0 → listed input ≡ refusalLine 1 (length input)
+  -- every other input has a job and picks
+  pub splits :
+      (input : List ℕ) → Bytes input → 2 + number16 input 0 ≤ length input →
+      input ≡ inputOf (take (number16 input 0) (drop 2 input)) (drop (2 + number16 input 0) input)
+  -- "Otherwise a refusal prints `refused N at P`": the job's, whatever the picks
+  pub refused-job :
+      (job picks : List ℕ) (number place : ℕ) → length job < 65536 → readJob job ≡ refused number place →
+      listed (inputOf job picks) ≡ refusalLine number place
+  -- then 13
+  pub long-list :
+      (job picks : List ℕ) (j : Job) → Bytes job → readJob job ≡ done j → 32768 < length picks →
+      listed (inputOf job picks) ≡ refusalLine 13 0
+  -- else the listing of the run of its code from a fresh state, which tells the counts and the state
+  pub accepted :
+      (job picks : List ℕ) (j : Job) → Bytes job → readJob job ≡ done j → length picks ≤ 32768 →
+      listed (inputOf job picks) ≡ listing (countsOf (ranOf j picks .events)) (ranOf j picks .state)
+  pub tells :
+      (job picks : List ℕ) (j : Job) → Bytes job → Bytes picks → readJob job ≡ done j → length picks ≤ 32768 →
+      Tells (listed (inputOf job picks)) (countsOf (ranOf j picks .events)) (ranOf j picks .state)
+  -- a refusal's line tells its number and place
+  pub refusal-told : (number place number′ place′ : ℕ) → refusalLine number place ≡ refusalLine number′ place′ → (number ≡ number′) × (place ≡ place′)
+  -- inputs that print the same have the same counts, registers, threads and results
+  pub told-apart :
+      (job picks : List ℕ) (j : Job) → Bytes job → Bytes picks → readJob job ≡ done j → length picks ≤ 32768 →
+      (job′ picks′ : List ℕ) (j′ : Job) → Bytes job′ → Bytes picks′ → readJob job′ ≡ done j′ → length picks′ ≤ 32768 →
+      listed (inputOf job picks) ≡ listed (inputOf job′ picks′) →
+      SameResults
+      (countsOf (ranOf j picks .events)) (ranOf j picks .state)
+      (countsOf (ranOf j′ picks′ .events)) (ranOf j′ picks′ .state)
+  -- what stands behind the first 65,537 bytes, which the run program reads, changes nothing
+  pub first-bytes : (input : List ℕ) → Bytes input → listed (take 65537 input) ≡ listed input
