@@ -73,6 +73,7 @@ cases =
       no-listing = refl;
       idle-listing = refl;
       held-listing = refl;
+      registers-listing = refl;
       eleven-listing = refl;
       mark-listing = refl;
       kind-listing = refl;

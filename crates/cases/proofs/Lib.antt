@@ -4,3 +4,5 @@ pub mod Forecasts
 pub mod Overflows
 pub mod LongTransactions
 pub mod Rules
+pub mod Refusals
+pub mod Calls

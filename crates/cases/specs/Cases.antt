@@ -21,8 +21,9 @@ use Rattle.machine.specs.FitTest.{fits}
 use Rattle.machine.specs.Answers.{freshSays, stepSays, runSays, freshCall, stepCall, runCall}
 use Rattle.stm.specs.Events.{idle, sentBack, counted, isIdle, isCommit, isBack, order, backs}
 use Rattle.word.specs.Sum.{wrapping}
-use Rattle.cases.specs.Inputs.{header, accepted, seven, sevenCode, lowTree, lowCode, ownWriteTree, ownWriteCode, wholeTree, wholeJob, wholeCode, highTree, highCode, lookCode, twiceCode, lastCode, staleCode, nestCode, times, ran, steps, wholePicks, staleThere, highPicks, nestPicks, told, front, second, noThreads, sized, oneForked, bothForked, behindBegin, behindRead, behindCommit, wholeEnd, highRead, nested, putAt, changed, withRegisters, exchanged, withMark, withHeight, withCell, withRead, withWrite, withReadValue, withWriteValue, withCode, looking, readSeven, readSevenWroteFive}
+use Rattle.cases.specs.Inputs.{header, accepted, seven, sevenCode, registersJob, lowTree, lowCode, ownWriteTree, ownWriteCode, wholeTree, wholeJob, wholeCode, highTree, highCode, lookCode, twiceCode, lastCode, staleCode, nestCode, times, ran, steps, wholePicks, staleThere, highPicks, nestPicks, told, front, second, noThreads, sized, oneForked, bothForked, behindBegin, behindRead, behindCommit, wholeEnd, highRead, nested, putAt, changed, withRegisters, exchanged, withMark, withHeight, withCell, withRead, withWrite, withReadValue, withWriteValue, withCode, looking, readSeven, readSevenWroteFive}
 
+-- what a definition computes, on the left, and what document 01 says of it, on the right
 pub record Cases : Type 0 where
   -- M: "job hex `57 53 4A 00 01 00 01 01 00 00 00 07` has code `57 53 43 00 01 01 00 00 00 07`, one step, result 7"; of three picks the
   -- other two are idle
@@ -94,6 +95,10 @@ pub record Cases : Type 0 where
   pub held-listing :
       listed (0x00 ∷ 0x0F ∷ (header 3 (0x03 ∷ 0x08 ∷ 0x3F ∷ 0x05 ∷ 0xFF ∷ 0xFF ∷ 0xFF ∷ 0xFB ∷ []) ++ replicate 4 0)) ≡
       ascii "steps 4 idle 0 commits 1 back 0 over 0\nthread 0 done -5\nregister 63 -5\n"
+  -- "Threads ascend", the last one being open; "Registers not 0 follow, ascending": 3 is written to register 10 and then 4 to register 2
+  pub registers-listing :
+      listed (0x00 ∷ 0x1E ∷ (registersJob ++ times 9 0)) ≡
+      ascii "steps 9 idle 0 commits 1 back 0 over 0\nthread 0 done 7\nthread 1 open\nregister 2 4\nregister 10 3\n"
   pub eleven-listing :
       listed (0x00 ∷ 0x16 ∷ (header 11 (replicate 10 0x04 ++ (0x01 ∷ 0x00 ∷ 0x00 ∷ 0x00 ∷ 0x01 ∷ [])) ++ (0 ∷ 1 ∷ 2 ∷ 3 ∷ 4 ∷ 5 ∷ 6 ∷ 7 ∷ 8 ∷ 9 ∷ []))) ≡
       ascii "steps 10 idle 0 commits 0 back 0 over 0\nthread 0 done 0\nthread 1 done 0\nthread 2 done 0\nthread 3 done 0\nthread 4 done 0\nthread 5 done 0\nthread 6 done 0\nthread 7 done 0\nthread 8 done 0\nthread 9 done 0\nthread 10 open\n"

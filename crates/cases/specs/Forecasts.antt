@@ -20,6 +20,7 @@ one = 0x01 ∷ 0x00 ∷ 0x00 ∷ 0x00 ∷ 0x01 ∷ []
 abbrev pub forkJob : List ℕ
 forkJob = header 8 (0x02 ∷ 0x04 ∷ 0x04 ∷ 0x02 ∷ (one ++ (one ++ (0x04 ∷ one))))
 
+-- its tree
 abbrev pub forkTree : Proc
 forkTree = AddP (Fork (Fork (AddP (ValP (pos 1)) (ValP (pos 1))))) (Fork (ValP (pos 1)))
 
@@ -52,6 +53,7 @@ nothingBut number place =
       heights = replicate 16 0;
     }
 
+-- what the forecast answers, on the left, and the figures as they were counted by hand, on the right
 pub record ForecastCases : Type 0 where
   -- the whole case: 36 bytes, heights 2, 2, 2, registers {0} and {0}, K 2, T 3, L 15, M 6, bound 27
   pub whole :

@@ -20,6 +20,7 @@ use Rattle.word.specs.Sum.{wrapping}
 abbrev pub header : ℕ → List ℕ → List ℕ
 header count nodes = 0x57 ∷ 0x53 ∷ 0x4A ∷ 0x00 ∷ 0x01 ∷ 0x00 ∷ count ∷ nodes
 
+-- the job reader takes this process, as a job of version 1
 abbrev pub accepted : Proc → Outcome Job
 accepted p = done (record { version = 1; tree = p })
 
@@ -47,6 +48,7 @@ lowCode = codeFor lowTree
 abbrev pub ownWriteTree : Proc
 ownWriteTree = Atomic (AddT (Write 0 (ValT (pos 5))) (Read 0))
 
+-- its code: BEGIN at 5, PUSH at 6, WRITE at 11, READ at 13, ADD at 15, COMMIT at 16, end 17
 abbrev pub ownWriteCode : List ℕ
 ownWriteCode = codeFor ownWriteTree
 
@@ -54,15 +56,19 @@ ownWriteCode = codeFor ownWriteTree
 abbrev pub increment : Proc
 increment = Fork (Atomic (Write 0 (AddT (Read 0) (ValT (pos 1)))))
 
+-- its bytes in the job: FORK, ATOMIC, WRITE 0, ADDT, READ 0, VALT 1
 abbrev pub incrementBytes : List ℕ
 incrementBytes = 0x04 ∷ 0x03 ∷ 0x08 ∷ 0x00 ∷ 0x06 ∷ 0x07 ∷ 0x00 ∷ 0x05 ∷ 0x00 ∷ 0x00 ∷ 0x00 ∷ 0x01 ∷ []
 
+-- the whole case's tree
 abbrev pub wholeTree : Proc
 wholeTree = AddP increment increment
 
+-- the whole case's job, of 32 bytes
 abbrev pub wholeJob : List ℕ
 wholeJob = header 13 (0x02 ∷ (incrementBytes ++ incrementBytes))
 
+-- the code of one of the two: FORK with a child of 12 bytes, which is BEGIN, READ 0, PUSH 1, ADD, WRITE 0, COMMIT
 abbrev pub incrementCode : List ℕ
 incrementCode = 0x07 ∷ 0x00 ∷ 0x0C ∷ 0x05 ∷ 0x03 ∷ 0x00 ∷ 0x01 ∷ 0x00 ∷ 0x00 ∷ 0x00 ∷ 0x01 ∷ 0x02 ∷ 0x04 ∷ 0x00 ∷ 0x06 ∷ []
 
@@ -95,10 +101,16 @@ lastCode n = codeFor (AddP (Fork (Atomic (Write 63 (ValT n)))) (Atomic (Read 63)
 abbrev pub staleCode : List ℕ
 staleCode = codeFor (AddP (Fork (Atomic (Write 2 (Write 1 (ValT (pos 1)))))) (Atomic (AddT (Read 2) (Read 1))))
 
+-- FORK (VALP 1) + ATOMIC (WRITE 10 3 + WRITE 2 4), in 30 bytes; nine steps of the root, its last one the sum 0 + 7
+abbrev pub registersJob : List ℕ
+registersJob =
+    header 9 (0x02 ∷ 0x04 ∷ 0x01 ∷ 0 ∷ 0 ∷ 0 ∷ 1 ∷ 0x03 ∷ 0x06 ∷ 0x08 ∷ 10 ∷ 0x05 ∷ 0 ∷ 0 ∷ 0 ∷ 3 ∷ 0x08 ∷ 2 ∷ 0x05 ∷ 0 ∷ 0 ∷ 0 ∷ 4 ∷ [])
+
 -- 15 FORKs, each inside the one before; thread i has FORK at 5 + 3 i, thread 15 PUSH at 50, and the end of each is 55
 abbrev pub fiveForks : Proc → Proc
 fiveForks p = Fork (Fork (Fork (Fork (Fork p))))
 
+-- their code, VALP 1 being the innermost
 abbrev pub nestCode : List ℕ
 nestCode = codeFor (fiveForks (fiveForks (fiveForks (ValP (pos 1)))))
 
@@ -123,6 +135,7 @@ wholePicks = times 3 0 ++ (times 2 1 ++ (times 6 2 ++ times 10 1))
 abbrev pub staleThere : List ℕ
 staleThere = times 3 0 ++ (times 2 1 ++ (times 6 2 ++ times 3 1))
 
+-- of highCode: PUSH, FORK, BEGIN, READ of the root; BEGIN, PUSH, WRITE, COMMIT of thread 1; the root's COMMIT, which is sent back
 abbrev pub highPicks : List ℕ
 highPicks = times 4 0 ++ (times 4 1 ++ times 1 0)
 
@@ -155,18 +168,23 @@ sized r n = record { registers = replicate r (pos 0); threads = set (replicate n
 abbrev pub oneForked : State
 oneForked = ran wholeCode (times 1 0) .state
 
+-- both FORKs passed
 abbrev pub bothForked : State
 bothForked = ran wholeCode (times 2 0) .state
 
+-- and then thread 1 behind its BEGIN
 abbrev pub behindBegin : State
 behindBegin = ran wholeCode (times 2 0 ++ times 1 1) .state
 
+-- thread 1 behind its READ
 abbrev pub behindRead : State
 behindRead = ran wholeCode (times 2 0 ++ times 2 1) .state
 
+-- thread 1 behind its COMMIT
 abbrev pub behindCommit : State
 behindCommit = ran wholeCode (times 2 0 ++ times 6 1) .state
 
+-- the whole case's last pick done
 abbrev pub wholeEnd : State
 wholeEnd = ran wholeCode wholePicks .state
 
@@ -211,6 +229,7 @@ withCell cell n t = withStack (t .height) (set (t .cells) cell n) t
 abbrev pub withRead : ℕ → Thread → Thread
 withRead v t = withLogs (with (t .reads) v) (t .readlog) (t .writes) (t .writelog) t
 
+-- the same in the write log
 abbrev pub withWrite : ℕ → Thread → Thread
 withWrite v t = withLogs (t .reads) (t .readlog) (with (t .writes) v) (t .writelog) t
 
@@ -218,6 +237,7 @@ withWrite v t = withLogs (t .reads) (t .readlog) (with (t .writes) v) (t .writel
 abbrev pub withReadValue : ℕ → ℤ → Thread → Thread
 withReadValue v n t = withLogs (t .reads) (set (t .readlog) v n) (t .writes) (t .writelog) t
 
+-- the same in the write log
 abbrev pub withWriteValue : ℕ → ℤ → Thread → Thread
 withWriteValue v n t = withLogs (t .reads) (t .readlog) (t .writes) (set (t .writelog) v n) t
 
@@ -249,5 +269,6 @@ looking f = withRegisters (front (pos 9)) (changed (ran lookCode (times 4 0) .st
 abbrev pub readSeven : Thread → Thread
 readSeven t = withReadValue 0 (pos 7) (withRead 0 t)
 
+-- and 5 in the write log
 abbrev pub readSevenWroteFive : Thread → Thread
 readSevenWroteFive t = withWriteValue 0 (pos 5) (withWrite 0 (readSeven t))

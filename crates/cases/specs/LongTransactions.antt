@@ -19,6 +19,7 @@ unfoldable pub sums : ℕ → Tran
 sums zero = Read 5
 sums (suc n) = AddT (Read 5) (sums n)
 
+-- its bytes in the job
 unfoldable pub sumsBytes : ℕ → List ℕ
 sumsBytes zero = 0x07 ∷ 5 ∷ []
 sumsBytes (suc n) = 0x06 ∷ 0x07 ∷ 5 ∷ sumsBytes n
@@ -27,12 +28,15 @@ sumsBytes (suc n) = 0x06 ∷ 0x07 ∷ 5 ∷ sumsBytes n
 abbrev pub full : Tran
 full = Write 0 (AddT (sums 49) (sums 49))
 
+-- the bytes of the 200 nodes
 abbrev pub fullBytes : List ℕ
 fullBytes = 0x08 ∷ 0 ∷ 0x06 ∷ (sumsBytes 49 ++ sumsBytes 49)
 
+-- 201 nodes
 abbrev pub tooLong : Tran
 tooLong = Write 1 full
 
+-- and their bytes
 abbrev pub tooLongBytes : List ℕ
 tooLongBytes = 0x08 ∷ 1 ∷ fullBytes
 
@@ -49,9 +53,11 @@ header16 high low nodes = 0x57 ∷ 0x53 ∷ 0x4A ∷ 0x00 ∷ 0x01 ∷ high ∷ 
 abbrev pub fullJob : List ℕ
 fullJob = header16 0 201 (0x03 ∷ fullBytes)
 
+-- ATOMIC of 201 nodes
 abbrev pub tooLongJob : List ℕ
 tooLongJob = header16 0 202 (0x03 ∷ tooLongBytes)
 
+-- what the job reader, compiling, the forecast, the run program and the code reader say of them, on the left, and document 02 No. 3, on the right
 pub record LongTransactionCases : Type 0 where
   -- "A transaction may hold at most 200 nodes, ATOMIC not counted"
   pub most : readJob fullJob ≡ accepted (Atomic full)

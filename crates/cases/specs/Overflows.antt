@@ -23,6 +23,7 @@ use Rattle.word.specs.Sum.{wrapping, overflows}
 abbrev pub greatest : ℤ
 greatest = pos 2147483647
 
+-- the lower end of the range
 abbrev pub least : ℤ
 least = negsuc 2147483647
 
@@ -38,6 +39,7 @@ bothWaysCode = codeFor bothWaysTree
 abbrev pub insideTree : Proc
 insideTree = Atomic (AddT (ValT greatest) (ValT (pos 1)))
 
+-- its code
 abbrev pub insideCode : List ℕ
 insideCode = codeFor insideTree
 
@@ -45,9 +47,11 @@ insideCode = codeFor insideTree
 abbrev pub smallCode : List ℕ
 smallCode = codeFor (Atomic (AddT (ValT (pos 1)) (ValT (pos 2))))
 
+-- smallCode behind its ADD
 abbrev pub behindAdd : State
 behindAdd = ran smallCode (times 4 0) .state
 
+-- smallCode behind its second PUSH
 abbrev pub behindPush : State
 behindPush = ran smallCode (times 3 0) .state
 
@@ -63,6 +67,7 @@ noting s over = changed s 0 (withOver over)
 abbrev pub sumBeforeCode : List ℕ
 sumBeforeCode = codeFor (AddP (AddP (ValP (pos 1)) (ValP (pos 2))) (Atomic (ValT (pos 3))))
 
+-- the second of the two
 abbrev pub atomicBeforeCode : List ℕ
 atomicBeforeCode = codeFor (AddP (Atomic (AddT (ValT (pos 1)) (ValT (pos 2)))) (Atomic (ValT (pos 3))))
 
@@ -78,6 +83,7 @@ moreCode = codeFor (Atomic (AddT (AddT (ValT (pos 1)) (ValT (pos 2))) (ValT grea
 abbrev pub againTree : Proc
 againTree = AddP (Fork (Atomic (Write 0 (ValT (pos 1))))) (Atomic (AddT (Read 0) (AddT (ValT greatest) (ValT (pos 1)))))
 
+-- its code
 abbrev pub againCode : List ℕ
 againCode = codeFor againTree
 
@@ -102,6 +108,7 @@ secondPicks = times 5 0 ++ (times 4 1 ++ (times 1 0 ++ times 6 0))
 abbrev pub firstTree : Proc
 firstTree = AddP (Atomic (Write 0 (ValT (pos 1)))) (AddP (Fork (Atomic (Write 0 (ValT least)))) (Atomic (AddT (Read 0) (ValT greatest))))
 
+-- its code
 abbrev pub firstCode : List ℕ
 firstCode = codeFor firstTree
 
@@ -109,6 +116,7 @@ firstCode = codeFor firstTree
 abbrev pub firstPicks : List ℕ
 firstPicks = times 9 0 ++ (times 4 1 ++ (times 1 0 ++ times 5 0))
 
+-- what a definition computes, on the left, and what document 02 No. 2 says of it, on the right
 pub record OverflowCases : Type 0 where
   -- ---- "whether the exact sum fell outside": each end, and one further
   pub above : overflows greatest (pos 1) ≡ true

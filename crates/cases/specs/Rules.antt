@@ -30,6 +30,7 @@ namedAfter is i = ruleNamed (stepCall wholeCode (ran wholeCode is .state) i .rep
 abbrev pub ruleBehind : List ℕ → ℕ → ℕ
 ruleBehind is i = threadAt (ran wholeCode is .state) i .rule
 
+-- the send-backs of a thread after these picks of the whole case
 abbrev pub backsBehind : List ℕ → ℕ → ℕ
 backsBehind is i = threadAt (ran wholeCode is .state) i .backs
 
@@ -42,6 +43,7 @@ sentBackThere = staleThere ++ times 1 1
 abbrev pub twoStaleCode : List ℕ
 twoStaleCode = codeFor (AddP (Fork (Atomic (Write 5 (Write 3 (ValT (pos 1)))))) (Atomic (AddT (Read 5) (Read 3))))
 
+-- the picks up to the root's COMMIT, registers 3 and 5 being stale
 abbrev pub twoStale : List ℕ
 twoStale = times 5 0 ++ times 5 1
 
@@ -54,13 +56,16 @@ readsCode = codeFor (Atomic (AddT (AddT (Write 0 (ValT (pos 5))) (Read 0)) (AddT
 abbrev pub againCode : List ℕ
 againCode = codeFor (AddP (Fork (AddP (Atomic (Write 0 (ValT (pos 1)))) (Atomic (Write 0 (ValT (pos 2)))))) (Atomic (Read 0)))
 
+-- both transactions of thread 1 done, and the root at its COMMIT
 abbrev pub againThere : State
 againThere = ran againCode (times 3 0 ++ times 8 1) .state
 
 -- ---- one thing changed
+-- another last rule
 abbrev pub withLast : ℕ → Thread → Thread
 withLast rule t = withRule rule (t .backs) t
 
+-- another number of send-backs
 abbrev pub withBacks : ℕ → Thread → Thread
 withBacks backs t = withRule (t .rule) backs t
 
@@ -76,6 +81,7 @@ readStale = ran wholeCode (times 2 0 ++ (times 2 1 ++ times 6 2)) .state
 abbrev pub putBack : State
 putBack = withRegisters (replicate 64 (pos 0)) readStale
 
+-- the rules of picks, of answers and of records, on the left, and what document 02 No. 4 says of them, on the right
 pub record RuleCases : Type 0 where
   -- ---- the numbers: 0 none, 1 to 9 in document 02's order, 10 + v sent back with register v; what is above names none
   pub number-0 : ruleOfNumber 0 ≡ none
@@ -146,6 +152,7 @@ pub record RuleCases : Type 0 where
   pub second-call : runCall wholeCode (ran wholeCode sentBackThere .state) (times 6 1) .reply ≡ record { refusal = 0; place = 0; steps = 6; idle = 0; commits = 1; back = 0; over = 0 }
   pub second-left : backsOf (runCall wholeCode (ran wholeCode sentBackThere .state) (times 6 1) .state .threads) ≡ 1
 
+-- whether a state with these numbers of send-backs fits, on the left, and what document 02 No. 4 says of it, on the right
 pub record TallyCases : Type 0 where
   -- ---- "A state is foreign if such a number is above the COMMITs passed by all threads": none passed, also not by passing a FORK
   pub none-passed : fits wholeCode bothForked ≡ true
