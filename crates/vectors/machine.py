@@ -793,8 +793,8 @@ def the_rules():
 
 
 def the_table():
-    """The rows of the table of states in docs/ARCHITECTURE.md, with the same labels."""
-    section("states that fit and states that do not: labels as in docs/ARCHITECTURE.md")
+    """The rows of the table of states in docs/TRACE.md, with the same labels."""
+    section("states that fit and states that do not: labels as in docs/TRACE.md")
     fresh, one, both, begun, inside, behind, done = "", "0", "0*2", "0*2 1", "0*2 1*2", "0*2 1*6", "0*2 2*6"
     picks = "0*2 1*3 2 3"
 

@@ -1,4 +1,8 @@
 // The calls on the test program's memory, and what is written of them.
+ghost use mathlib.Core.Path.{_≡_};
+ghost use Rattle.calls.specs.Calls.{leftBy};
+ghost use Rattle.machine.specs.Answers.{freshCall, runCall};
+ghost use Rattle.memory.specs.Memories.{leaving};
 use memory::Memory;
 
 // What a call left and answered: refusal and place, and its other numbers in their order.
@@ -13,7 +17,9 @@ struct Taken {
     e: usize,
 }
 
-fn taken_fresh(m: Memory, laid: owned::Laid) -> Taken {
+fn taken_fresh(m: Memory, laid: owned::Laid) -> Taken
+    ensures { λ r. ⌜ r .after ≡ leaving m (laid .registers) (laid .threads) ⌝ }
+{
     let registers = laid.registers;
     let threads = laid.threads;
     let reply = laid.reply;
@@ -30,7 +36,9 @@ fn taken_fresh(m: Memory, laid: owned::Laid) -> Taken {
     }
 }
 
-fn call_fresh(code: &[u8], m: Memory) -> Taken {
+fn call_fresh(code: &[u8], m: Memory) -> Taken
+    ensures { λ r. ⌜ r .after ≡ leftBy m (λ s. freshCall (now (code .entry)) s) ⌝ }
+{
     let registers = m.registers;
     let threads = m.threads;
     taken_fresh(
@@ -65,7 +73,9 @@ fn call_step(code: &[u8], m: Memory, pick: u8) -> Taken {
     )
 }
 
-fn taken_run(m: Memory, ran: owned::Ran) -> Taken {
+fn taken_run(m: Memory, ran: owned::Ran) -> Taken
+    ensures { λ r. ⌜ r .after ≡ leaving m (ran .registers) (ran .threads) ⌝ }
+{
     let registers = ran.registers;
     let threads = ran.threads;
     let reply = ran.reply;
@@ -82,7 +92,9 @@ fn taken_run(m: Memory, ran: owned::Ran) -> Taken {
     }
 }
 
-fn call_run(code: &[u8], m: Memory, picks: &[u8]) -> Taken {
+fn call_run(code: &[u8], m: Memory, picks: &[u8]) -> Taken
+    ensures { λ r. ⌜ r .after ≡ leftBy m (λ s. runCall (now (code .entry)) s (now (picks .entry))) ⌝ }
+{
     let registers = m.registers;
     let threads = m.threads;
     taken_run(
@@ -92,7 +104,9 @@ fn call_run(code: &[u8], m: Memory, picks: &[u8]) -> Taken {
 }
 
 // A fresh state and so many picks.
-pub fn begun(code: &[u8], m: Memory, picks: &[u8]) -> Memory {
+pub fn begun(code: &[u8], m: Memory, picks: &[u8]) -> Memory
+    ensures { λ r. ⌜ r ≡ leftBy (leftBy m (λ s. freshCall (now (code .entry)) s)) (λ s. runCall (now (code .entry)) s (now (picks .entry))) ⌝ }
+{
     let laid = call_fresh(code, m);
     let fresh = laid.after;
     let taken = call_run(code, fresh, picks);
@@ -157,7 +171,9 @@ fn write_call(m: Memory, taken: Taken) {
 }
 
 // `run`, what is written of it without the state, and what it leaves.
-pub fn run_next(code: &[u8], m: Memory, picks: &[u8]) -> Memory {
+pub fn run_next(code: &[u8], m: Memory, picks: &[u8]) -> Memory
+    ensures { λ r. ⌜ r ≡ leftBy m (λ s. runCall (now (code .entry)) s (now (picks .entry))) ⌝ }
+{
     let taken = call_run(code, m, picks);
     write_call(m, taken);
     taken.after

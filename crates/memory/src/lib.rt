@@ -1,4 +1,7 @@
 // The memory that the test program lends to the calls: registers and records by value, and how many of them are lent.
+ghost use mathlib.Core.Bool.{false};
+ghost use mathlib.Core.Path.{_≡_};
+ghost use Rattle.memory.specs.Memories.{leaving, provided, sevens, untouched};
 
 pub struct Memory {
     pub registers: [i32; 65],
@@ -17,7 +20,9 @@ struct Running {
 }
 
 // A record with every number 7.
-fn filler() -> thread::Thread {
+fn filler() -> thread::Thread
+    ensures { λ r. ⌜ r ≡ sevens ⌝ }
+{
     thread::Thread {
         start: 7,
         end: 7,
@@ -37,7 +42,9 @@ fn filler() -> thread::Thread {
 }
 
 // Every register -7, every number of a record 7; 64 registers and 16 records are lent.
-pub fn filled() -> Memory {
+pub fn filled() -> Memory
+    ensures { λ r. ⌜ r ≡ untouched ⌝ }
+{
     let t = filler();
     let threads = [t; 17];
     Memory {
@@ -133,7 +140,7 @@ fn sum_threads(sum: Running, threads: [thread::Thread; 17]) -> Running {
 }
 
 // A checksum over all registers and all records.
-pub fn sum(m: Memory) -> u64 {
+fn sum(m: Memory) -> u64 {
     let registers = m.registers;
     let threads = m.threads;
     sum_threads(sum_registers(registers), threads).total
@@ -283,20 +290,26 @@ fn put(mut t: thread::Thread, k: usize, n: text::Number) -> thread::Thread {
 
 impl Memory {
     // The memory that a call leaves.
-    pub fn left(mut self, registers: [i32; 65], threads: [thread::Thread; 17]) -> Memory {
+    pub fn left(mut self, registers: [i32; 65], threads: [thread::Thread; 17]) -> Memory
+        ensures { λ r. ⌜ r ≡ leaving self registers threads ⌝ }
+    {
         self.registers = registers;
         self.threads = threads;
         self
     }
 
     // Something asked for was malformed.
-    fn bad(mut self) -> Memory {
+    fn bad(mut self) -> Memory
+        ensures { λ r. ⌜ r ≡ provided self false ⌝ }
+    {
         self.good = false;
         self
     }
 
     // The memory if what was asked for is well formed.
-    pub fn only(self, good: bool) -> Memory {
+    pub fn only(self, good: bool) -> Memory
+        ensures { λ r. ⌜ r ≡ provided self good ⌝ }
+    {
         if good {
             return self;
         }
@@ -367,7 +380,7 @@ impl Memory {
 
     // One change, its words standing behind a space: `records N`, `registers N`, `register R V`, or of a thread. A change of the code leaves the
     // memory as it is, and so does none.
-    pub fn with(self, words: &[u8]) -> Memory {
+    fn with(self, words: &[u8]) -> Memory {
         let name = text::word_number(text::part(words, b' ', 1));
         match name {
             0 => self,

@@ -1,1 +1,3 @@
 mod Rooms
+mod Places
+mod Numbers

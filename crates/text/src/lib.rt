@@ -1,8 +1,25 @@
 // Text for the test programs: lines, words, numbers and bytes in hex are taken apart, and what a case comes to is written.
-ghost use Prim.Native.Nat.{_-_, _≤_};
-ghost use lib.ListN.{length};
+ghost use Prim.Native.Nat.{_+_, _-_, _*_, _%_, _<_, _≤_, min};
+ghost use lib.Dec.{ltb};
+ghost use mathlib.Core.Bool.{false, _&&_};
+ghost use lib.ListN.{length, take, drop, getD};
 ghost use mathlib.Core.Path.{_≡_};
 ghost use Rattle.io.specs.Counts.{Counts};
+ghost use Rattle.text.specs.Texts.{
+  zeros,
+  place,
+  ahead,
+  after,
+  piece,
+  said,
+  onward,
+  spelled,
+  sizeOf,
+  nearest,
+  fromZero,
+  isLetter,
+  lettered,
+};
 
 // What a text in hex comes to: how many bytes were put, and whether they are all.
 pub struct Hex {
@@ -21,14 +38,14 @@ pub struct Number {
 
 // Room for the bytes or picks of a line.
 pub fn buffer() -> [u8; 70000]
-    ensures { λ r. ⌜ 70000 ≡ length r ⌝ }
+    ensures { λ r. ⌜ (r ≡ zeros 70000) × (70000 ≡ length r) ⌝ }
 {
     [0; 70000]
 }
 
 // Room for a program's input.
 pub fn input() -> [u8; 1000001]
-    ensures { λ r. ⌜ 1000001 ≡ length r ⌝ }
+    ensures { λ r. ⌜ (r ≡ zeros 1000001) × (1000001 ≡ length r) ⌝ }
 {
     [0; 1000001]
 }
@@ -37,7 +54,7 @@ pub fn input() -> [u8; 1000001]
 
 // The first place of the byte in the text, or the text's length.
 fn find(text: &[u8], byte: u8) -> usize
-    ensures { λ r. ⌜ Counts r (now (text .entry)) ⌝ }
+    ensures { λ r. ⌜ (r ≡ place byte (now (text .entry))) × Counts r (now (text .entry)) ⌝ }
 {
     let mut at = 0;
     while at < text.len() {
@@ -50,14 +67,16 @@ fn find(text: &[u8], byte: u8) -> usize
 }
 
 // What stands before the first such byte, or all of the text.
-pub fn before<'a>(text: &'a [u8], byte: u8) -> &'a [u8] {
+pub fn before<'a>(text: &'a [u8], byte: u8) -> &'a [u8]
+    ensures { λ r. ⌜ now r ≡ ahead byte (now (text .entry)) ⌝ }
+{
     let at = find(text, byte);
     &text[..at]
 }
 
 // What stands behind the first such byte, or nothing.
 pub fn behind<'a>(text: &'a [u8], byte: u8) -> &'a [u8]
-    ensures { λ r. ⌜ length (now r) ≤ length (now (text .entry)) - 1 ⌝ }
+    ensures { λ r. ⌜ (now r ≡ after byte (now (text .entry))) × (length (now r) ≤ length (now (text .entry)) - 1) ⌝ }
 {
     let at = find(text, byte);
     if at == text.len() {
@@ -68,7 +87,9 @@ pub fn behind<'a>(text: &'a [u8], byte: u8) -> &'a [u8]
 }
 
 // Part k, counted from 0, of a text whose parts stand between such bytes; nothing where there are fewer.
-pub fn part<'a>(text: &'a [u8], byte: u8, k: u8) -> &'a [u8] {
+pub fn part<'a>(text: &'a [u8], byte: u8, k: u8) -> &'a [u8]
+    ensures { λ r. ⌜ now r ≡ piece byte k (now (text .entry)) ⌝ }
+{
     let mut left = text;
     let mut n = k;
     while n > 0 {
@@ -80,25 +101,31 @@ pub fn part<'a>(text: &'a [u8], byte: u8, k: u8) -> &'a [u8] {
 }
 
 // Whether the byte stands in the text.
-pub fn holds(text: &[u8], byte: u8) -> bool {
+pub fn holds(text: &[u8], byte: u8) -> bool
+    ensures { λ r. ⌜ r ≡ ltb (place byte (now (text .entry))) (length (now (text .entry))) ⌝ }
+{
     find(text, byte) < text.len()
 }
 
 // The first n bytes, or all where there are fewer.
-pub fn front<'a>(bytes: &'a [u8], n: usize) -> &'a [u8] {
+pub fn front<'a>(bytes: &'a [u8], n: usize) -> &'a [u8]
+    ensures { λ r. ⌜ now r ≡ take n (now (bytes .entry)) ⌝ }
+{
     let n = within(n, bytes);
     &bytes[..n]
 }
 
 // What stands behind the first n bytes.
-pub fn rest<'a>(bytes: &'a [u8], n: usize) -> &'a [u8] {
+pub fn rest<'a>(bytes: &'a [u8], n: usize) -> &'a [u8]
+    ensures { λ r. ⌜ now r ≡ drop n (now (bytes .entry)) ⌝ }
+{
     let n = within(n, bytes);
     &bytes[n..]
 }
 
 // The number n, but at most how many bytes there are. With its contract `&mut bytes[..n]` needs no proof file.
 pub fn within(n: usize, bytes: &[u8]) -> usize
-    ensures { λ r. ⌜ Counts r (now (bytes .entry)) ⌝ }
+    ensures { λ r. ⌜ (r ≡ min n (length (now (bytes .entry)))) × Counts r (now (bytes .entry)) ⌝ }
 {
     if n > bytes.len() {
         return bytes.len();
@@ -107,7 +134,9 @@ pub fn within(n: usize, bytes: &[u8]) -> usize
 }
 
 // The first byte of the text, or 0.
-pub fn first(text: &[u8]) -> u8 {
+pub fn first(text: &[u8]) -> u8
+    ensures { λ r. ⌜ r ≡ getD (now (text .entry)) 0 0 ⌝ }
+{
     if text.len() == 0 {
         return 0;
     }
@@ -115,32 +144,21 @@ pub fn first(text: &[u8]) -> u8 {
 }
 
 // Whether a line is to be run: not an empty one, and not one that starts with '#'.
-pub fn says(line: &[u8]) -> bool {
+pub fn says(line: &[u8]) -> bool
+    ensures { λ r. ⌜ r ≡ said (now (line .entry)) ⌝ }
+{
     if line.len() == 0 {
         return false;
     }
     line[0] != b'#'
 }
 
-// Whether the text starts with the word.
-pub fn starts(text: &[u8], word: &[u8]) -> bool {
-    let mut at = 0;
-    while at < word.len() {
-        if at >= text.len() {
-            return false;
-        }
-        if text[at] != word[at] {
-            return false;
-        }
-        at += 1;
-    }
-    true
-}
-
 // ---- numbers and bytes
 
 // A digit's value, or 16 where the byte is no hex digit.
-fn digit(byte: u8) -> u8 {
+fn digit(byte: u8) -> u8
+    ensures { λ r. ⌜ (48 ≤ byte → byte < 58 → r ≡ byte - 48) × (r < 10 → (48 ≤ byte) × (byte < 58)) ⌝ }
+{
     match byte {
         b'0'..=b'9' => byte - b'0',
         b'a'..=b'f' => byte - b'a' + 10,
@@ -149,12 +167,16 @@ fn digit(byte: u8) -> u8 {
     }
 }
 
-fn wide(byte: u8) -> u64 {
+fn wide(byte: u8) -> u64
+    ensures { λ r. ⌜ r ≡ byte ⌝ }
+{
     byte as u64
 }
 
 // Whether the number of 64 bits has room for a digit behind it.
-fn room(value: u64, n: u64) -> bool {
+fn room(value: u64, n: u64) -> bool
+    ensures { λ r. ⌜ r ≡ (ltb n 10 && ltb (value * 10 + n) 18446744073709551616) ⌝ }
+{
     if n > 9 {
         return false;
     }
@@ -165,7 +187,9 @@ fn room(value: u64, n: u64) -> bool {
 }
 
 // The number with a digit behind it, where there is room.
-fn longer(value: u64, n: u64) -> u64 {
+fn longer(value: u64, n: u64) -> u64
+    ensures { λ r. ⌜ (value * 10 + n < 18446744073709551616 → r ≡ value * 10 + n) ⌝ }
+{
     if value > 1844674407370955161 {
         return value;
     }
@@ -173,7 +197,9 @@ fn longer(value: u64, n: u64) -> u64 {
 }
 
 // The number that the text spells in digits.
-fn digits(text: &[u8], minus: bool) -> Number {
+fn digits(text: &[u8], minus: bool) -> Number
+    ensures { λ r. ⌜ r ≡ onward minus false 0 (now (text .entry)) ⌝ }
+{
     let mut value: u64 = 0;
     let mut at = 0;
     while at < text.len() {
@@ -196,7 +222,9 @@ fn digits(text: &[u8], minus: bool) -> Number {
 }
 
 // The number that the text spells in decimal digits, maybe with a minus in front.
-pub fn parse_number(text: &[u8]) -> Number {
+pub fn parse_number(text: &[u8]) -> Number
+    ensures { λ r. ⌜ r ≡ spelled (now (text .entry)) ⌝ }
+{
     if first(text) == b'-' {
         return digits(behind(text, b'-'), true);
     }
@@ -204,7 +232,9 @@ pub fn parse_number(text: &[u8]) -> Number {
 }
 
 // The number as a size, or `most` + 1 where it is none up to `most`.
-pub fn size(text: &[u8], most: u32) -> usize {
+pub fn size(text: &[u8], most: u32) -> usize
+    ensures { λ r. ⌜ r ≡ sizeOf (spelled (now (text .entry))) most ⌝ }
+{
     let n = parse_number(text);
     if !n.good || n.minus || n.value > most as u64 {
         return most as usize + 1;
@@ -213,7 +243,9 @@ pub fn size(text: &[u8], most: u32) -> usize {
 }
 
 // The number of 32 bits that a number with its sign is, the nearest one if it is outside.
-pub fn signed(n: Number) -> i32 {
+pub fn signed(n: Number) -> i32
+    ensures { λ r. ⌜ r ≡ nearest n ⌝ }
+{
     if n.value > 2147483647 {
         if n.minus {
             return -2147483648;
@@ -229,7 +261,9 @@ pub fn signed(n: Number) -> i32 {
 }
 
 // A word of at most 12 small letters as a number to the base of 32, a being 1; 0 for any other text.
-pub fn word_number(text: &[u8]) -> u64 {
+pub fn word_number(text: &[u8]) -> u64
+    ensures { λ r. ⌜ r ≡ lettered 0 (now (text .entry)) ⌝ }
+{
     let mut n: u64 = 0;
     let mut at = 0;
     while at < text.len() {
@@ -244,7 +278,9 @@ pub fn word_number(text: &[u8]) -> u64 {
 }
 
 // Whether the byte is a small letter, and a word's number has room for it.
-fn is_letter(byte: u8, n: u64) -> bool {
+fn is_letter(byte: u8, n: u64) -> bool
+    ensures { λ r. ⌜ r ≡ isLetter byte n ⌝ }
+{
     if n >= 36028797018963968 {
         return false;
     }
@@ -254,7 +290,9 @@ fn is_letter(byte: u8, n: u64) -> bool {
     byte <= b'z'
 }
 
-fn letter_number(byte: u8) -> u64 {
+fn letter_number(byte: u8) -> u64
+    ensures { λ r. ⌜ r ≡ byte % 32 ⌝ }
+{
     wide(byte % 32)
 }
 
@@ -433,7 +471,9 @@ pub fn write_number(word: &[u8], n: usize) {
 }
 
 // A number from 0 up, or 0 for one below.
-pub fn natural(n: i32) -> u64 {
+pub fn natural(n: i32) -> u64
+    ensures { λ r. ⌜ r ≡ fromZero n ⌝ }
+{
     if n < 0 {
         return 0;
     }

@@ -1,0 +1,2 @@
+-- What the contracts of `memory` cite.
+pub mod Memories
