@@ -1,29 +1,13 @@
-/* Kuspigo: jobs, stack code and the machine that runs it. C99.
+/* Kuspigo: jobs, stack code and the machine that runs it. C99, C11, C++11.
  *
- * The functions are in the archives target/staticlib/libexports.a and libengine.a, which `rt staticlib exports` and
- * `rt staticlib engine` write. They need nothing else but memcpy and memset.
+ * The functions are in the archive libkuspigo.a, for x86-64: `bash host/archive` makes it in target/staticlib, and
+ * `bash host/install --prefix DIR` installs it with this header. They need nothing else but memcpy and memset.
  *
  * Memory is lent as a pointer and a count of elements. A pointer is never null, also with the count 0; what is lent for
  * writing overlaps nothing else that is lent to the call. Nothing is kept after a call.
  *
- * Every answer begins with `refusal`, 0 if the call was taken, and `place`. A refused call alters nothing:
- *
- *    1  the bytes end too early
- *    2  not a job's mark
- *    3  a version other than 1
- *    4  a node count of 0 or above 1,000
- *    5  an unknown kind, or one not permitted there
- *    6  a register of 64 or more
- *    7  a node at depth 65
- *    8  a sixteenth FORK
- *    9  nodes or bytes that do not match the count
- *   10  the output is shorter than the result
- *   11  no accepted job compiles to the code
- *   12  the state does not fit the code
- *   13  more than 32,768 picks
- *   14  a transaction of more than 200 nodes
- *
- * For 1 to 9 and 14 the place is a byte offset in the job, else 0.
+ * Every answer begins with `refusal`, 0 if the call was taken, else an enum kuspigo_refusal, and `place`. A refused call
+ * alters nothing.
  */
 #ifndef KUSPIGO_H
 #define KUSPIGO_H
@@ -35,12 +19,93 @@
 extern "C" {
 #endif
 
+/* The version of this interface. A change of a record, an answer or a function that a program built before does not know
+ * of gives it another number. */
+#define KUSPIGO_API 1
+
+/* The library's own version. The function's name holds the number, kuspigo_api_ with KUSPIGO_API behind it, and every
+ * file that includes this header refers to it: with the archive of another version the program does not link. (A
+ * compiler that is neither gcc nor clang may leave the reference out.) */
+#define KUSPIGO_JOINED_(a, b) a##b
+#define KUSPIGO_JOINED(a, b) KUSPIGO_JOINED_(a, b)
+#define kuspigo_api KUSPIGO_JOINED(kuspigo_api_, KUSPIGO_API)
+size_t kuspigo_api(void);
+#ifdef __has_attribute
+#if defined(__ELF__) && __has_attribute(retain)
+#define KUSPIGO_KEPT __attribute__((used, retain))
+#endif
+#endif
+#if !defined(KUSPIGO_KEPT) && defined(__GNUC__)
+#define KUSPIGO_KEPT __attribute__((used))
+#endif
+#ifndef KUSPIGO_KEPT
+#define KUSPIGO_KEPT
+#endif
+KUSPIGO_KEPT static size_t (*const kuspigo_linked)(void) = kuspigo_api;
+
+/* Every refusal: its name, its number, the trade's word and a sentence. The place is a byte offset in the job for 1 to 9
+ * and 14, else 0. */
+#define KUSPIGO_REFUSALS(ROW)                                                                               \
+    ROW(KUSPIGO_REFUSED_CUT, 1, "cut", "The bytes end too early.")                                          \
+    ROW(KUSPIGO_REFUSED_MARK, 2, "mark", "The job does not begin with its mark.")                           \
+    ROW(KUSPIGO_REFUSED_VERSION, 3, "version", "The job's version is not 1.")                               \
+    ROW(KUSPIGO_REFUSED_COUNT, 4, "count", "The node count is 0 or above 1,000.")                           \
+    ROW(KUSPIGO_REFUSED_KIND, 5, "kind", "The node's kind is unknown or not permitted there.")              \
+    ROW(KUSPIGO_REFUSED_REGISTER, 6, "register", "The register's number is 64 or more.")                    \
+    ROW(KUSPIGO_REFUSED_DEPTH, 7, "depth", "The node is at depth 65.")                                      \
+    ROW(KUSPIGO_REFUSED_FORKS, 8, "forks", "This is the sixteenth FORK.")                                   \
+    ROW(KUSPIGO_REFUSED_LENGTH, 9, "length", "The nodes or the bytes do not match the count.")              \
+    ROW(KUSPIGO_REFUSED_SHORT_TRAY, 10, "short tray", "The output is shorter than the result.")             \
+    ROW(KUSPIGO_REFUSED_FOREIGN_CODE, 11, "foreign code", "No accepted job compiles to this code.")         \
+    ROW(KUSPIGO_REFUSED_FOREIGN_STATE, 12, "foreign state", "The state does not fit the code.")             \
+    ROW(KUSPIGO_REFUSED_LONG_LIST, 13, "long list", "There are more than 32,768 picks.")                    \
+    ROW(KUSPIGO_REFUSED_LONG_TRANSACTION, 14, "long transaction", "The transaction has more than 200 nodes.")
+
+#define KUSPIGO_NAMED_(name, number, word, sentence) , name = number
+enum kuspigo_refusal { KUSPIGO_TAKEN = 0 KUSPIGO_REFUSALS(KUSPIGO_NAMED_) };
+#undef KUSPIGO_NAMED_
+
+/* The trade's word for a refusal's number; "taken" for 0, "unknown" for a number that no refusal has. */
+#define KUSPIGO_WORD_(name, number, word, sentence) case number: return word;
+static inline const char *kuspigo_refusal_word(size_t refusal) {
+    switch (refusal) {
+        case 0: return "taken";
+        KUSPIGO_REFUSALS(KUSPIGO_WORD_)
+        default: return "unknown";
+    }
+}
+#undef KUSPIGO_WORD_
+
+/* A sentence for it. */
+#define KUSPIGO_SENTENCE_(name, number, word, sentence) case number: return sentence;
+static inline const char *kuspigo_refusal_sentence(size_t refusal) {
+    switch (refusal) {
+        case 0: return "The call was taken.";
+        KUSPIGO_REFUSALS(KUSPIGO_SENTENCE_)
+        default: return "No refusal has this number.";
+    }
+}
+#undef KUSPIGO_SENTENCE_
+
 /* A state is 64 registers and 16 thread records. */
 #define KUSPIGO_REGISTERS 64
 #define KUSPIGO_THREADS 16
-/* No code of an accepted job is longer than this, and no accepted job. */
+/* No code of an accepted job is longer than this, no accepted job, and no listing. */
 #define KUSPIGO_LONGEST_CODE 3007
 #define KUSPIGO_LONGEST_JOB 3007
+#define KUSPIGO_LONGEST_LISTING 4449
+/* A call takes no more picks. */
+#define KUSPIGO_MOST_PICKS 32768
+
+/* Bytes of stack that a call takes at most, as measured on x86-64, with the return address and the arguments that lie
+ * there. Compiling and the report take most at depth 64; for one node compiling takes 352. */
+#define KUSPIGO_STACK_FORECAST 784
+#define KUSPIGO_STACK_COMPILE 15472
+#define KUSPIGO_STACK_READ_BACK 1088
+#define KUSPIGO_STACK_REPORT 69104
+#define KUSPIGO_STACK_FRESH 400
+#define KUSPIGO_STACK_STEP 4360
+#define KUSPIGO_STACK_RUN 4360
 
 /* A thread's record. Places count from the code's first byte, so 0 is no place. */
 typedef struct kuspigo_thread {
@@ -126,6 +191,16 @@ typedef struct kuspigo_forecast_reply {
     uint8_t heights[KUSPIGO_THREADS]; /* greatest stack height of the root, then of each FORK's child in the order of
                                          the FORKs in the job; 0 behind them */
 } kuspigo_forecast_reply;
+
+/* The records as the library was built with them; on a machine where they differ the header is not taken. */
+#define KUSPIGO_SIZE_(type, bytes) typedef char type##_has_##bytes##_bytes[sizeof(type) == bytes ? 1 : -1]
+KUSPIGO_SIZE_(kuspigo_thread, 856);
+KUSPIGO_SIZE_(kuspigo_written, 24);
+KUSPIGO_SIZE_(kuspigo_fresh_reply, 16);
+KUSPIGO_SIZE_(kuspigo_step_reply, 48);
+KUSPIGO_SIZE_(kuspigo_run_reply, 56);
+KUSPIGO_SIZE_(kuspigo_forecast_reply, 96);
+#undef KUSPIGO_SIZE_
 
 /* The job's stack code, at the front of out. Refusals 1 to 9, then 14, then 10. */
 kuspigo_written kuspigo_compile(const uint8_t *job, size_t job_count, uint8_t *out, size_t out_count);

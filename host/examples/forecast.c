@@ -18,7 +18,8 @@ static void print_registers(const char *word, uint64_t set) {
 int main(void) {
     kuspigo_forecast_reply told = kuspigo_forecast(job, sizeof job);
     if (told.refusal != 0) {
-        printf("refused %zu at %zu\n", told.refusal, told.place);
+        printf("refused %zu (%s) at %zu: %s\n", told.refusal, kuspigo_refusal_word(told.refusal), told.place,
+               kuspigo_refusal_sentence(told.refusal));
         return 1;
     }
     printf("%zu bytes of code, %zu transactions, %zu threads\n", told.length, told.transactions, told.threads);

@@ -14,7 +14,9 @@ static int32_t registers[KUSPIGO_REGISTERS];
 static kuspigo_thread threads[KUSPIGO_THREADS];
 
 static int refused(size_t number, size_t place) {
-    if (number != 0) printf("refused %zu at %zu\n", number, place);
+    if (number != 0) {
+        printf("refused %zu (%s) at %zu: %s\n", number, kuspigo_refusal_word(number), place, kuspigo_refusal_sentence(number));
+    }
     return number != 0;
 }
 

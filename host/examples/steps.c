@@ -24,7 +24,9 @@ static void print_rule(size_t rule) {
 }
 
 static int refused(size_t number, size_t place) {
-    if (number != 0) printf("refused %zu at %zu\n", number, place);
+    if (number != 0) {
+        printf("refused %zu (%s) at %zu: %s\n", number, kuspigo_refusal_word(number), place, kuspigo_refusal_sentence(number));
+    }
     return number != 0;
 }
 

@@ -1,69 +1,27 @@
-//! Refusals, and what forecasts, steps and runs answer.
+//! What forecasts, steps and runs answer.
 
 use std::fmt;
-
-/// Why a call was turned down. Nothing that was lent to it is altered.
-#[derive(Clone, Copy, PartialEq, Eq, Hash, Debug)]
-pub struct Refusal {
-    /// 1 to 14.
-    pub number: u8,
-    /// A byte offset in the job for 1 to 9 and 14, else 0.
-    pub place: usize,
-}
-
-impl Refusal {
-    /// The trade's word.
-    pub fn word(self) -> &'static str {
-        self.texts().0
-    }
-
-    /// A plain sentence.
-    pub fn sentence(self) -> &'static str {
-        self.texts().1
-    }
-
-    fn texts(self) -> (&'static str, &'static str) {
-        match self.number {
-            1 => ("cut", "The bytes end too early."),
-            2 => ("mark", "The job does not begin with its mark."),
-            3 => ("version", "The job's version is not 1."),
-            4 => ("count", "The node count is 0 or above 1,000."),
-            5 => ("kind", "The node's kind is unknown or not permitted there."),
-            6 => ("register", "The register's number is 64 or more."),
-            7 => ("depth", "The node is at depth 65."),
-            8 => ("forks", "This is the sixteenth FORK."),
-            9 => ("length", "The nodes or the bytes do not match the count."),
-            10 => ("short tray", "The output is shorter than the result."),
-            11 => ("foreign code", "No accepted job compiles to this code."),
-            12 => ("foreign state", "The state does not fit the code."),
-            13 => ("long list", "There are more than 32,768 picks."),
-            14 => ("long transaction", "The transaction has more than 200 nodes."),
-            _ => ("unknown", "The library gave a number that is not known here."),
-        }
-    }
-}
-
-impl fmt::Display for Refusal {
-    fn fmt(&self, f: &mut fmt::Formatter<'_>) -> fmt::Result {
-        write!(f, "refused {} ({}) at {}: {}", self.number, self.word(), self.place, self.sentence())
-    }
-}
-
-impl std::error::Error for Refusal {}
 
 /// What a pick did.
 #[derive(Clone, Copy, PartialEq, Eq, Hash, Debug)]
 pub enum Event {
     /// Its thread does not exist or has ended.
     Idle = 0,
+    /// PUSH.
     Push = 1,
+    /// ADD.
     Sum = 2,
+    /// FORK.
     Fork = 3,
+    /// BEGIN.
     Begin = 4,
+    /// READ, with the write log's value.
     ReadWriteLog = 5,
+    /// READ, with the read log's value.
     ReadReadLog = 6,
-    /// The value entered the read log.
+    /// READ, with the table's value, which entered the read log.
     ReadTable = 7,
+    /// WRITE.
     Write = 8,
     /// A COMMIT that took effect.
     Commit = 9,
@@ -72,6 +30,7 @@ pub enum Event {
 }
 
 impl Event {
+    /// All of them, in the order of their numbers.
     pub const ALL: [Event; 11] = [
         Event::Idle,
         Event::Push,
@@ -86,6 +45,7 @@ impl Event {
         Event::SentBack,
     ];
 
+    /// The event that has this number, if one has.
     pub fn from_number(number: usize) -> Option<Event> {
         Event::ALL.get(number).copied()
     }
@@ -98,16 +58,25 @@ pub enum Rule {
     None,
     /// Of a step: its thread does not exist or has ended. No record keeps it.
     Idle,
+    /// PUSH.
     Push,
+    /// ADD.
     Sum,
+    /// FORK.
     Fork,
+    /// BEGIN.
     Begin,
+    /// READ, with the write log's value.
     ReadWriteLog,
+    /// READ, with the read log's value.
     ReadReadLog,
+    /// READ, with the table's value.
     ReadTable,
+    /// WRITE.
     Write,
+    /// A COMMIT that took effect.
     Commit,
-    /// With the lowest stale register.
+    /// A COMMIT that found a stale register; the lowest such.
     SentBack(u8),
     /// A number in a record that names no rule. It fits, for the last rule is free in a lent state.
     Unnamed(usize),
@@ -185,6 +154,7 @@ impl fmt::Display for Rule {
 /// What one pick did.
 #[derive(Clone, Copy, PartialEq, Eq, Hash, Debug)]
 pub struct Step {
+    /// What it did.
     pub event: Event,
     /// The lowest stale register, if the thread was sent back.
     pub stale: Option<u8>,
@@ -200,13 +170,6 @@ impl Step {
     pub fn rule(self) -> Rule {
         Rule::of_event(self.event, self.stale.unwrap_or(0))
     }
-
-    pub(crate) const IDLE: Step = Step::of(Event::Idle);
-
-    /// One that took no turn, was not sent back and tells of no sum.
-    pub(crate) const fn of(event: Event) -> Step {
-        Step { event, stale: None, turn: false, over: 0 }
-    }
 }
 
 /// The counts of one call's picks.
@@ -214,22 +177,14 @@ impl Step {
 pub struct Counts {
     /// Picks that were not idle.
     pub steps: usize,
+    /// Picks of threads that did not exist or had ended.
     pub idle: usize,
+    /// COMMITs that took effect.
     pub commits: usize,
-    /// Commits that were sent back.
+    /// COMMITs that were sent back.
     pub back: usize,
     /// Sums that left the 32-bit range, outside transactions and, as noted, in attempts that took effect.
     pub over: usize,
-}
-
-impl Counts {
-    pub(crate) fn add(&mut self, step: Step) {
-        self.idle += usize::from(step.event == Event::Idle);
-        self.steps += usize::from(step.event != Event::Idle);
-        self.commits += usize::from(step.event == Event::Commit);
-        self.back += usize::from(step.event == Event::SentBack);
-        self.over += step.over;
-    }
 }
 
 /// A set of registers.
@@ -240,6 +195,7 @@ pub struct RegisterSet {
 }
 
 impl RegisterSet {
+    /// Whether a register is in it.
     pub fn contains(self, register: u8) -> bool {
         register < 64 && self.bits >> register & 1 == 1
     }
@@ -284,8 +240,8 @@ pub struct Forecast {
     pub reads: RegisterSet,
     /// The registers that WRITE names.
     pub writes: RegisterSet,
-    /// All 16 heights, 0 behind those of the job's threads.
-    pub(crate) all_heights: [u8; 16],
+    /// All 16 greatest stack heights, 0 behind those of the job's threads.
+    pub all_heights: [u8; 16],
 }
 
 impl Forecast {

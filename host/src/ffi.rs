@@ -1,4 +1,5 @@
-//! The library's functions as C sees them: a slice is a pointer and a count.
+//! The library's functions as C sees them: a slice is a pointer and a count. A pointer is never null, and what is lent for
+//! writing overlaps nothing else that is lent to the call.
 //!
 //! Nothing checks these declarations against the library's source. The tests hold them against what it does.
 
@@ -7,24 +8,29 @@
 #[repr(C)]
 #[derive(Clone, Copy, PartialEq, Eq, Debug)]
 pub struct Thread {
-    /// Its own code: from `start` up to `end`, less the child code of the FORKs in it.
+    /// Its own code: from here up to `end`, less the child code of the FORKs in it.
     pub start: usize,
+    /// The place behind its own code. A thread whose place it is has ended.
     pub end: usize,
     /// The next instruction.
     pub place: usize,
-    /// The stack: `height` of its cells are in use.
+    /// So many cells of the stack are in use.
     pub height: usize,
+    /// The stack. The first cell of a thread that has ended is its result.
     pub cells: [i32; 64],
-    /// The open transaction's notes: its BEGIN's place, the stack height there, and how many sums of this attempt left the
-    /// 32-bit range. 0 if none is open.
+    /// The open transaction's notes, 0 if none is open: its BEGIN's place,
     pub begin: usize,
+    /// the stack height there,
     pub base: usize,
+    /// and how many sums of this attempt left the 32-bit range.
     pub over: usize,
-    /// The read log: the registers that it marks, and their values.
+    /// The registers that the read log marks, bit 0 being register 0,
     pub reads: u64,
+    /// and their values.
     pub readlog: [i32; 64],
-    /// The write log, likewise.
+    /// The registers that the write log marks,
     pub writes: u64,
+    /// and their values.
     pub writelog: [i32; 64],
     /// The last rule that moved it, 0 if none has: 1 to 9 an [`Event`](crate::Event) by its number, 10 + v sent back with
     /// the lowest stale register v. Idle picks leave it. Any number fits in a thread's record; in a record of no thread
@@ -40,8 +46,11 @@ pub struct Thread {
 #[repr(C)]
 #[derive(Clone, Copy, PartialEq, Eq, Debug)]
 pub struct Written {
+    /// 0 if the call was taken, else a [`Reason`](crate::Reason) by its number.
     pub refusal: usize,
+    /// A byte offset in the job, or 0.
     pub place: usize,
+    /// So many bytes of the output are written.
     pub length: usize,
 }
 
@@ -49,7 +58,9 @@ pub struct Written {
 #[repr(C)]
 #[derive(Clone, Copy, PartialEq, Eq, Debug)]
 pub struct FreshReply {
+    /// 0 if the call was taken, else a [`Reason`](crate::Reason) by its number.
     pub refusal: usize,
+    /// A byte offset in the job, or 0.
     pub place: usize,
 }
 
@@ -57,7 +68,9 @@ pub struct FreshReply {
 #[repr(C)]
 #[derive(Clone, Copy, PartialEq, Eq, Debug)]
 pub struct StepReply {
+    /// 0 if the call was taken, else a [`Reason`](crate::Reason) by its number.
     pub refusal: usize,
+    /// A byte offset in the job, or 0.
     pub place: usize,
     /// An [`Event`](crate::Event) by its number.
     pub event: usize,
@@ -73,11 +86,17 @@ pub struct StepReply {
 #[repr(C)]
 #[derive(Clone, Copy, PartialEq, Eq, Debug)]
 pub struct RunReply {
+    /// 0 if the call was taken, else a [`Reason`](crate::Reason) by its number.
     pub refusal: usize,
+    /// A byte offset in the job, or 0.
     pub place: usize,
+    /// Picks that were not idle.
     pub steps: usize,
+    /// Picks of threads that did not exist or had ended.
     pub idle: usize,
+    /// COMMITs that took effect.
     pub commits: usize,
+    /// COMMITs that were sent back.
     pub back: usize,
     /// What the picks told, as in [`StepReply`], added up.
     pub over: usize,
@@ -87,7 +106,9 @@ pub struct RunReply {
 #[repr(C)]
 #[derive(Clone, Copy, PartialEq, Eq, Debug)]
 pub struct ForecastReply {
+    /// 0 if the call was taken, else a [`Reason`](crate::Reason) by its number.
     pub refusal: usize,
+    /// A byte offset in the job, or 0.
     pub place: usize,
     /// Bytes of code, mark and version included.
     pub length: usize,
@@ -101,18 +122,34 @@ pub struct ForecastReply {
     pub longest: usize,
     /// No run of its code from a fresh state has more steps.
     pub bound: usize,
-    /// The registers that READ names, bit 0 being register 0, and those that WRITE names.
+    /// The registers that READ names, bit 0 being register 0,
     pub reads: u64,
+    /// and those that WRITE names.
     pub writes: u64,
     /// Greatest stack height of the root, then of each FORK's child in job order; 0 behind them.
     pub heights: [u8; 16],
 }
 
+/// The version of the C interface that these declarations are of.
+pub const API: usize = api!();
+
+/// Refers to the library's version in whatever this package is linked to.
+#[used]
+static LINKED: unsafe extern "C" fn() -> usize = kuspigo_api;
+
 extern "C" {
+    /// The version of the C interface. Its name holds the number, so that an archive of another version does not link.
+    #[link_name = concat!("kuspigo_api_", api!())]
+    pub fn kuspigo_api() -> usize;
+    /// The job's stack code, at the front of `out`.
     pub fn kuspigo_compile(job: *const u8, job_count: usize, out: *mut u8, out_count: usize) -> Written;
+    /// The job that compiles to the code, at the front of `out`.
     pub fn kuspigo_read_back(code: *const u8, code_count: usize, out: *mut u8, out_count: usize) -> Written;
+    /// What the job will need.
     pub fn kuspigo_forecast(job: *const u8, job_count: usize) -> ForecastReply;
+    /// What the run program prints for an input, at the front of `out`.
     pub fn kuspigo_report(input: *const u8, input_count: usize, out: *mut u8, out_count: usize) -> Written;
+    /// A fresh state, over whatever was there.
     pub fn kuspigo_fresh(
         code: *const u8,
         code_count: usize,
@@ -121,6 +158,7 @@ extern "C" {
         threads: *mut Thread,
         thread_count: usize,
     ) -> FreshReply;
+    /// One pick.
     pub fn kuspigo_step(
         code: *const u8,
         code_count: usize,
@@ -130,6 +168,7 @@ extern "C" {
         thread_count: usize,
         pick: u8,
     ) -> StepReply;
+    /// A list of picks, one after the other.
     pub fn kuspigo_run(
         code: *const u8,
         code_count: usize,

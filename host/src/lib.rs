@@ -5,25 +5,43 @@
 //! let code = kuspigo::compile(&job)?;
 //! let mut state = kuspigo::State::fresh(&code)?;
 //! let counts = state.run(&code, &[0])?;
+//! assert!(state.is_finished());
 //! assert_eq!((counts.steps, state.threads[0].result()), (1, Some(7)));
 //! # Ok::<(), kuspigo::Refusal>(())
 //! ```
 
+#![deny(missing_docs)]
+
+#[macro_use]
+mod api;
 mod answers;
 pub mod ffi;
-pub mod plain;
 pub mod raw;
-pub mod samples;
+mod refusals;
 
-pub use answers::{Counts, Event, Forecast, Refusal, RegisterSet, Rule, Step};
-pub use ffi::Thread;
+pub use answers::{Counts, Event, Forecast, RegisterSet, Rule, Step};
+pub use ffi::{Thread, API};
+pub use refusals::{Reason, Refusal};
 
 use ffi::Written;
 
-/// No accepted job's code is longer, and no job that is read back.
-const LONGEST_CODE: usize = 3_007;
-/// No listing is longer: 16 threads with results and 64 registers, each number of eleven characters.
-const LONGEST_LISTING: usize = 2_048;
+/// The examples of the package's README.
+#[cfg(doctest)]
+#[doc = include_str!("../README.md")]
+struct Readme;
+
+/// A state has so many registers,
+pub const REGISTERS: usize = 64;
+/// and so many thread records.
+pub const THREADS: usize = 16;
+/// No accepted job's code is longer.
+pub const LONGEST_CODE: usize = 3_007;
+/// No accepted job is longer, and none that is read back.
+pub const LONGEST_JOB: usize = 3_007;
+/// No listing is longer, as is proved of the library.
+pub const LONGEST_LISTING: usize = 4_449;
+/// A run call takes no more picks.
+pub const MOST_PICKS: usize = 32_768;
 
 /// The job's stack code.
 pub fn compile(job: &[u8]) -> Result<Vec<u8>, Refusal> {
@@ -54,7 +72,7 @@ pub fn forecast(job: &[u8]) -> Result<Forecast, Refusal> {
 
 /// The job that compiles to the code.
 pub fn read_back(code: &[u8]) -> Result<Vec<u8>, Refusal> {
-    into_vec(LONGEST_CODE, |out| read_back_into(code, out))
+    into_vec(LONGEST_JOB, |out| read_back_into(code, out))
 }
 
 /// Writes the job that compiles to the code to the front of `out` and gives its length. Nothing behind it is altered.
@@ -97,14 +115,16 @@ pub fn run(code: &[u8], registers: &mut [i32], threads: &mut [Thread], picks: &[
 /// A state: the registers and the thread records.
 #[derive(Clone, PartialEq, Eq, Debug)]
 pub struct State {
-    pub registers: [i32; 64],
-    pub threads: [Thread; 16],
+    /// The register table.
+    pub registers: [i32; REGISTERS],
+    /// The thread records. Threads are numbered without gaps; a record behind the last one is [`Thread::ABSENT`].
+    pub threads: [Thread; THREADS],
 }
 
 impl State {
     /// Thread 0 alone, at the start of the code, and every register 0.
     pub fn fresh(code: &[u8]) -> Result<State, Refusal> {
-        let mut state = State { registers: [0; 64], threads: [Thread::ABSENT; 16] };
+        let mut state = State { registers: [0; REGISTERS], threads: [Thread::ABSENT; THREADS] };
         fresh(code, &mut state.registers, &mut state.threads)?;
         Ok(state)
     }
@@ -117,6 +137,29 @@ impl State {
     /// A list of picks, one after the other.
     pub fn run(&mut self, code: &[u8], picks: &[u8]) -> Result<Counts, Refusal> {
         run(code, &mut self.registers, &mut self.threads, picks)
+    }
+
+    /// Whether every thread that exists has ended; so it is in a state without threads too, which fits no code.
+    pub fn is_finished(&self) -> bool {
+        self.open_threads().next().is_none()
+    }
+
+    /// The numbers of the threads that exist and have not ended, ascending, as it is at the call. A pick of any other is
+    /// idle.
+    ///
+    /// ```
+    /// # let code = kuspigo::compile(&[0x57, 0x53, 0x4A, 0, 1, 0, 2, 4, 1, 0, 0, 0, 7])?;
+    /// # let mut state = kuspigo::State::fresh(&code)?;
+    /// while let Some(thread) = state.open_threads().next() {
+    ///     state.step(&code, thread)?;
+    /// }
+    /// assert!(state.is_finished());
+    /// # assert_eq!([0, 1].map(|thread: usize| state.threads[thread].result()), [Some(0), Some(7)]);
+    /// # Ok::<(), kuspigo::Refusal>(())
+    /// ```
+    pub fn open_threads(&self) -> impl Iterator<Item = u8> {
+        let open: [bool; THREADS] = std::array::from_fn(|number| self.threads[number].is_open());
+        (0..).zip(open).filter(|&(_, open)| open).map(|(number, _)| number)
     }
 }
 
@@ -139,8 +182,14 @@ impl Thread {
         backs: 0,
     };
 
+    /// Whether there is such a thread.
     pub fn exists(&self) -> bool {
         self.start != 0
+    }
+
+    /// Whether it exists and has not ended.
+    pub fn is_open(&self) -> bool {
+        self.exists() && self.result().is_none()
     }
 
     /// The last rule that moved it; idle picks leave it.
@@ -157,7 +206,7 @@ impl Thread {
 fn taken(refusal: usize, place: usize) -> Result<(), Refusal> {
     match refusal {
         0 => Ok(()),
-        number => Err(Refusal { number: number as u8, place }),
+        number => Err(Refusal { reason: Reason::from_number(number).expect("the library names a reason"), place }),
     }
 }
 

@@ -4,9 +4,9 @@
 //! KUSPIGO_SEED and KUSPIGO_CASES (for each call) choose the cases. An argument runs only the calls whose name has it.
 
 use kuspigo::ffi::{ForecastReply, FreshReply, RunReply, StepReply, Written};
-use kuspigo::plain::{self, by_value, tree};
-use kuspigo::samples::{chain, deep, far, many_small, sum, Lean, Rng, Shape};
 use kuspigo::{raw, Counts, Event, Forecast, Refusal, RegisterSet, Rule, Step, Thread};
+use plain::samples::{chain, deep, far, many_small, sum, Lean, Rng, Shape};
+use plain::{by_value, tree};
 use std::collections::BTreeMap;
 use std::fmt::{Debug, Write};
 use std::time::Instant;
@@ -387,9 +387,10 @@ fn main() {
         differences += differing;
     }
     println!("{differences} differences, {missing} not reached\n");
-    if differences + missing > 0 {
-        std::process::exit(1);
-    }
+    // one test, told as cargo's own are, so that the gate counts it
+    let failed = u8::from(differences + missing > 0);
+    println!("test result: {}. {} passed; {failed} failed; 0 ignored", if failed == 0 { "ok" } else { "FAILED" }, 1 - failed);
+    std::process::exit(failed.into());
 }
 
 fn setting(name: &str, default: u64) -> u64 {
@@ -642,7 +643,7 @@ fn forecast_reply(result: Result<Forecast, Refusal>) -> ForecastReply {
             reply.writes = told.writes.bits;
             reply.heights[..told.threads].copy_from_slice(told.heights());
         }
-        Err(refusal) => (reply.refusal, reply.place) = (refusal.number.into(), refusal.place),
+        Err(refusal) => (reply.refusal, reply.place) = (refusal.number().into(), refusal.place),
     }
     reply
 }
@@ -650,7 +651,7 @@ fn forecast_reply(result: Result<Forecast, Refusal>) -> ForecastReply {
 fn written(result: Result<usize, Refusal>) -> Written {
     match result {
         Ok(length) => Written { refusal: 0, place: 0, length },
-        Err(refusal) => Written { refusal: refusal.number.into(), place: refusal.place, length: 0 },
+        Err(refusal) => Written { refusal: refusal.number().into(), place: refusal.place, length: 0 },
     }
 }
 
@@ -840,7 +841,7 @@ fn contrast(first: &Memory, second: &Memory) -> String {
 fn fresh_reply(result: Result<(), Refusal>) -> FreshReply {
     match result {
         Ok(()) => FreshReply { refusal: 0, place: 0 },
-        Err(refusal) => FreshReply { refusal: refusal.number.into(), place: refusal.place },
+        Err(refusal) => FreshReply { refusal: refusal.number().into(), place: refusal.place },
     }
 }
 
@@ -854,8 +855,9 @@ fn step_reply(result: Result<Step, Refusal>) -> StepReply {
             turn: step.turn.into(),
             over: step.over,
         },
-        Err(Refusal { number, place }) => {
-            StepReply { refusal: number.into(), place, event: 0, register: 0, turn: 0, over: 0 }
+        Err(refusal) => {
+            let (refusal, place) = (refusal.number().into(), refusal.place);
+            StepReply { refusal, place, event: 0, register: 0, turn: 0, over: 0 }
         }
     }
 }
@@ -865,8 +867,9 @@ fn run_reply(result: Result<Counts, Refusal>) -> RunReply {
         Ok(Counts { steps, idle, commits, back, over }) => {
             RunReply { refusal: 0, place: 0, steps, idle, commits, back, over }
         }
-        Err(Refusal { number, place }) => {
-            RunReply { refusal: number.into(), place, steps: 0, idle: 0, commits: 0, back: 0, over: 0 }
+        Err(refusal) => {
+            let (refusal, place) = (refusal.number().into(), refusal.place);
+            RunReply { refusal, place, steps: 0, idle: 0, commits: 0, back: 0, over: 0 }
         }
     }
 }

@@ -2,8 +2,8 @@
 
 use core::mem::{align_of, offset_of, size_of};
 use kuspigo::ffi::{ForecastReply, FreshReply, RunReply, StepReply, Written};
-use kuspigo::plain::tree::{Process, Transaction};
 use kuspigo::{raw, Thread};
+use plain::tree::{Process, Transaction};
 
 #[test]
 fn thread_record() {

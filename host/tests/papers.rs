@@ -1,9 +1,9 @@
 //! The cases of documents 01 and 02, and forecasts, sums, the nodes of long transactions and send-backs counted by hand, of
 //! the library through its wrapper and of the plain implementation.
 
-use kuspigo::plain::{self, tree};
-use kuspigo::samples::{chain, Lean, Rng, Shape};
-use kuspigo::{Counts, Event, Forecast, Refusal, Rule, State, Step, Thread};
+use kuspigo::{Counts, Event, Forecast, Reason, Refusal, Rule, State, Step, Thread};
+use plain::samples::{chain, Lean, Rng, Shape};
+use plain::tree;
 use tree::{Process, Transaction};
 
 /// Two threads each add 1 to register 0.
@@ -38,8 +38,8 @@ fn compiled(job: &[u8]) -> Result<Vec<u8>, Refusal> {
     code
 }
 
-fn refused<T>(number: u8, place: usize) -> Result<T, Refusal> {
-    Err(Refusal { number, place })
+fn refused<T>(number: usize, place: usize) -> Result<T, Refusal> {
+    Err(Refusal { reason: Reason::from_number(number).expect("a reason"), place })
 }
 
 /// The forecast of a job, the three implementations agreeing.
@@ -157,14 +157,14 @@ fn refusals_and_places() {
     assert_eq!(compiled(b"WSJ\x00\x01\x00\x02\x01\x00\x00\x00\x07"), refused(9, 12));
     assert_eq!(compiled(b"WSJ\x00\x01\x00\x01\x01\x00\x00\x00\x07\x00"), refused(9, 12));
     let shorter = |length: usize| kuspigo::compile_into(&whole_case(), &mut vec![0; length]);
-    assert_eq!((shorter(36), shorter(35)), (Ok(36), Err(Refusal { number: 10, place: 0 })));
+    assert_eq!((shorter(36), shorter(35)), (Ok(36), refused(10, 0)));
 }
 
 #[test]
 fn limits() {
     let mut rng = Rng::new(1, 0, 0);
     assert!(compiled(&chain(&mut rng, 64, 15).job()).is_ok());
-    assert_eq!(compiled(&chain(&mut rng, 65, 15).job()).unwrap_err().number, 7);
+    assert_eq!(compiled(&chain(&mut rng, 65, 15).job()).unwrap_err().reason, Reason::Depth);
 
     let nodes = |nodes| Shape { nodes, room: 64, forks: 15, transaction: 200, registers: 3, lean: Lean::Any };
     let job = nodes(1_000).tree(&mut rng).job();
@@ -666,7 +666,7 @@ fn forecasts_at_the_limits() {
 
     // every register
     let all = (0..64).map(|register| atomic(write(63 - register, Transaction::Read(register))));
-    let told = forecast(&kuspigo::samples::sum(all.collect()).job()).unwrap();
+    let told = forecast(&plain::samples::sum(all.collect()).job()).unwrap();
     assert_eq!((told.reads.bits, told.writes.bits), (u64::MAX, u64::MAX));
 
     // the longest transaction
@@ -677,7 +677,7 @@ fn forecasts_at_the_limits() {
     let mut parts = vec![atomic(full()), atomic(write(0, Transaction::Read(0)))];
     parts.extend((0..245).map(|_| atomic(Transaction::Read(0))));
     parts.extend((0..15).map(|_| fork(atomic(Transaction::Read(0)))));
-    let tree = kuspigo::samples::sum(parts);
+    let tree = plain::samples::sum(parts);
     let told = forecast(&tree.job()).unwrap();
     assert_eq!(tree.nodes(), 1 + 200 + 260 * 2 + 3 + 15 + 261);
     assert_eq!(numbers(&told), [262, 16, 1_262, 202, 1_262 + 261 * 15 * 202]);
@@ -710,9 +710,35 @@ fn forecasts_that_are_refused() {
     assert_eq!(forecast(&[atomic(long()).job(), vec![0]].concat()), refused(9, 310));
 }
 
+/// The open threads beside the listing's, pick by pick.
+#[test]
+fn open_threads_are_those_that_are_listed_open() {
+    let (job, picks) = (whole_case(), whole_picks());
+    let code = kuspigo::compile(&job).unwrap();
+    let mut state = State::fresh(&code).unwrap();
+    let mut finished = Vec::new();
+    for done in 0..=picks.len() {
+        let input = [&[0, 32], &job[..], &picks[..done]].concat();
+        let listing = String::from_utf8(kuspigo::report(&input).unwrap()).unwrap();
+        let listed = listing.lines().filter_map(|line| line.strip_prefix("thread ")?.strip_suffix(" open"));
+        let open: Vec<String> = state.open_threads().map(|thread| thread.to_string()).collect();
+        assert!(listed.eq(&open), "{done} picks: {open:?}\n{listing}");
+        assert_eq!(state.is_finished(), open.is_empty());
+        finished.push(state.is_finished());
+        if let Some(&pick) = picks.get(done) {
+            assert!(state.open_threads().any(|thread| thread == pick));
+            state.step(&code, pick).unwrap();
+        }
+    }
+    assert_eq!(finished, [vec![false; picks.len()], vec![true]].concat());
+}
+
 #[test]
 fn refusals_have_words() {
-    let words: Vec<&str> = (1..=14).map(|number| Refusal { number, place: 0 }.word()).collect();
+    assert!(Reason::all().map(|reason| reason.number()).eq(1..=14));
+    assert!(Reason::all().all(|reason| Reason::from_number(reason.number().into()) == Some(reason)));
+    assert_eq!([0, 15, usize::MAX].map(Reason::from_number), [None; 3]);
+    let words: Vec<&str> = Reason::all().map(Reason::word).collect();
     assert_eq!(
         words,
         [
@@ -732,6 +758,6 @@ fn refusals_have_words() {
             "long transaction"
         ]
     );
-    let error: Box<dyn std::error::Error> = Box::new(Refusal { number: 10, place: 0 });
+    let error: Box<dyn std::error::Error> = Box::new(Refusal { reason: Reason::ShortTray, place: 0 });
     assert_eq!(error.to_string(), "refused 10 (short tray) at 0: The output is shorter than the result.");
 }

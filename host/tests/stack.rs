@@ -1,64 +1,84 @@
-//! How much stack the calls that read a job take. The job reader and the forecast reach no function that calls itself:
-//! they take the same for every job that they read to its end. The emitter, which compiling reaches, calls itself.
+//! How much stack each call takes. The header's KUSPIGO_STACK_ numbers are not exceeded. The job reader and the forecast
+//! reach no function that calls itself: they take the same for every job that they read to its end. The emitter, which
+//! compiling and the report reach, calls itself.
 //!
-//! Measured on a stack of our own, filled before the call: from its top down to the last byte that was altered.
+//! Measured on a stack of our own, filled before the call: from its top, with the arguments that lie there and the return
+//! address, down to the last byte that was altered.
 #![cfg(target_arch = "x86_64")]
 
 use core::arch::asm;
 use core::fmt::Debug;
 use core::mem::MaybeUninit;
-use kuspigo::ffi::{self, ForecastReply, Written};
-use kuspigo::raw;
-use kuspigo::samples::{chain, deep, many_small, Rng};
+use kuspigo::ffi::{self, ForecastReply, FreshReply, RunReply, StepReply, Written};
+use kuspigo::{raw, State, LONGEST_CODE, LONGEST_JOB, LONGEST_LISTING};
+use plain::samples::{chain, deep, many_small, Rng};
 
 const DEEPEST: usize = 64;
 const MOST_NODES: usize = 1_000;
-const LONGEST_CODE: usize = 3_007;
 
 /// As the calling convention aligns one.
 #[repr(align(16))]
-struct Stack([u8; 1 << 18]);
+struct Stack([u8; 1 << 17]);
 
-/// Calls a C function on a stack filled with a byte: its answer, and how many bytes of the stack lie above the last one
-/// altered, the return address among them.
+/// Words that are passed in registers.
+const IN_REGISTERS: usize = 6;
+
+/// Calls a C function on a stack filled with a byte: what it hands back in registers, and how many bytes of the stack lie
+/// above the last one altered.
 ///
-/// SAFETY: the function takes these four arguments or the first of them, and hands an `A` back through memory.
-unsafe fn on_stack<A>(stack: &mut Stack, fill: u8, function: *const (), arguments: [usize; 4]) -> (A, usize) {
+/// SAFETY: the function takes these words or the first of them.
+unsafe fn on_stack(stack: &mut Stack, fill: u8, function: *const (), words: &[usize]) -> ([usize; 2], usize) {
     stack.0.fill(fill);
-    let mut answer = MaybeUninit::<A>::uninit();
+    let mut registers = [0; IN_REGISTERS];
+    let in_registers = words.len().min(IN_REGISTERS);
+    registers[..in_registers].copy_from_slice(&words[..in_registers]);
+    // the rest lies on the stack, the first one lowest, at a multiple of 16
+    let on_stack: Vec<u8> = words[in_registers..].iter().flat_map(|word| word.to_ne_bytes()).collect();
+    let top = stack.0.len() - on_stack.len().next_multiple_of(16);
+    stack.0[top..top + on_stack.len()].copy_from_slice(&on_stack);
+    let (rax, rdx): (usize, usize);
     asm!(
         "xchg rsp, r12",
         "call {function}",
         "mov rsp, r12",
         function = in(reg) function,
-        inout("r12") stack.0.as_mut_ptr_range().end => _,
-        in("rdi") answer.as_mut_ptr(),
-        in("rsi") arguments[0],
-        in("rdx") arguments[1],
-        in("rcx") arguments[2],
-        in("r8") arguments[3],
+        inout("r12") stack.0.as_mut_ptr().add(top) => _,
+        in("rdi") registers[0],
+        in("rsi") registers[1],
+        inout("rdx") registers[2] => rdx,
+        in("rcx") registers[3],
+        in("r8") registers[4],
+        in("r9") registers[5],
+        out("rax") rax,
         clobber_abi("C"),
     );
     let untouched = stack.0.iter().take_while(|&&byte| byte == fill).count();
     assert!(untouched > 0, "the stack is too short");
-    (answer.assume_init(), stack.0.len() - untouched)
+    ([rax, rdx], stack.0.len() - untouched)
 }
 
-/// The same with two fillings: a byte that was written differs from one of them.
+/// The same with two fillings: a byte that was written differs from one of them. `prepare` gives the words, with the
+/// memory that they lend as it is to be before each call.
 ///
-/// SAFETY: as above.
-unsafe fn measured<A: PartialEq + Debug>(function: *const (), arguments: [usize; 4]) -> (A, usize) {
-    let mut stack = Box::new(Stack([0; 1 << 18]));
-    let (first, one) = on_stack(&mut stack, 0x5A, function, arguments);
-    let (second, other) = on_stack(&mut stack, 0xC3, function, arguments);
+/// SAFETY: as above; the function hands an `A` back through memory.
+unsafe fn measured<A: PartialEq + Debug>(function: *const (), mut prepare: impl FnMut() -> Vec<usize>) -> (A, usize) {
+    let mut stack = Box::new(Stack([0; 1 << 17]));
+    let mut answered = [0x5A, 0xC3].map(|fill| {
+        let mut answer = MaybeUninit::<A>::uninit();
+        let words = [vec![answer.as_mut_ptr() as usize], prepare()].concat();
+        let (_, taken) = on_stack(&mut stack, fill, function, &words);
+        (answer.assume_init(), taken)
+    });
+    answered.sort_by_key(|&(_, taken)| taken);
+    let [(first, _), (second, most)] = answered;
     assert_eq!(first, second);
-    (first, one.max(other))
+    (second, most)
 }
 
 fn of_forecast(job: &[u8]) -> usize {
-    let arguments = [job.as_ptr() as usize, job.len(), 0, 0];
+    let words = || vec![job.as_ptr() as usize, job.len()];
     // SAFETY: the pointer comes from a slice of the count beside it.
-    let (answer, stack) = unsafe { measured::<ForecastReply>(ffi::kuspigo_forecast as *const (), arguments) };
+    let (answer, stack) = unsafe { measured::<ForecastReply>(ffi::kuspigo_forecast as *const (), words) };
     assert_eq!(answer, raw::forecast(job));
     stack
 }
@@ -69,11 +89,73 @@ fn of_reader(job: &[u8]) -> usize {
 }
 
 fn of_compile(job: &[u8], length: usize) -> usize {
+    of_writing(ffi::kuspigo_compile as *const (), raw::compile, job, length)
+}
+
+fn of_read_back(code: &[u8]) -> usize {
+    of_writing(ffi::kuspigo_read_back as *const (), raw::read_back, code, LONGEST_JOB)
+}
+
+fn of_report(input: &[u8]) -> usize {
+    of_writing(ffi::kuspigo_report as *const (), raw::report, input, LONGEST_LISTING)
+}
+
+/// Of a call that writes to an output.
+fn of_writing(function: *const (), call: fn(&[u8], &mut [u8]) -> Written, input: &[u8], length: usize) -> usize {
     let mut out = vec![0; length];
-    let arguments = [job.as_ptr() as usize, job.len(), out.as_mut_ptr() as usize, length];
+    let words = || vec![input.as_ptr() as usize, input.len(), out.as_mut_ptr() as usize, length];
     // SAFETY: both pointers come from slices of the counts beside them, `out` being lent to this call alone.
-    let (answer, stack) = unsafe { measured::<Written>(ffi::kuspigo_compile as *const (), arguments) };
-    assert_eq!(answer, raw::compile(job, &mut vec![0; length]));
+    let (answer, stack) = unsafe { measured::<Written>(function, words) };
+    assert_eq!(answer, call(input, &mut vec![0; length]));
+    stack
+}
+
+/// The words that lend code and a state.
+fn lent(code: &[u8], state: &mut State) -> Vec<usize> {
+    let State { registers, threads } = state;
+    let (registers, threads) = (&mut registers[..], &mut threads[..]);
+    let places = [code.as_ptr() as usize, registers.as_mut_ptr() as usize, threads.as_mut_ptr() as usize];
+    vec![places[0], code.len(), places[1], registers.len(), places[2], threads.len()]
+}
+
+fn of_fresh(code: &[u8], state: &State) -> usize {
+    let mut state = state.clone();
+    let mut stack = Box::new(Stack([0; 1 << 17]));
+    let measures = [0x5A, 0xC3].map(|fill| {
+        let words = lent(code, &mut state);
+        // SAFETY: all pointers come from slices of the counts beside them; what is written is lent to this call alone.
+        let ([refusal, place], taken) = unsafe { on_stack(&mut stack, fill, ffi::kuspigo_fresh as *const (), &words) };
+        let mut other = state.clone();
+        let expected = raw::fresh(code, &mut other.registers, &mut other.threads);
+        assert_eq!(FreshReply { refusal, place }, expected);
+        taken
+    });
+    measures[0].max(measures[1])
+}
+
+fn of_step(code: &[u8], state: &State, pick: u8) -> usize {
+    let mut own = state.clone();
+    let words = || {
+        own = state.clone();
+        [lent(code, &mut own), vec![pick.into()]].concat()
+    };
+    // SAFETY: as for fresh.
+    let (answer, stack) = unsafe { measured::<StepReply>(ffi::kuspigo_step as *const (), words) };
+    let mut other = state.clone();
+    assert_eq!(answer, raw::step(code, &mut other.registers, &mut other.threads, pick));
+    stack
+}
+
+fn of_run(code: &[u8], state: &State, picks: &[u8]) -> usize {
+    let mut own = state.clone();
+    let words = || {
+        own = state.clone();
+        [lent(code, &mut own), vec![picks.as_ptr() as usize, picks.len()]].concat()
+    };
+    // SAFETY: as for fresh; `picks` is a slice of its count too.
+    let (answer, stack) = unsafe { measured::<RunReply>(ffi::kuspigo_run as *const (), words) };
+    let mut other = state.clone();
+    assert_eq!(answer, raw::run(code, &mut other.registers, &mut other.threads, picks));
     stack
 }
 
@@ -104,6 +186,23 @@ fn refused() -> Vec<Vec<u8>> {
     jobs
 }
 
+/// A number that the header defines.
+fn defined(name: &str) -> usize {
+    let header = std::path::Path::new(env!("CARGO_MANIFEST_DIR")).join("../include/kuspigo.h");
+    let header = std::fs::read_to_string(header).expect("the header is there");
+    let line = header.lines().find_map(|line| line.strip_prefix(&format!("#define {name} ")));
+    let number = line.and_then(|line| line.split_whitespace().next()).and_then(|number| number.parse().ok());
+    number.unwrap_or_else(|| panic!("the header defines the number {name}"))
+}
+
+/// The header's number is at least the most that was measured.
+fn within(call: &str, taken: &[usize]) {
+    let (least, most) = (taken.iter().min().unwrap(), taken.iter().max().unwrap());
+    let told = defined(&format!("KUSPIGO_STACK_{call}"));
+    println!("{call}: {least} to {most} bytes of stack in {} calls, {told} in the header", taken.len());
+    assert!(*most <= told, "{call} takes {most} bytes of stack, and the header says {told}");
+}
+
 #[test]
 fn the_readers_stack_does_not_grow_with_the_script() {
     type StackOf = fn(&[u8]) -> usize;
@@ -127,4 +226,65 @@ fn the_emitters_stack_does_and_is_seen_to() {
     let most = accepted().iter().map(|job| of_compile(job, LONGEST_CODE)).max().unwrap();
     println!("compile: {flat} bytes of stack for a job of one node, {most} at most");
     assert!(most > flat + DEEPEST, "{flat} to {most}");
+}
+
+/// Of jobs and codes that are taken and that are refused.
+#[test]
+fn no_call_on_bytes_takes_more_than_the_header_says() {
+    let (jobs, bad) = (accepted(), refused());
+    let of_jobs =
+        |stack_of: &dyn Fn(&[u8]) -> usize| jobs.iter().chain(&bad).map(|job| stack_of(job)).collect::<Vec<_>>();
+    within("FORECAST", &of_jobs(&of_forecast));
+    within("COMPILE", &of_jobs(&|job| of_compile(job, LONGEST_CODE)));
+    let mut codes: Vec<Vec<u8>> = jobs.iter().map(|job| kuspigo::compile(job).unwrap()).collect();
+    codes.extend(codes.clone().iter().map(|code| code[..code.len() - 1].to_vec()));
+    codes.extend([Vec::new(), b"WSC\x00\x01".to_vec()]);
+    within("READ_BACK", &codes.iter().map(|code| of_read_back(code)).collect::<Vec<_>>());
+}
+
+/// Of jobs that run to their end by random picks, that end early, and that are refused; of picks that are too many.
+#[test]
+fn no_report_takes_more_than_the_header_says() {
+    let mut taken = Vec::new();
+    for (case, job) in accepted().iter().chain(&refused()).enumerate() {
+        let mut rng = Rng::new(1, 2, case as u64);
+        let length = rng.choose(&[0, 1, 40, 2_000, 32_769]);
+        let picks: Vec<u8> = (0..length).map(|_| rng.below(17) as u8).collect();
+        let input = [&(job.len() as u16).to_be_bytes()[..], job, &picks].concat();
+        taken.push(of_report(&input));
+    }
+    taken.push(of_report(&[]));
+    within("REPORT", &taken);
+}
+
+/// Of states along runs, and of states that do not fit.
+#[test]
+fn no_call_on_a_state_takes_more_than_the_header_says() {
+    let (mut fresh, mut step, mut run) = (Vec::new(), Vec::new(), Vec::new());
+    for (case, job) in accepted().iter().enumerate() {
+        let mut rng = Rng::new(1, 3, case as u64);
+        let code = kuspigo::compile(job).unwrap();
+        let mut state = State::fresh(&code).unwrap();
+        fresh.push(of_fresh(&code, &state));
+        fresh.push(of_fresh(&code[..code.len() - 1], &state));
+        for length in [1, 30, 300] {
+            let picks: Vec<u8> = (0..length).map(|_| rng.below(17) as u8).collect();
+            step.push(of_step(&code, &state, picks[0]));
+            run.push(of_run(&code, &state, &picks));
+            run.push(of_run(&code, &state, &[]));
+            state.run(&code, &picks).unwrap();
+        }
+        // one in sixteen up to its end, step by step
+        while let (0, Some(open)) = (case % 16, state.open_threads().next()) {
+            step.push(of_step(&code, &state, open));
+            state.step(&code, open).unwrap();
+        }
+        run.push(of_run(&code, &state, &[0; 32_769]));
+        state.threads[rng.below(16)].height += 1;
+        step.push(of_step(&code, &state, 0));
+        run.push(of_run(&code, &state, &[0]));
+    }
+    within("FRESH", &fresh);
+    within("STEP", &step);
+    within("RUN", &run);
 }

@@ -16,5 +16,6 @@ pub record Returned : Type 0 where
   pub reply : numbers.Written
   pub output : List ℕ
 
+-- the answer in numbers, and the output, of what such a call came to
 abbrev pub written : Delivered → Returned
 written d = record { reply = writing (d .answer); output = d .output }

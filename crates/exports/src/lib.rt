@@ -69,3 +69,11 @@ pub extern "C" fn kuspigo_report(input: &[u8], out: &mut [u8]) -> Written
 {
     numbers(listing::report(input, out))
 }
+
+// The version of the C interface. Its name holds the number, so that a header or wrapper of another version does not link.
+#[no_mangle]
+pub extern "C" fn kuspigo_api_1() -> usize
+    ensures { λ r. ⌜ r ≡ 1 ⌝ }
+{
+    1
+}
