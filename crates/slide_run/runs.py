@@ -24,6 +24,9 @@ order = [0] * 3 + [1] * 2 + [2] * 6 + [1] * 10
 sixteen = fork(raises)
 for _ in range(14):
     sixteen = addp(sixteen, fork(raises))
+looks = fork(atomic(write(1, read(0))))
+came_back = job(addp(looks, fork(addp(atomic(write(0, valt(5))), atomic(write(0, valt(0)))))))
+same_value = job(addp(looks, fork(atomic(write(0, valt(0))))))
 ends = job(addp(addp(valp(2147483647), valp(1)), atomic(write(63, valt(-2147483648)))))
 
 RUNS = {
@@ -61,6 +64,23 @@ RUNS = {
     "whole_children_exchanged": (
         an_input(whole, [{0: 0, 1: 2, 2: 1}[i] for i in order]),
         "steps 21 idle 0 commits 2 back 1 over 0\nthread 0 done 0\nthread 1 done 1\nthread 2 done 2\nregister 0 2\n",
+    ),
+    # a register is stale if a commit wrote it since, also where its value came back or stayed
+    "came_back": (
+        an_input(came_back, [0, 0, 1, 1] + [2] * 8 + [1, 1]),
+        "steps 14 idle 0 commits 2 back 1 over 0\nthread 0 open\nthread 1 open\nthread 2 open\n",
+    ),
+    "came_back_to_the_end": (
+        an_input(came_back, [0, 0, 1, 1] + [2] * 8 + [1] * 6 + [2, 0]),
+        "steps 20 idle 0 commits 3 back 1 over 0\nthread 0 done 0\nthread 1 done 0\nthread 2 done 5\n",
+    ),
+    "came_back_before_it_was_read": (
+        an_input(came_back, [0, 0] + [2] * 8 + [1] * 4),
+        "steps 14 idle 0 commits 3 back 0 over 0\nthread 0 open\nthread 1 done 0\nthread 2 open\n",
+    ),
+    "same_value": (
+        an_input(same_value, [0, 0, 1, 1] + [2] * 4 + [1, 1]),
+        "steps 10 idle 0 commits 1 back 1 over 0\nthread 0 open\nthread 1 open\nthread 2 done 0\n",
     ),
     "ends_of_the_range": (
         an_input(ends, [0] * 12),

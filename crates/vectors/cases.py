@@ -413,6 +413,15 @@ def begun(tree, picks):
     return memory
 
 
+def existing(memory):
+    return [i for i in range(16) if memory.threads[i].start]
+
+
+def passed(code, memory):
+    """The COMMITs passed by all threads."""
+    return machine.commits_passed(code, [memory.threads[i] for i in existing(memory)])
+
+
 def state(kind, command, what, setup, changes, picks):
     """A call on a state. Answers what it says."""
     setup, picks = words(setup).strip(), words(picks).strip()
@@ -433,7 +442,7 @@ def calls(kind, tree, setup, lists):
             assert memory.numbers() == before
             said.append("refused %d at 0 kept" % number)
         else:
-            said.append(machine.COUNTS % machine.counts(events))
+            said.append(machine.COUNTS % machine.counts(events) + machine.show_counts(memory))
         seen["calls"]["refused" if number else "taken"] += 1
         seen["calls"]["sent back"] += any(event == 10 for event, *_ in events)
         seen["calls"]["sent back in an earlier call"] += back > 0
@@ -445,14 +454,17 @@ def calls(kind, tree, setup, lists):
     add(kind, "calls", text, " | ".join(said) + machine.show_state(memory) + ", sum %d" % machine.checksum(memory))
 
 
-FIELDS = machine.SCALARS + machine.ARRAYS + ("records", "registers")
+FIELDS = machine.SCALARS + machine.ARRAYS + ("count", "records", "registers", "counts")
 
 
-def altered(memory, field):
-    """A change of one field."""
-    if field in ("records", "registers"):
+def altered(memory, field, commits):
+    """A change of one field, so many COMMITs being passed."""
+    if field in ("records", "registers", "counts"):
         n = 16 if field == "records" else 64
         return "%s %d" % (field, rng.choice((0, 1, n - 1, n + 1, rng.randrange(n))))
+    v = rng.choice((0, 1, 40, 63))
+    if field == "count":
+        return "count %d %d" % (v, rng.choice((commits + 1, commits + 1, commits + 2, commits, rng.randint(0, commits), 2**32 - 1)))
     count = sum(record.start != 0 for record in memory.threads[:16])
     i = rng.choice((rng.randrange(count), rng.randrange(count), min(count, 15), rng.randrange(16)))
     now = getattr(memory.threads[i], field)
@@ -461,7 +473,9 @@ def altered(memory, field):
     if field in machine.SCALARS:
         value = rng.choice((now + 1, now - 1, now + rng.randint(2, 12), 0, 2**64 - 1, 64, memory.threads[0].end, 5))
         return "thread %d %s %d" % (i, field, max(0, value))
-    k = rng.choice((memory.threads[i].height - 1, memory.threads[i].height, 63, 0)) if field == "cell" else rng.choice((0, 1, 40, 63))
+    if field == "readcount":
+        return "thread %d readcount %d %d" % (i, v, rng.choice((memory.counts[v] + 1, memory.counts[v] + 1, memory.counts[v], rng.randint(0, commits + 1), 2**32 - 1)))
+    k = rng.choice((memory.threads[i].height - 1, memory.threads[i].height, 63, 0)) if field == "cell" else v
     return "thread %d %s %d %d" % (i, field, max(0, min(63, k)), rng.choice((1, -1, 2147483647, -2147483648)))
 
 
@@ -472,9 +486,9 @@ def one_field(fit, field):
         picks, _ = schedule(tree, 40)
         k = rng.randint(0, len(picks))
         memory = begun(tree, picks[:k])
-        change = altered(memory, field)
+        change, before = altered(memory, field, passed(whole(tree), memory)), memory.numbers()
         machine.change(bytearray(), memory, change)
-        if memory.numbers() + [memory.lent_records, memory.lent_registers] == begun(tree, picks[:k]).numbers() + [16, 64]:
+        if memory.numbers() == before and memory.lent() == machine.SIZES:
             continue
         if machine.fits(whole(tree), memory) == fit:
             break
@@ -559,9 +573,9 @@ def note_of(kind, code, record):
 
 
 def a_note(kind):
-    """A case of a state with another note in one record, by `note_of`. If it fits, register 0 is another one now and then."""
+    """A case of a state with another note in one record, by `note_of`. If it fits, a register that this thread has read is stale now and then."""
     fit = kind in ("lower", "higher")
-    another = ", register 0 7" * (fit and rng.random() < 0.4)
+    stale = fit and rng.random() < 0.4
     while True:
         tree = off_scale()
         picks, _ = schedule(tree, 60)
@@ -570,7 +584,10 @@ def a_note(kind):
         note = note_of(kind, whole(tree), memory.threads[i])
         if note is None:
             continue
-        changes = "thread %d over %d" % (i, note) + another
+        change = made_stale(memory, i, passed(whole(tree), memory)) if stale else None
+        if stale and not change:
+            continue
+        changes = ", ".join(filter(None, ("thread %d over %d" % (i, note), change)))
         for text in changes.split(", "):
             machine.change(bytearray(), memory, text)
         if machine.fits(whole(tree), memory) == fit:
@@ -591,17 +608,18 @@ def a_note(kind):
 # ---- last rules and send-backs
 
 
-def existing(memory):
-    return [i for i in range(16) if memory.threads[i].start]
+def marked(thread):
+    """The registers of a thread's read log."""
+    return [v for v in range(64) if thread.reads >> v & 1]
 
 
-def other_value(memory, i):
-    """A change of a register that thread i has read, or None if it has read none."""
-    marked = [v for v in range(64) if memory.threads[i].reads >> v & 1]
-    if not marked:
-        return None
-    v = rng.choice(marked)
-    return "register %d %d" % (v, machine.wrap(memory.threads[i].readlog[v] + rng.choice((1, -1, 1000))))
+def made_stale(memory, i, n):
+    """A change that makes a register stale which thread i has read, so many COMMITs being passed: the table's count higher or the log's lower. None
+    if there is none."""
+    thread = memory.threads[i]
+    table = ["count %d %d" % (v, rng.randint(memory.counts[v] + 1, n)) for v in marked(thread) if memory.counts[v] < n]
+    log = ["thread %d readcount %d %d" % (i, v, rng.randrange(thread.readcount[v])) for v in marked(thread) if thread.readcount[v] > 0]
+    return rng.choice(table + log) if table + log else None
 
 
 def some_rule():
@@ -611,24 +629,23 @@ def some_rule():
 def backs_of(kind, code, memory):
     """Changes of this kind, as far as there are such, the last of which matters:
     `above`: a thread's send-backs above the COMMITs passed; `equal`: equal to them, none of its reads being stale; `equal stale`: one being stale;
-    `below stale`: another number below them, one being stale; `none passed`: no COMMIT is passed, and a read gets stale;
+    `below stale`: another number below them, one being stale; `none passed`: no COMMIT is passed, and the count of a read register is another one;
     `rule`: another rule of a thread; `blank backs`, `blank rule`: in a record of no thread."""
-    threads = existing(memory)
-    n = machine.commits_passed(code, [memory.threads[i] for i in threads])
+    threads, n = existing(memory), passed(code, memory)
     i = rng.choice(threads)
-    thread, value = memory.threads[i], other_value(memory, i)
+    thread, change = memory.threads[i], made_stale(memory, i, n)
     if kind == "above":
         return ["thread %d backs %d" % (i, rng.choice((n + 1, n + 1, n + 1, n + 2, n + rng.randint(3, 300), 2**64 - 1)))]
-    if kind == "equal" and n > thread.backs and not machine.has_stale(thread, memory.registers):
+    if kind == "equal" and n > thread.backs and not machine.has_stale(thread, memory.counts):
         return ["thread %d backs %d" % (i, n)]
-    if kind in ("equal stale", "below stale") and n > 0 and value:
-        changes = [] if machine.has_stale(thread, memory.registers) else [value]
+    if kind in ("equal stale", "below stale") and change:
+        changes = [] if machine.has_stale(thread, memory.counts) else [change]
         if kind == "equal stale":
             return changes + ["thread %d backs %d" % (i, n)]
         if n > 1:
             return changes + ["thread %d backs %d" % (i, rng.choice([k for k in range(n) if k != thread.backs]))]
-    if kind == "none passed" and n == 0 and value:
-        return [value]
+    if kind == "none passed" and n == 0 and marked(thread):
+        return ["count %d %d" % (rng.choice(marked(thread)), rng.choice((1, 1, 2)))]
     if kind == "rule":
         return ["thread %d rule %d" % (i, some_rule())]
     if kind.startswith("blank") and len(threads) < 16 and n > 0:
@@ -638,32 +655,37 @@ def backs_of(kind, code, memory):
 
 
 def all_backs(memory, code):
-    """Changes of the last rule and the send-backs of every thread, and perhaps of a register."""
-    threads = existing(memory)
-    n = machine.commits_passed(code, [memory.threads[i] for i in threads])
+    """Changes of the last rule and the send-backs of every thread, and perhaps of a count."""
+    threads, n = existing(memory), passed(code, memory)
     changes = []
     for i in threads:
         changes += ["thread %d rule %d" % (i, some_rule())] if rng.random() < 0.5 else []
         changes.append("thread %d backs %d" % (i, rng.choice((n, n, rng.randint(0, n), rng.randint(0, n), rng.randint(0, n + 1)))))
-    value = other_value(memory, rng.choice(threads))
-    return changes + ([value] if value and rng.random() < 0.7 else [])
+    change = made_stale(memory, rng.choice(threads), n)
+    return changes + ([change] if change and rng.random() < 0.7 else [])
 
 
-def a_backs(kind, fit):
-    """A case of a state with such changes, which fits or does not, and without the last one of `backs_of` would fit."""
+def a_changed(kind, fit, trees, all_of, one_of):
+    """A state with such changes, which fits or does not, and without the last one of `one_of` would fit: its tree, the picks before it, its
+    code, its memory and the changes."""
     while True:
-        tree = rng.choice((busy, contested, any_tree))()
+        tree = rng.choice(trees)()
         picks, _ = schedule(tree, 60)
         setup = picks[: rng.randint(0, len(picks))]
         code, memory = whole(tree), begun(tree, setup)
-        changes = all_backs(memory, code) if kind == "mixed" else backs_of(kind, code, memory)
+        changes = all_of(memory, code) if kind == "mixed" else one_of(kind, code, memory)
         if not changes:
             continue
         for change in changes:
             fitted, before = machine.fits(code, memory), memory.numbers()
             machine.change(bytearray(), memory, change)
         if before != memory.numbers() and machine.fits(code, memory) == fit and (fitted or kind == "mixed"):
-            break
+            return tree, setup, code, memory, changes
+
+
+def a_backs(kind, fit):
+    """A case of a state with such changes, which fits or does not, and without the last one of `backs_of` would fit."""
+    tree, setup, code, memory, changes = a_changed(kind, fit, (busy, contested, any_tree), all_backs, backs_of)
     # the thread concerned, or all that have not ended in turns
     i = int(changes[-1].split()[1]) if changes[-1].startswith("thread") else 0
     live = [i for i in existing(memory) if memory.threads[i].place != memory.threads[i].end]
@@ -689,12 +711,149 @@ def rule_in_a_step(wanted):
         code, memory, found = whole(tree), begun(tree, []), []
         for k, i in enumerate(picks):
             if events[k] == wanted and i < 16 and memory.threads[i].backs > 0:
-                if wanted != 10 or sum(machine.is_stale(memory.threads[i], v, memory.registers) for v in range(64)) > 1:
+                if wanted != 10 or sum(machine.is_stale(memory.threads[i], v, memory.counts) for v in range(64)) > 1:
                     found.append(k)
             machine.pick(code, memory, i)
         if found:
             k = rng.choice(found)
             return tree, picks[:k], picks[k : k + 1]
+
+
+# ---- counts
+
+
+def resting():
+    """Threads that read two registers and write numbers to them that are often there already, or come back."""
+    def tran():
+        v = rng.choice((0, 40))
+        return rng.choice((write(v, valt(rng.choice((0, 0, 5)))), write(v, jobs.read(v)), addt(jobs.read(0), jobs.read(40)), write(9, jobs.read(v))))
+
+    def several():
+        return joined([atomic(tran()) for _ in range(rng.randint(1, 3))])
+
+    return joined([several(), fork(several()), *(fork(several()) for _ in range(rng.randint(0, 2)))])
+
+
+def returned(tree, picks):
+    """The places of those picks that are sent back with a register whose value is the one that was read."""
+    code, memory, out = whole(tree), begun(tree, []), []
+    for k, i in enumerate(picks):
+        read = list(memory.threads[min(i, 16)].readlog)
+        event, v, *_ = machine.pick(code, memory, i)
+        if event == 10 and read[v] == memory.registers[v]:
+            out.append(k)
+    return out
+
+
+def coming_back():
+    """A tree and picks with such a place, and the places."""
+    while True:
+        tree = resting()
+        picks, _ = schedule(tree, 80)
+        places = returned(tree, picks)
+        if places:
+            return tree, picks, places
+
+
+def counts_of(kind, code, memory):
+    """Changes of this kind, as far as there are such, the last of which matters:
+    `at commits`, `above commits`: a count of the table equal to the COMMITs passed, above them; `lower`: a count of the table lower than it is;
+    `log at table`, `log ahead`: a count of a read log raised to the table's, above it; `log below`: lower than the table's;
+    `below, equal backs`: the same, the send-backs being equal to the COMMITs passed; `value`: another value in table or log, the counts being as they are;
+    `unmarked`, `outside`, `blank`: a count of a read log where its register is unmarked, no transaction is open, there is no such thread."""
+    threads, n = existing(memory), passed(code, memory)
+    i, v = rng.choice(threads), rng.choice((0, 40, rng.randrange(64)))
+    if kind == "at commits" and memory.counts[v] < n:
+        return ["count %d %d" % (v, n)]
+    if kind == "above commits":
+        return ["count %d %d" % (v, rng.choice((n + 1, n + 1, n + 1, n + 2, 2**32 - 1)))]
+    if kind == "lower" and memory.counts[v] > 0:
+        return ["count %d %d" % (v, rng.randrange(memory.counts[v]))]
+    if kind in ("unmarked", "outside", "blank") and n > 0:
+        if kind == "blank":
+            i = rng.choice((len(threads), 15, rng.randrange(len(threads), 16))) if len(threads) < 16 else i
+        thread = memory.threads[i]
+        if kind == ("blank" if not thread.start else "outside" if not thread.begin else "marked" if v in marked(thread) else "unmarked"):
+            changes = [] if memory.counts[v] else ["count %d 1" % v]
+            return changes + ["thread %d readcount %d %d" % (i, v, rng.choice((1, 1, memory.counts[v] or 1)))]
+    thread = memory.threads[i]
+    if not marked(thread):
+        return []
+    v = rng.choice(marked(thread))
+    table, log = memory.counts[v], thread.readcount[v]
+    if kind == "log at table" and log < table:
+        return ["thread %d readcount %d %d" % (i, v, table)]
+    if kind == "log at table" and table < n:
+        return ["count %d %d" % (v, n), "thread %d readcount %d %d" % (i, v, n)]
+    if kind == "log ahead":
+        return ["thread %d readcount %d %d" % (i, v, rng.choice((table + 1, table + 1, table + 1, table + 2, 2**32 - 1)))]
+    if kind == "log below" and log > 0:
+        return ["thread %d readcount %d %d" % (i, v, rng.randrange(log))]
+    if kind == "below, equal backs" and made_stale(memory, i, n):
+        return ["thread %d backs %d" % (i, n), made_stale(memory, i, n)]
+    if kind == "value":
+        value = machine.wrap(thread.readlog[v] + rng.choice((1, -1, 1000)))
+        return [rng.choice(("register %d %d" % (v, value), "thread %d readlog %d %d" % (i, v, value)))]
+    return []
+
+
+def all_counts(memory, code):
+    """Changes of many counts of the table, and of those of the read logs, mostly up to what fits."""
+    n, changes = passed(code, memory), []
+    table = {v: rng.randint(0, n) if rng.random() < 0.97 else n + 1 for v in (0, 40, 63, rng.randrange(64))}
+    changes += ["count %d %d" % item for item in table.items()]
+    for i in existing(memory):
+        for v in marked(memory.threads[i]):
+            most = table.get(v, memory.counts[v])
+            changes.append("thread %d readcount %d %d" % (i, v, rng.choice((most, most, rng.randint(0, most))) if rng.random() < 0.97 else most + 1))
+    return changes
+
+
+def a_count(kind, fit):
+    """A case of a state with such changes, which fits or does not, and without the last one of `counts_of` would fit."""
+    tree, setup, code, memory, changes = a_changed(kind, fit, (busy, contested, resting), all_counts, counts_of)
+    # the thread concerned, or all that have not ended in turns
+    i = int(changes[-1].split()[1]) if changes[-1].startswith("thread") else 16
+    live = [i for i in existing(memory) if memory.threads[i].place != memory.threads[i].end]
+    command = rng.choice(("run", "run", "step"))
+    rest = [i if i < 16 else rng.choice(live or [0])] if command == "step" else [i] * 12 if i in live and kind != "mixed" else live * 5
+    said = state("counts", command, tree, setup, ", ".join(changes), rest)
+    assert (said == "refused 12 at 0 kept") != fit
+    seen["counts"][kind + (" fits" if fit else " foreign")] += 1
+    if fit:
+        for i in rest:
+            thread = memory.threads[i]
+            other = any(thread.readlog[v] != memory.registers[v] for v in marked(thread))
+            event = machine.pick(code, memory, i)[0]
+            seen["counts"]["another value, commit"] += other and event == 9
+            seen["counts"]["the same values, sent back"] += not other and event == 10
+
+
+def tally(tree, picks):
+    """Runs the picks, and holds counts and send-backs to a tally that knows no counts: of each register the picks whose commits wrote it, by the WRITEs
+    done since BEGIN; of each attempt when a register was first read from the table."""
+    code, memory = whole(tree), begun(tree, [])
+    wrote, read, writes = defaultdict(list), defaultdict(dict), defaultdict(set)
+    for k, i in enumerate(picks):
+        thread = memory.threads[min(i, 16)]
+        op, operand = machine.instruction(code, thread.place)[:2] if i < 16 and thread.start and thread.place != thread.end else (0, 0)
+        event, register, *_ = machine.pick(code, memory, i)
+        assert (event == 0) == (op == 0)
+        if op == 3 and operand not in writes[i]:
+            read[i].setdefault(operand, k)
+        elif op == 4:
+            writes[i].add(operand)
+        elif op == 6:
+            stale = [v for v in sorted(read[i]) if any(at > read[i][v] for at in wrote[v])]
+            assert (event, register) == ((10, stale[0]) if stale else (9, 0))
+            for v in () if stale else writes[i]:
+                wrote[v].append(k)
+            read[i], writes[i] = {}, set()
+            seen["tally"]["sent back" if stale else "commits"] += 1
+        assert memory.counts[:64] == [len(wrote[v]) for v in range(64)]
+        for j in existing(memory):
+            assert memory.threads[j].readcount == [sum(at < read[j][v] for at in wrote[v]) if v in read[j] else 0 for v in range(64)]
+    seen["tally"]["runs"] += 1
 
 
 # ---- the cases
@@ -817,7 +976,7 @@ def the_damaged_codes():
     for k in range(66):
         code = damaged_code(rng.choice(("cut", "opcode", "register", "length", "order", "byte", "behind")))
         command = ("fresh", "step", "run")[k % 3]
-        said = state("damaged code", command, code, [], rng.choice(("", "", "records 15", "registers 65")), [0] * rng.choice((1, LONG)) if command == "run" else [0])
+        said = state("damaged code", command, code, [], rng.choice(("", "", "records 15", "registers 65", "counts 63")), [0] * rng.choice((1, LONG)) if command == "run" else [0])
         assert said == "refused 11 at 0 kept"
 
 
@@ -825,7 +984,13 @@ def the_states():
     cases.section("fresh states")
     for k in range(45):
         n = rng.randrange(15)
-        changes = ("", "register %d 5, thread %d reads 1" % (n, n), "records %d" % rng.choice((n, 17)), "registers %d" % rng.choice((n, 63, 65)))[min(3, k % 6)]
+        changes = (
+            "",
+            "register %d 5, count %d 5, thread %d reads 1, thread %d readcount 0 5" % (n, n, n, n),
+            "records %d" % rng.choice((n, 17)),
+            "registers %d" % rng.choice((n, 63, 65)),
+            "counts %d" % rng.choice((n, 63, 65)),
+        )[k % 5]
         said = state("fresh", "fresh", any_tree(), [], changes, [])
         seen["fresh"][said.split(",")[0]] += 1
     cases.section("one step")
@@ -851,10 +1016,10 @@ def the_states():
     cases.section("one field altered: states that do not fit")
     for field in FIELDS:
         if field not in ("over", "rule", "backs"):  # in the_overs and the_rules
-            for _ in range(26):
+            for _ in range(23):
                 one_field(False, field)
     cases.section("one field altered: states that fit")
-    for field in ("cell", "readlog", "writelog", "reads", "writes", "place"):
+    for field in ("cell", "readlog", "readcount", "writelog", "count", "reads", "writes", "place"):
         for _ in range(10):
             one_field(True, field)
     cases.section("a foreign state comes before a long list")
@@ -934,7 +1099,7 @@ def the_inputs():
 
 def the_large():
     cases.section("large jobs")
-    for most in (70, 90, 150, 300, 500, 1000):
+    for most in (70, 90, 150, 1000):
         tree = large(most)
         data, code = job(tree), whole(tree)
         picks, _ = schedule(tree, 4 * most)
@@ -951,7 +1116,7 @@ def the_forecasts():
     cases.section("forecasts")
     for k in range(300):
         a_forecast(job((small, busy, any_tree, many)[k % 4 if k % 20 else 3]()))
-    for most in (70, 150, 500, 1000):
+    for most in (70, 150, 300, 1000):
         a_forecast(job(large(most)))
     cases.section("forecasts of jobs that are turned down")
     for number in JOB_DAMAGE:
@@ -1065,8 +1230,9 @@ def the_rules():
     cases.section("the whole case in five calls: a COMMIT of an earlier call, a send-back in another one than the commit")
     calls("backs", jobs.WHOLE, [], [[0, 0, 0, 1, 1], [2] * 6, [1, 1, 1], [1], [1] * 6])
     assert cases.answers[-1].partition(": ")[2].startswith(
-        "steps 5 idle 0 commits 0 back 0 over 0 | steps 6 idle 0 commits 1 back 0 over 0 | steps 3 idle 0 commits 0 back 0 over 0 | steps 1 idle 0 commits 0 back 1 over 0 | "
-        "steps 6 idle 0 commits 1 back 0 over 0, thread 0 done 0 rule 2 backs 0, thread 1 done 2 rule 9 backs 1, thread 2 done 1 rule 9 backs 0, register 0 2, sum "
+        "steps 5 idle 0 commits 0 back 0 over 0 | steps 6 idle 0 commits 1 back 0 over 0, count 0 1 | steps 3 idle 0 commits 0 back 0 over 0, count 0 1 | "
+        "steps 1 idle 0 commits 0 back 1 over 0, count 0 1 | steps 6 idle 0 commits 1 back 0 over 0, count 0 2, "
+        "thread 0 done 0 rule 2 backs 0, thread 1 done 2 rule 9 backs 1, thread 2 done 1 rule 9 backs 0, register 0 2, count 0 2, sum "
     )
     cases.section("one step of a thread that was sent back before")
     for event in range(11):
@@ -1106,6 +1272,62 @@ def the_rules():
         a_backs("mixed", False)
 
 
+def the_counts():
+    cases.section("A-B-A and the same value in several calls")
+    calls("counts", machine.A_B_A, [], [[0, 0, 1, 1], [2] * 8, [1, 1], [1] * 4 + [2, 0]])
+    assert cases.answers[-1].partition(": ")[2].startswith(
+        "steps 4 idle 0 commits 0 back 0 over 0 | steps 8 idle 0 commits 2 back 0 over 0, count 0 2 | steps 2 idle 0 commits 0 back 1 over 0, count 0 2 | "
+        "steps 6 idle 0 commits 1 back 0 over 0, count 0 2, count 1 1, "
+        "thread 0 done 0 rule 2 backs 0, thread 1 done 0 rule 9 backs 1, thread 2 done 5 rule 2 backs 0, count 0 2, count 1 1, sum "
+    )
+    calls("counts", machine.SAME, [], [[0, 0, 1, 1], [2] * 4, [1, 1], [1] * 4 + [0]])
+    assert " | steps 2 idle 0 commits 0 back 1 over 0, count 0 1 | steps 5 idle 0 commits 1 back 0 over 0, count 0 1, count 1 1, " in cases.answers[-1]
+    cases.section("one step: sent back with the value that was read")
+    for _ in range(16):
+        tree, picks, places = coming_back()
+        k = rng.choice(places)
+        said = state("counts", "step", tree, picks[:k], "", picks[k : k + 1])
+        assert said.startswith("event 10 ")
+        seen["counts"]["came back in a step"] += 1
+    cases.section("runs in one call and in several with such a send-back")
+    for k in range(36):
+        tree, picks, places = coming_back()
+        if k % 6 == 0:
+            state("counts", "cut", tree, [], "", picks[:25])
+            continue
+        cuts = sorted(rng.randint(0, len(picks)) for _ in range(rng.choice((0, 1, 2, 3))))
+        calls("counts", tree, [], [picks[a:b] for a, b in zip([0] + cuts, cuts + [len(picks)])])
+        seen["counts"]["came back in calls"] += 1
+    cases.section("other counts: states that do not fit")
+    for kind in ("above commits", "lower", "log ahead", "below, equal backs", "unmarked", "outside", "blank"):
+        for _ in range(10):
+            a_count(kind, False)
+    cases.section("other counts: states that fit")
+    for kind in ("at commits", "lower", "log at table", "log below", "value"):
+        for _ in range(10):
+            a_count(kind, True)
+    cases.section("many other counts")
+    for _ in range(15):
+        a_count("mixed", True)
+        a_count("mixed", False)
+    cases.section("inputs of the run program with such a send-back")
+    report("A-B-A", an_input(job(machine.A_B_A), [0, 0, 1, 1] + [2] * 8 + [1, 1]))
+    assert cases.answers[-1].endswith(": prints steps 14 idle 0 commits 2 back 1 over 0 / thread 0 open / thread 1 open / thread 2 open / kept")
+    report("same value", an_input(job(machine.SAME), [0, 0, 1, 1, 2, 2, 2, 2, 1, 1]))
+    assert cases.answers[-1].endswith(": prints steps 10 idle 0 commits 1 back 1 over 0 / thread 0 open / thread 1 open / thread 2 done 0 / kept")
+    for _ in range(10):
+        tree, picks, _ = coming_back()
+        report("came back", an_input(job(tree), picks))
+
+
+def the_tally():
+    for k in range(600):
+        tree = (busy, contested, resting, any_tree)[k % 4]()
+        picks, _ = schedule(tree, 120)
+        tally(tree, picks)
+        seen["tally"]["sent back, the value the same"] += len(returned(tree, picks))
+
+
 def check():
     """All that the cases are to have."""
     for kind in ("job", "damaged job", "code", "damaged code", "in calls", "foreign state", "input", "forecast"):
@@ -1138,6 +1360,12 @@ def check():
     for name in ("several threads", "a thread twice"):
         assert seen["backs in calls"][name] >= 3, (name, seen["backs in calls"])
     assert kinds["backs"] + kinds["rule"] >= 180
+    for kind in ("above commits foreign", "lower foreign", "log ahead foreign", "below, equal backs foreign", "unmarked foreign", "outside foreign",
+                 "blank foreign", "at commits fits", "lower fits", "log at table fits", "log below fits", "value fits", "mixed fits", "mixed foreign",
+                 "came back in a step", "came back in calls", "another value, commit", "the same values, sent back"):
+        assert seen["counts"][kind] >= 5, (kind, seen["counts"])
+    for name, least in (("runs", 500), ("commits", 1000), ("sent back", 150), ("sent back, the value the same", 30)):
+        assert seen["tally"][name] >= least, (name, seen["tally"])
     for name in ("short", "longer", "steps", "idle", "commits", "back", "over", "thread open", "thread negative", "thread least", "thread of two digits",
                  "register negative", "register least", "register of two digits", *("refused %d" % n for n in (1, 2, 3, 4, 5, 6, 7, 8, 9, 13, 14))):
         assert seen["report"][name] >= 1, (name, seen["report"])
@@ -1150,7 +1378,7 @@ def main(seed=SEED, folder=HERE):
         cases.lines += stated.cases.lines + [""]
         cases.answers += stated.cases.answers
     cases.lines.append("# Random cases of every call.")
-    for part in (the_jobs, the_damaged_jobs, the_codes, the_damaged_codes, the_states, the_calls, the_inputs, the_large, the_forecasts, the_overs, the_long, the_rules):
+    for part in (the_jobs, the_damaged_jobs, the_codes, the_damaged_codes, the_states, the_calls, the_inputs, the_large, the_forecasts, the_overs, the_long, the_rules, the_counts, the_tally):
         part()
     check()
     cases.save(folder, ROOM)

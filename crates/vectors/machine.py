@@ -13,7 +13,10 @@ from jobs import addp, addt, atomic, chain, fork, job, job_of, nodes, read, valp
 # ---- the machine
 
 SCALARS = ("start", "end", "place", "height", "begin", "base", "over", "reads", "writes", "rule", "backs")
-ARRAYS = ("cell", "readlog", "writelog")
+ARRAYS = ("cell", "readlog", "readcount", "writelog")
+
+
+SIZES = (64, 64, 16)  # registers, counts and records of a state
 
 
 class Record:
@@ -33,16 +36,22 @@ class Record:
 
 
 class Memory:
-    """65 registers and 17 records, of which the first so many are lent."""
+    """65 registers, 65 counts, which say how often commits have written a register, and 17 records; of each the first so many are lent."""
 
     def __init__(self):
         self.registers = [-7] * 65
+        self.counts = [7] * 65
         self.threads = [Record(7) for _ in range(17)]
         self.lent_registers = 64
+        self.lent_counts = 64
         self.lent_records = 16
 
+    def lent(self):
+        """Of how many registers, counts and records the state is."""
+        return self.lent_registers, self.lent_counts, self.lent_records
+
     def numbers(self):
-        out = list(self.registers)
+        out = self.registers + self.counts
         for record in self.threads:
             out += record.numbers()
         return out
@@ -95,13 +104,13 @@ def walk(code, start, end):
         at = behind
 
 
-def is_stale(record, v, registers):
-    """Whether the register is in the read log with another value than the table's."""
-    return record.reads >> v & 1 == 1 and record.readlog[v] != registers[v]
+def is_stale(record, v, counts):
+    """Whether a commit wrote the register after it entered the read log: it is there with another count than the table's."""
+    return record.reads >> v & 1 == 1 and record.readcount[v] != counts[v]
 
 
-def has_stale(record, registers):
-    return any(is_stale(record, v, registers) for v in range(64))
+def has_stale(record, counts):
+    return any(is_stale(record, v, counts) for v in range(64))
 
 
 def commits_passed(code, threads):
@@ -110,7 +119,7 @@ def commits_passed(code, threads):
 
 
 def fits(code, memory):
-    if memory.lent_records != 16 or memory.lent_registers != 64:
+    if memory.lent() != SIZES:
         return False
     records = memory.threads[:16]
     count = sum(record.start != 0 for record in records)
@@ -139,20 +148,24 @@ def fits(code, memory):
         if record.height != height or any(record.cell[height:]):
             return False
         if note is None:
-            if record.begin or record.base or record.over or record.reads or record.writes or any(record.readlog) or any(record.writelog):
+            if record.begin or record.base or record.over or record.reads or record.writes:
                 return False
         elif (record.begin, record.base) != note[:2] or record.over > note[2]:
             return False
         for v in range(64):
-            if not record.reads >> v & 1 and record.readlog[v]:
+            if not record.reads >> v & 1 and (record.readlog[v] or record.readcount[v]):
                 return False
             if not record.writes >> v & 1 and record.writelog[v]:
                 return False
     if sorted(asked) != sorted((record.start, record.end) for record in threads[1:]):
         return False
     commits = commits_passed(code, threads)
+    if any(n > commits for n in memory.counts[:64]):
+        return False
     for record in threads:
-        if record.backs > commits or record.backs == commits and has_stale(record, memory.registers):
+        if any(record.readcount[v] > memory.counts[v] for v in range(64)):
+            return False
+        if record.backs > commits or record.backs == commits and has_stale(record, memory.counts):
             return False
     return True
 
@@ -161,6 +174,7 @@ def close(record):
     """Logs and notes emptied."""
     record.begin = record.base = record.over = record.reads = record.writes = 0
     record.readlog = [0] * 64
+    record.readcount = [0] * 64
     record.writelog = [0] * 64
 
 
@@ -211,6 +225,7 @@ def act(code, memory, i):
             value, event = memory.registers[operand], 7
             t.reads |= 1 << operand
             t.readlog[operand] = value
+            t.readcount[operand] = memory.counts[operand]
         push(value)
         t.place = behind
         return event, 0, 0, 0
@@ -227,7 +242,7 @@ def act(code, memory, i):
         return 4, 0, 0, 0
     if op == 6:
         for v in range(64):
-            if is_stale(t, v, memory.registers):
+            if is_stale(t, v, memory.counts):
                 t.place, t.height = t.begin, t.base
                 t.cell[t.height :] = [0] * (64 - t.height)
                 close(t)
@@ -235,6 +250,7 @@ def act(code, memory, i):
         for v in range(64):
             if t.writes >> v & 1:
                 memory.registers[v] = t.writelog[v]
+                memory.counts[v] += 1
         over = t.over
         close(t)
         t.place = behind
@@ -252,7 +268,7 @@ def refusal(code, memory, picks, fresh=False):
     if job_of(bytes(code)) is None:
         return 11
     if fresh:
-        return 0 if (memory.lent_registers, memory.lent_records) == (64, 16) else 12
+        return 0 if memory.lent() == SIZES else 12
     if not fits(code, memory):
         return 12
     return 13 if len(picks) > 32768 else 0
@@ -262,6 +278,7 @@ def call_fresh(code, memory):
     number = refusal(code, memory, [], True)
     if number == 0:
         memory.registers[:64] = [0] * 64
+        memory.counts[:64] = [0] * 64
         memory.threads[:16] = [Record() for _ in range(16)]
         root = memory.threads[0]
         root.start = root.place = 5
@@ -286,6 +303,7 @@ def counts(events):
 COUNTS = "steps %d idle %d commits %d back %d over %d"
 EVENT = "event %d register %d turn %d over %d"
 RULE = " rule %d backs %d"
+COUNT = ", count %d %d"
 
 
 def checksum(memory):
@@ -304,7 +322,11 @@ def show_state(memory):
     for v, n in enumerate(memory.registers[:64]):
         if n:
             out += ", register %d %d" % (v, n)
-    return out
+    return out + show_counts(memory)
+
+
+def show_counts(memory):
+    return "".join(COUNT % (v, n) for v, n in enumerate(memory.counts[:64]) if n)
 
 
 def listed(picks):
@@ -322,10 +344,14 @@ def change(code, memory, text):
         memory.lent_records = int(words[1])
     elif words[0] == "registers":
         memory.lent_registers = int(words[1])
+    elif words[0] == "counts":
+        memory.lent_counts = int(words[1])
     elif words[0] == "code":
         code[int(words[1])] = int(words[2])
     elif words[0] == "register":
         memory.registers[int(words[1])] = int(words[2])
+    elif words[0] == "count":
+        memory.counts[int(words[1])] = int(words[2])
     elif words[2] in SCALARS:
         setattr(memory.threads[int(words[1])], words[2], int(words[3]))
     else:
@@ -379,16 +405,18 @@ def given(what, setup, changes, picks):
     return code, "%s; %s; %s; %s" % (text, setup, changes, picks)
 
 
-def case(label, what, setup="", changes="", picks="", says=None):
-    """A call on a tree's code, or on code. `says` is the answer stated by hand, the checksum left out, and each thread's rule and send-backs
-    if it has none."""
+def case(label, what, setup="", changes="", picks="", says=None, written=None):
+    """A call on a tree's code, or on code. `says` is the answer stated by hand, the checksum and the table's counts left out, and each thread's
+    rule and send-backs if it has none; `written` has these counts by register, those that are not 0."""
     code, text = given(what, setup, changes, picks)
-    said, _ = answer(label.split()[0], code, setup, changes, picks)
+    said, memory = answer(label.split()[0], code, setup, changes, picks)
     if says is not None:
-        stated = said.partition(", sum ")[0]
+        stated = re.sub(COUNT.replace("%d", "[0-9]+"), "", said.partition(", sum ")[0])
         if " rule " not in says:
             stated = re.sub(RULE.replace("%d", "[0-9]+"), "", stated)
         assert stated == says, (label, said, says)
+    if written is not None:
+        assert show_counts(memory) == "".join(COUNT % item for item in sorted(written.items())), (label, said, written)
     line(label, text, said)
 
 
@@ -417,8 +445,11 @@ WIDE = jobs.balanced(addp, fork(valp(2)), 15)
 # four threads each add 1 to register 0; all read it before one commits
 BUSY = addp(STEP, addp(STEP, addp(STEP, atomic(write(0, addt(read(0), valt(1)))))))
 BUSY_PICKS = "0*3 " + 5 * "0 1 2 3 " + "1 0 2 3 " + 5 * "0 2 3 " + "2 0 3 " + 5 * "0 3 " + "3 0 200 0*9"
+A_B_A = addp(fork(atomic(write(1, read(0)))), fork(addp(atomic(write(0, valt(5))), atomic(write(0, valt(0))))))
+SAME = addp(fork(atomic(write(1, read(0)))), fork(atomic(write(0, valt(0)))))
 BIT_63 = str(2**63)
 EVERY = str(2**64 - 1)
+MOST = str(2**32 - 1)  # the greatest count
 
 
 def last(n):
@@ -433,7 +464,7 @@ def after(tree):
 def the_whole_case():
     section("document 01's whole case and the cases of its bench that run")
     end = ("thread 0 done 0", "thread 1 done 2", "thread 2 done 1", "register 0 2")
-    case("run the whole case", WHOLE, picks=PICKS, says=ran(21, 0, 2, 1, *end))
+    case("run the whole case", WHOLE, picks=PICKS, says=ran(21, 0, 2, 1, *end), written={0: 2})
     case("run one PUSH", SEVEN, picks="0", says=ran(1, 0, 0, 0, "thread 0 done 7"))
     case("run one PUSH picked three times", SEVEN, picks="0*3", says=ran(1, 2, 0, 0, "thread 0 done 7"))
     case("run below the least number", LOW, picks="0*3", says=ran(3, 0, 0, 0, "thread 0 done 2147483647", over=1))
@@ -447,20 +478,23 @@ def the_whole_case():
 
 
 def fresh_states():
-    section("fresh: laid over memory of -7 and 7, of which register 64 and record 16 stay")
-    case("fresh one PUSH", SEVEN, says="laid, thread 0 open")
-    case("fresh the whole case", WHOLE, says="laid, thread 0 open")
-    case("fresh over another memory", SEVEN, changes="register 0 5, thread 3 cell 9 -1, thread 15 reads " + EVERY, says="laid, thread 0 open")
+    section("fresh: laid over memory of -7 and 7, of which register 64, count 64 and record 16 stay")
+    case("fresh one PUSH", SEVEN, says="laid, thread 0 open", written={})
+    case("fresh the whole case", WHOLE, says="laid, thread 0 open", written={})
+    case("fresh over another memory", SEVEN, changes="register 0 5, thread 3 cell 9 -1, thread 15 reads " + EVERY, says="laid, thread 0 open", written={})
+    case("fresh over other counts", SEVEN, changes="count 0 1, count 63 %s, count 64 9, thread 0 readcount 0 %s, thread 15 readcount 63 1" % (MOST, MOST), says="laid, thread 0 open", written={})
     section("fresh: 11, then 12")
     for n in (15, 17, 0):
         case("fresh %d records" % n, SEVEN, changes="records %d" % n, says="refused 12 at 0 kept")
     for n in (63, 65, 0):
         case("fresh %d registers" % n, SEVEN, changes="registers %d" % n, says="refused 12 at 0 kept")
+        case("fresh %d counts" % n, SEVEN, changes="counts %d" % n, says="refused 12 at 0 kept")
     case("fresh foreign code", b"", says="refused 11 at 0 kept")
     case("fresh foreign code, a job", job(SEVEN), says="refused 11 at 0 kept")
     case("fresh foreign code and 15 records", b"", changes="records 15", says="refused 11 at 0 kept")
     case("fresh foreign code and 65 registers", SEVEN, changes="code 5 9, registers 65", says="refused 11 at 0 kept")
-    case("fresh foreign code and no memory", SEVEN, changes="code 4 2, registers 0, records 0", says="refused 11 at 0 kept")
+    case("fresh foreign code and 63 counts", SEVEN, changes="code 5 9, counts 63", says="refused 11 at 0 kept")
+    case("fresh foreign code and no memory", SEVEN, changes="code 4 2, registers 0, counts 0, records 0", says="refused 11 at 0 kept")
 
 
 def the_order():
@@ -473,6 +507,8 @@ def the_order():
     case("run foreign code, changed state", SEVEN, changes="code 0 0, thread 0 height 1", picks="0", says="refused 11 at 0 kept")
     case("run foreign code, 15 records", SEVEN, changes="code 0 0, records 15", picks="0", says="refused 11 at 0 kept")
     case("run foreign state, long list", SEVEN, changes="thread 0 start 6", picks=long, says="refused 12 at 0 kept")
+    case("run foreign code, 65 counts", SEVEN, changes="code 0 0, counts 65", picks="0", says="refused 11 at 0 kept")
+    case("run 63 counts, long list", SEVEN, changes="counts 63", picks=long, says="refused 12 at 0 kept")
     case("run 15 records, long list", SEVEN, changes="records 15", picks=long, says="refused 12 at 0 kept")
     case("run foreign state", SEVEN, changes="thread 0 start 6", picks="0", says="refused 12 at 0 kept")
     case("run foreign state, no picks", SEVEN, changes="thread 0 start 6", says="refused 12 at 0 kept")
@@ -491,6 +527,7 @@ def the_order():
             case("%s %d records" % (command, n), SEVEN, changes="records %d" % n, picks="0", says="refused 12 at 0 kept")
         for n in (63, 65, 0):
             case("%s %d registers" % (command, n), SEVEN, changes="registers %d" % n, picks="0", says="refused 12 at 0 kept")
+            case("%s %d counts" % (command, n), SEVEN, changes="counts %d" % n, picks="0", says="refused 12 at 0 kept")
     section("code of another job that the state fits")
     case("run another number", SEVEN, changes="code 9 8", picks="0", says=ran(1, 0, 0, 0, "thread 0 done 8"))
     case("run another register", TWICE, "0*2", "code 9 4", "0*3", says=ran(3, 0, 1, 0, "thread 0 done 0"))
@@ -514,28 +551,41 @@ def the_events():
     case("step 6 read, read before", TWICE, "0*2", picks="0", says=stepped(6, 0, 0, "thread 0 open"))
     case("step 7 read, the table's", WHOLE, "0*2 1", picks="1", says=stepped(7, 0, 0, "thread 0 open", "thread 1 open", "thread 2 open"))
     case("step 8 write", WHOLE, "0*2 1*4", picks="1", says=stepped(8, 0, 0, "thread 0 open", "thread 1 open", "thread 2 open"))
-    case("step 9 commit", WHOLE, "0*2 1*5", picks="1", says=stepped(9, 0, 1, "thread 0 open", "thread 1 done 1", "thread 2 open", "register 0 1"))
-    case("step 9 commit, an empty write log", TWICE, "0*4", picks="0", says=stepped(9, 0, 1, "thread 0 done 0"))
+    case("step 9 commit", WHOLE, "0*2 1*5", picks="1", says=stepped(9, 0, 1, "thread 0 open", "thread 1 done 1", "thread 2 open", "register 0 1"), written={0: 1})
+    case("step 9 commit, an empty write log", TWICE, "0*4", picks="0", says=stepped(9, 0, 1, "thread 0 done 0"), written={})
     case("step 10 sent back", WHOLE, "0*3 1*2 2*6 1*3", picks="1", says=stepped(10, 0, 0, "thread 0 done 0", "thread 1 open", "thread 2 done 1", "register 0 1"))
     section("READ: the write log, then the read log, then the table")
     values = ("register 0 9", "thread 0 reads 1, thread 0 readlog 0 7", "thread 0 writes 1, thread 0 writelog 0 5")
+    risen = "count 0 1"
     case("step 7 of three values", LOOK, "0", values[0], "0", says=stepped(7, 0, 0, "thread 0 open", "register 0 9"))
-    case("step 6 of three values", after(LOOK), "0*4", ", ".join(values[:2]), "0", says=stepped(6, 0, 0, "thread 0 open", "register 0 9"))
-    case("step 5 of three values", after(LOOK), "0*4", ", ".join(values), "0", says=stepped(5, 0, 0, "thread 0 open", "register 0 9"))
+    case("step 6 of three values", LOOK, "0", ", ".join(values[:2]), "0", says=stepped(6, 0, 0, "thread 0 open", "register 0 9"))
+    case("step 6 of three values, the count risen", after(LOOK), "0*4", ", ".join((*values[:2], risen)), "0", says=stepped(6, 0, 0, "thread 0 open", "register 0 9"))
+    case("step 5 of three values", LOOK, "0", ", ".join(values), "0", says=stepped(5, 0, 0, "thread 0 open", "register 0 9"))
+    case("step 5 of three values, the count risen", after(LOOK), "0*4", ", ".join((*values, risen)), "0", says=stepped(5, 0, 0, "thread 0 open", "register 0 9"))
     case("step 5 of two values", LOOK, "0", values[0] + ", " + values[2], "0", says=stepped(5, 0, 0, "thread 0 open", "register 0 9"))
-    case("run three values to the end", after(LOOK), "0*4", ", ".join(values), "0*2", says=ran(2, 0, 0, 1, "thread 0 open", "register 0 9"))
-    case("run two values to the end", LOOK, "0", values[0] + ", " + values[2], "0*2", says=ran(2, 0, 1, 0, "thread 0 done 5", "register 0 5"))
-    case("run all registers marked", LOOK, "0", "thread 0 writes %s, thread 0 writelog 0 5, thread 0 writelog 63 -6" % EVERY, "0*2", says=ran(2, 0, 1, 0, "thread 0 done 5", "register 0 5", "register 63 -6"))
-    case("step 9 own write, the register changed since", OWN, "0*5", "register 0 99", "0", says=stepped(9, 0, 1, "thread 0 done 10", "register 0 5"))
-    case("step 10 read and written, the register changed since", WHOLE, "0*2 2*6 1*5", "register 0 99", "1", says=stepped(10, 0, 0, "thread 0 open", "thread 1 open", "thread 2 done 1", "register 0 99"))
-    case("run read before the change, written after it", WHOLE, "0*2 2*6 1*2", "register 0 99", "1*4", says=ran(4, 0, 0, 1, "thread 0 open", "thread 1 open", "thread 2 done 1", "register 0 99"))
+    case("run three values to the end", LOOK, "0", ", ".join(values), "0*2", says=ran(2, 0, 1, 0, "thread 0 done 5", "register 0 5"), written={0: 1})
+    case("run three values to the end, the count risen", after(LOOK), "0*4", ", ".join((*values, risen)), "0*2", says=ran(2, 0, 0, 1, "thread 0 open", "register 0 9"), written={0: 1})
+    case("run two values to the end", LOOK, "0", values[0] + ", " + values[2], "0*2", says=ran(2, 0, 1, 0, "thread 0 done 5", "register 0 5"), written={0: 1})
+    every = "thread 0 writes %s, thread 0 writelog 0 5, thread 0 writelog 63 -6" % EVERY
+    case("run all registers marked", LOOK, "0", every, "0*2", says=ran(2, 0, 1, 0, "thread 0 done 5", "register 0 5", "register 63 -6"), written={v: 1 for v in range(64)})
+    case("step 9 own write, the register changed since", OWN, "0*5", "register 0 99", "0", says=stepped(9, 0, 1, "thread 0 done 10", "register 0 5"), written={0: 1})
+    case("step 9 own write, the register written since", after(OWN), "0*8", "register 0 99, " + risen, "0", says=stepped(9, 0, 1, "thread 0 open", "register 0 5"), written={0: 2})
+    behind = ("thread 0 open", "thread 1 open", "thread 2 done 1", "register 0 99")
+    below = "register 0 99, thread 1 readcount 0 0"
+    case("step 10 read and written, the register written since", WHOLE, "0*2 2*6 1*5", below, "1", says=stepped(10, 0, 0, *behind), written={0: 1})
+    case("run read before the change, written after it", WHOLE, "0*2 2*6 1*2", below, "1*4", says=ran(4, 0, 0, 1, *behind), written={0: 1})
+    case("step 9 read and written, another value with the same count", WHOLE, "0*2 2*6 1*5", "register 0 99", "1", says=stepped(9, 0, 1, "thread 0 open", "thread 1 done 2", "thread 2 done 1", "register 0 2"), written={0: 2})
     section("COMMIT: the first stale register")
-    case("step 10 the lowest of two", STALE, "0*5 1*5", picks="0", says=stepped(10, 1, 0, "thread 0 open", "thread 1 done 1", "register 1 1", "register 2 1"))
-    case("step 10 register 63", last(1), "0*3 1*4", picks="0", says=stepped(10, 63, 0, "thread 0 open", "thread 1 done 1", "register 63 1"))
-    case("step 9 the same value written", last(0), "0*3 1*4", picks="0", says=stepped(9, 0, 1, "thread 0 open", "thread 1 done 0"))
-    case("step 9 written and set back", last(1), "0*3 1*4", "register 63 0", "0", says=stepped(9, 0, 1, "thread 0 open", "thread 1 done 1"))
-    case("step 10 a marked register never named", after(LOOK), "0*5", "thread 0 reads %d, thread 0 readlog 5 1" % (2**5 + 1), "0", says=stepped(10, 5, 0, "thread 0 open"))
-    case("step 10 sent back, a write log dropped", after(OWN), "0*8", "thread 0 reads 2, thread 0 readlog 1 4", "0", says=stepped(10, 1, 0, "thread 0 open"))
+    case("step 10 the lowest of two", STALE, "0*5 1*5", picks="0", says=stepped(10, 1, 0, "thread 0 open", "thread 1 done 1", "register 1 1", "register 2 1"), written={1: 1, 2: 1})
+    case("step 10 register 63", last(1), "0*3 1*4", picks="0", says=stepped(10, 63, 0, "thread 0 open", "thread 1 done 1", "register 63 1"), written={63: 1})
+    case("step 10 the same value written", last(0), "0*3 1*4", picks="0", says=stepped(10, 63, 0, "thread 0 open", "thread 1 done 0"), written={63: 1})
+    case("step 10 written, and the value set back", last(1), "0*3 1*4", "register 63 0", "0", says=stepped(10, 63, 0, "thread 0 open", "thread 1 done 1"))
+    case("step 9 written, and the count set back", last(1), "0*3 1*4", "count 63 0", "0", says=stepped(9, 0, 1, "thread 0 open", "thread 1 done 1", "register 63 1"))
+    case("step 9 the value set, not by a commit", last(1), "0*3", "register 63 1", "0", says=stepped(9, 0, 1, "thread 0 open", "thread 1 open", "register 63 1"), written={})
+    unnamed = "thread 0 reads %d, thread 0 readlog 5 1" % (2**5 + 1)
+    case("step 10 a marked register never named", after(LOOK), "0*5", unnamed + ", count 5 1", "0", says=stepped(10, 5, 0, "thread 0 open"))
+    case("step 9 a marked register never named, its count as it was", after(LOOK), "0*5", unnamed, "0", says=stepped(9, 0, 1, "thread 0 open"))
+    case("step 10 sent back, a write log dropped", after(OWN), "0*8", "thread 0 reads 2, thread 0 readlog 1 4, count 1 1", "0", says=stepped(10, 1, 0, "thread 0 open"), written={1: 1})
     case("step 10 two numbers below", HIGH, "0*4 1*4", picks="0", says=stepped(10, 0, 0, "thread 0 open", "thread 1 done 1", "register 0 1"))
     case("run two numbers below, to the end", HIGH, "0*4 1*4", picks="0*6", says=ran(6, 0, 1, 1, "thread 0 done 6", "thread 1 done 1", "register 0 1"))
 
@@ -559,10 +609,10 @@ def the_sizes():
     case("run a stack of 63 in a transaction", inside, "0", "register 1 -5", "0*126", says=ran(126, 0, 1, 0, "thread 0 done -315", "register 1 -5"))
     one_less = after(atomic(jobs.right_comb(addt, read(1), 62)))
     assert answer("run", whole(one_less), "", "", "0*66")[1].threads[0].height == 63
-    case("run a stack of 63 sent back", one_less, "0*66", "register 1 -5", "0*62", says=ran(62, 0, 0, 1, "thread 0 open", "register 1 -5"))
+    case("run a stack of 63 sent back", one_less, "0*66", "register 1 -5, count 1 1", "0*62", says=ran(62, 0, 0, 1, "thread 0 open", "register 1 -5"))
     comb = atomic(jobs.left_comb(addt, write(7, read(7)), 32))
-    case("run many writes of one register", comb, "0", "register 7 3", "0*200", says=None)
-    case("run 62 WRITEs in each other", atomic(chain(lambda t: write(9, t), 62, valt(4))), picks="0*65", says=ran(65, 0, 1, 0, "thread 0 done 4", "register 9 4"))
+    case("run many writes of one register", comb, "0", "register 7 3", "0*200", says=None, written={7: 1})
+    case("run 62 WRITEs in each other", atomic(chain(lambda t: write(9, t), 62, valt(4))), picks="0*65", says=ran(65, 0, 1, 0, "thread 0 done 4", "register 9 4"), written={9: 1})
 
 
 def the_transactions():
@@ -574,7 +624,7 @@ def the_transactions():
     case("run 200 nodes, register 5 being 3", full, "0", "register 5 3", "0*202", says=ran(201, 1, 1, 0, *end))
     case("run 200 nodes up to COMMIT", full, picks="0*201", says=ran(201, 0, 0, 0, "thread 0 open"))
     case("step 200 nodes, COMMIT", full, "0*201", picks="0", says=stepped(9, 0, 1, "thread 0 done 0"))
-    case("run 200 nodes, sent back once", after(full), "0*204", "register 5 3", "0*204", says=ran(204, 0, 1, 1, *end))
+    case("run 200 nodes, sent back once", after(full), "0*204", "register 5 3, count 5 1", "0*204", says=ran(204, 0, 1, 1, *end))
     other = addp(fork(atomic(write(5, valt(3)))), full)
     case("run 200 nodes, sent back by another thread", other, picks="0*202 1*4 0*204", says=ran(410, 0, 2, 1, end[0], "thread 1 done 3", *end[1:]))
     case("run 200 nodes in a FORK's child", fork(full), picks="0 1*202", says=ran(203, 0, 1, 0, "thread 0 done 0", "thread 1 done 0"))
@@ -650,7 +700,7 @@ def the_overs():
     case("run a lent note and a sum that leaves the range", twice, "0*4", "thread 0 over 1", "0*3", says=ran(3, 0, 1, 0, "thread 0 done -2147483646", over=2))
     case("run a lent note that is left open", twice, "0*4", "thread 0 over 1", "0*2", says=ran(2, 0, 0, 0, "thread 0 open"))
     assert answer("run", whole(twice), "0*4", "thread 0 over 1", "0*2")[1].threads[0].over == 2
-    case("step a lent note that is sent back", after(atomic(addt(read(0), valt(1)))), "0*7", "thread 0 over 1, register 0 3", "0", says=stepped(10, 0, 0, "thread 0 open", "register 0 3"))
+    case("step a lent note that is sent back", after(atomic(addt(read(0), valt(1)))), "0*7", "thread 0 over 1, register 0 3, count 0 1", "0", says=stepped(10, 0, 0, "thread 0 open", "register 0 3"))
     # one ADD behind the BEGIN, others before it
     outside_first = addp(addp(valp(1), valp(2)), SMALL)
     inside_first = addp(SMALL, SMALL)
@@ -723,23 +773,25 @@ def the_rules():
     other = addp(fork(atomic(write(40, write(41, valt(1))))), atomic(addt(read(40), read(41))))
     case("step two stale registers, read the lower one first", other, "0*5 1*5", picks="0", says=stepped(10, 40, 0, record(0, "open", 50, 1), record(1, "done 1", 9), "register 40 1", "register 41 1"))
     case("step register 63 stale", last(1), "0*3 1*4", picks="0", says=stepped(10, 63, 0, record(0, "open", 73, 1), record(1, "done 1", 9), "register 63 1"))
-    section("no COMMIT passed and a stale read: 12")
+    section("no COMMIT passed: a count of 1 is 12, a read of another value is not stale")
     for command, pick in (("run", "0"), ("run", ""), ("step", "0"), ("step", "200")):
-        case("%s a stale read, no COMMIT passed, pick %s" % (command, pick or "none"), LOOK, "0*2", "register 0 3", pick, says="refused 12 at 0 kept")
+        case("%s a stale read, no COMMIT passed, pick %s" % (command, pick or "none"), LOOK, "0*2", "count 0 1", pick, says="refused 12 at 0 kept")
     values = "register 0 9, thread 0 reads 1, thread 0 readlog 0 7"
-    for label, tree, setup, changes, pick in (
-        ("of two values", LOOK, "0", values, "0"),
-        ("of three values", LOOK, "0", values + ", thread 0 writes 1, thread 0 writelog 0 5", "0"),
-        ("read and written", WHOLE, "0*2 1*5", "register 0 99", "1"),
-        ("not written yet", WHOLE, "0*2 1*2", "register 0 99", "1*4"),
-        ("of a register never named", LOOK, "0*2", "thread 0 reads %d, thread 0 readlog 5 1" % (2**5 + 1), "0"),
-        ("beside a write log", OWN, "0*5", "thread 0 reads 2, thread 0 readlog 1 4", "0"),
-        ("of 63", atomic(jobs.right_comb(addt, read(1), 63)), "0*64", "register 1 -5", "0*63"),
-        ("of 100", atomic(jobs.FULL), "0*201", "register 5 3", "0*203"),
-        ("beside a note", atomic(addt(read(0), valt(1))), "0*4", "thread 0 over 1, register 0 3", "0"),
-        ("of a thread that is not picked", WHOLE, "0*2 1*2", "register 0 99", "2"),
+    for label, v, tree, setup, changes, pick in (
+        ("of two values", 0, LOOK, "0", values, "0"),
+        ("of three values", 0, LOOK, "0", values + ", thread 0 writes 1, thread 0 writelog 0 5", "0"),
+        ("read and written", 0, WHOLE, "0*2 1*5", "register 0 99", "1"),
+        ("not written yet", 0, WHOLE, "0*2 1*2", "register 0 99", "1*4"),
+        ("of a register never named", 5, LOOK, "0*2", "thread 0 reads %d, thread 0 readlog 5 1" % (2**5 + 1), "0"),
+        ("beside a write log", 1, OWN, "0*5", "thread 0 reads 2, thread 0 readlog 1 4", "0"),
+        ("of 63", 1, atomic(jobs.right_comb(addt, read(1), 63)), "0*64", "register 1 -5", "0*63"),
+        ("of 100", 5, atomic(jobs.FULL), "0*201", "register 5 3", "0*203"),
+        ("beside a note", 0, atomic(addt(read(0), valt(1))), "0*4", "thread 0 over 1, register 0 3", "0"),
+        ("of a thread that is not picked", 0, WHOLE, "0*2 1*2", "register 0 99", "2"),
     ):
-        case("run a stale read %s, no COMMIT passed" % label, tree, setup, changes, pick, says="refused 12 at 0 kept")
+        case("run a stale read %s, no COMMIT passed" % label, tree, setup, changes + ", count %d 1" % v, pick, says="refused 12 at 0 kept")
+        case("run another value %s, no COMMIT passed" % label, tree, setup, changes, pick)
+        assert " back 0 over " in answers[-1], answers[-1]
     case("run another value in log and table", LOOK, "0*2", "register 0 3, thread 0 readlog 0 3", "0", says=ran(1, 0, 1, 0, record(0, "done 0", 9), "register 0 3"))
     section("lent send-backs: equal to the COMMITs passed, or above; with a stale read below them only")
     look = after(LOOK)  # one COMMIT passed by the thread itself; at its second COMMIT from 0*5 on
@@ -751,7 +803,7 @@ def the_rules():
         (1, True, 12),
         (2, True, 12),
     ):
-        fit("step %d send-backs, one COMMIT passed%s" % (n, ", a stale read" if stale else ""), look, "0*5", "thread 0 backs %d" % n + ", register 0 3" * stale, "0", said)
+        fit("step %d send-backs, one COMMIT passed%s" % (n, ", a stale read" if stale else ""), look, "0*5", "thread 0 backs %d" % n + ", register 0 3, count 0 1" * stale, "0", said)
     for n, said in ((0, stepped(9, 0, 1, record(0, "done 0", 9))), (1, 12)):
         fit("step %d send-backs at the first COMMIT" % n, LOOK, "0*2", "thread 0 backs %d" % n, "0", said)
     for n, said in ((1, stepped(0, 0, 0, record(0, "done 0", 9, 1))), (2, 12)):
@@ -769,16 +821,21 @@ def the_rules():
         ("another thread's stale read", stale, "thread 0 backs 1, thread 2 backs 1", stepped(1, 0, 0, record(0, "done 0", 2, 1), record(1, "open", 1), record(2, "done 1", 9, 1), "register 0 1")),
         ("a read that is not stale, one", ahead, "thread 1 backs 1", stepped(1, 0, 0, ended, record(1, "open", 1, 1), *here)),
         ("a read that is not stale, two", ahead, "thread 1 backs 2", 12),
+        ("a stale read, its value set back, one", stale, "thread 1 backs 1, register 0 0", 12),
+        ("a stale read, its count set back, one", stale, "thread 1 backs 1, count 0 0", stepped(1, 0, 0, ended, record(1, "open", 1, 1), *here)),
+        ("a read of another value, one", ahead, "thread 1 backs 1, register 0 8", stepped(1, 0, 0, ended, record(1, "open", 1, 1), record(2, "done 1", 9), "register 0 8")),
+        ("a log count below the table's, none", ahead, "thread 1 readcount 0 0", stepped(1, 0, 0, ended, record(1, "open", 1), *here)),
+        ("a log count below the table's, one", ahead, "thread 1 readcount 0 0, thread 1 backs 1", 12),
         ("a written register that changed, one", "0*3 2*6 1", "thread 1 backs 1, thread 1 writes 1, thread 1 writelog 0 4, register 0 8", stepped(5, 0, 0, ended, record(1, "open", 5, 1), record(2, "done 1", 9), "register 0 8")),
         ("a fresh read log, one", "0*3 2*6 1", "thread 1 backs 1, register 0 8", stepped(7, 0, 0, ended, record(1, "open", 7, 1), record(2, "done 1", 9), "register 0 8")),
     ):
         fit("step send-backs, " + label, WHOLE, setup, changes, "1", said)
     three = addp(atomic(valt(1)), addp(atomic(valt(2)), addp(atomic(valt(3)), LOOK)))
     for n, said in ((2, stepped(10, 0, 0, record(0, "open", 10, 3), "register 0 4")), (3, 12)):
-        fit("step %d send-backs, three COMMITs passed, a stale read" % n, three, "0*11", "thread 0 backs %d, register 0 4" % n, "0", said)
+        fit("step %d send-backs, three COMMITs passed, a stale read" % n, three, "0*11", "thread 0 backs %d, register 0 4, count 0 1" % n, "0", said)
     for n, said in ((3, stepped(9, 0, 1, record(0, "open", 9, 3))), (4, 12)):
         fit("step %d send-backs, three COMMITs passed" % n, three, "0*11", "thread 0 backs %d" % n, "0", said)
-    case("run a lent number that goes on", three, "0*11", "thread 0 backs 2, register 0 4", "0*4", says=ran(4, 0, 1, 1, record(0, "open", 9, 3), "register 0 4"))
+    case("run a lent number that goes on", three, "0*11", "thread 0 backs 2, register 0 4, count 0 3", "0*4", says=ran(4, 0, 1, 1, record(0, "open", 9, 3), "register 0 4"))
     case("run four threads on one register, their send-backs", BUSY, picks=BUSY_PICKS, says=ran(66, 1, 4, 6, record(0, "done 4", 2, 3), record(1, "done 1", 9), record(2, "done 2", 9, 1), record(3, "done 3", 9, 2), "register 0 4"))
     section("any last rule of a thread fits")
     for rule in ("0", "10", "73", "74", "255", "1000000", EVERY):
@@ -792,10 +849,105 @@ def the_rules():
     case("fresh over rules and send-backs", WHOLE, changes="thread 0 rule 9, thread 0 backs 9, thread 15 rule 255, thread 15 backs " + EVERY, says="laid, " + none)
 
 
+def the_counts():
+    def fit(label, tree, setup, changes, pick, said, written=None):
+        """A step on a state, its answer, or 12."""
+        case(label, tree, setup, changes, pick, says="refused 12 at 0 kept" if said == 12 else said, written=None if said == 12 else written)
+
+    section("a value that went away and came back: thread 1 reads register 0, thread 2 writes 5 and then 0 to it")
+    assert job(A_B_A).hex() == "57534a0001000d02040308010700040203080005000000050308000500000000"
+    gone, here = "0*2 1*2 2*8", ("thread 0 open", "thread 1 open", "thread 2 open")
+    case("run A-B-A", A_B_A, picks=gone + " 1*2", says=ran(14, 0, 2, 1, *here), written={0: 2})
+    case("step A-B-A, the COMMIT of thread 1", A_B_A, gone + " 1", picks="1", says=stepped(10, 0, 0, *here), written={0: 2})
+    case("run A-B-A, only A-B", A_B_A, picks="0*2 1*2 2*4 1*2", says=ran(10, 0, 1, 1, *here, "register 0 5"), written={0: 1})
+    case("run A-B-A, read after it", A_B_A, picks="0*2 2*8 1*4", says=ran(14, 0, 3, 0, "thread 0 open", "thread 1 done 0", "thread 2 open"), written={0: 2, 1: 1})
+    ended = ("thread 0 done 0", "thread 1 done 0", "thread 2 done 5")
+    case("run A-B-A to the end", A_B_A, picks=gone + " 1*6 2 0", says=ran(20, 0, 3, 1, *ended), written={0: 2, 1: 1})
+    case("run A-B-A to the end, from the send-back", A_B_A, gone + " 1*2", picks="1*4 2 0", says=ran(6, 0, 1, 0, *ended), written={0: 2, 1: 1})
+    case("cut A-B-A", A_B_A, picks=gone + " 1*6 2 0", says="same")
+    section("the same value: thread 1 reads register 0, thread 2 writes the 0 to it that is there")
+    assert job(SAME).hex() == "57534a0001000902040308010700040308000500000000"
+    here = ("thread 0 open", "thread 1 open", "thread 2 done 0")
+    case("run the same value", SAME, picks="0*2 1*2 2*4 1*2", says=ran(10, 0, 1, 1, *here), written={0: 1})
+    case("step the same value, the COMMIT of thread 1", SAME, "0*2 1*2 2*4 1", picks="1", says=stepped(10, 0, 0, *here), written={0: 1})
+    case("run the same value, read after it", SAME, picks="0*2 2*4 1*4", says=ran(10, 0, 2, 0, "thread 0 open", "thread 1 done 0", "thread 2 done 0"), written={0: 1, 1: 1})
+    case("run the same value to the end", SAME, picks="0*2 1*2 2*4 1*6 0", says=ran(15, 0, 2, 1, "thread 0 done 0", "thread 1 done 0", "thread 2 done 0"), written={0: 1, 1: 1})
+    case("cut the same value", SAME, picks="0*2 1*2 2*4 1*6 0", says="same")
+    own = addp(addp(LOOK, atomic(write(0, valt(0)))), LOOK)
+    case("run the same value, the thread's own commit between two transactions", own, picks="0*12", says=ran(12, 0, 3, 0, "thread 0 done 0"), written={0: 1})
+    section("each commit counts once in each register of its write log")
+    case("run two WRITEs of one register, in each other", atomic(write(0, write(0, valt(5)))), picks="0*5", says=ran(5, 0, 1, 0, "thread 0 done 5", "register 0 5"), written={0: 1})
+    case("run two WRITEs of one register, side by side", atomic(addt(write(0, valt(5)), write(0, valt(6)))), picks="0*7", says=ran(7, 0, 1, 0, "thread 0 done 11", "register 0 6"), written={0: 1})
+    case("run WRITEs of two registers", atomic(write(63, write(0, valt(5)))), picks="0*5", says=ran(5, 0, 1, 0, "thread 0 done 5", "register 0 5", "register 63 5"), written={0: 1, 63: 1})
+    case("run two transactions", addp(OWN, OWN), picks="0*13", says=ran(13, 0, 2, 0, "thread 0 done 20", "register 0 5"), written={0: 2})
+    case("run a WRITE up to COMMIT", OWN, picks="0*5", says=ran(5, 0, 0, 0, "thread 0 open"), written={})
+    case("run an empty write log", TWICE, picks="0*5", says=ran(5, 0, 1, 0, "thread 0 done 0"), written={})
+    case("run an empty write log behind a commit", addp(OWN, LOOK), picks="0*9", says=ran(9, 0, 2, 0, "thread 0 open", "register 0 5"), written={0: 1})
+    case("run a WRITE of an attempt that is sent back", WHOLE, picks="0*3 1*2 2*6 1*4", says=ran(15, 0, 1, 1, "thread 0 done 0", "thread 1 open", "thread 2 done 1", "register 0 1"), written={0: 1})
+    case("run a WRITE beside a lent write log", after(OWN), "0*8", "thread 0 writes %d, thread 0 writelog 63 7" % (2**63 + 1), "0", says=ran(1, 0, 1, 0, "thread 0 open", "register 0 5", "register 63 7"), written={0: 1, 63: 1})
+    section("the logged count: the table's when the register was read")
+    for label, tree, setup, count in (("before a commit", WHOLE, "0*2 1*2", 0), ("behind a commit", WHOLE, "0*2 2*6 1*2", 1), ("behind two", addp(addp(OWN, OWN), LOOK), "0*15", 2)):
+        memory = answer("run", whole(tree), setup, "", "")[1]
+        assert sum(memory.threads[i].readcount[0] for i in range(16)) == memory.counts[0] == count
+        case("run a READ %s" % label, tree, setup, written={0: count} if count else {})
+    case("run a READ of a lent count", after(LOOK), "0*4", "count 0 1", "0*2", says=ran(2, 0, 1, 0, "thread 0 open"), written={0: 1})
+    case("run a READ from the read log, a lent count", after(TWICE), "0*5", "count 3 1", "0*3", says=ran(3, 0, 0, 1, "thread 0 open"), written={3: 1})
+    section("a lent log value with the table's count fits, and its COMMIT takes effect")
+    marked = "thread 0 reads 1, thread 0 readlog 0 7"
+    case("run a lent log value 7, the table having 0", LOOK, "0", marked, "0*2", says=ran(2, 0, 1, 0, "thread 0 done 7"), written={})
+    case("step a lent log value 7, at COMMIT", LOOK, "0*2", "thread 0 readlog 0 7", "0", says=stepped(9, 0, 1, "thread 0 done 0"), written={})
+    case("run a lent log value 7, both counts 1", after(LOOK), "0*4", marked + ", count 0 1, thread 0 readcount 0 1", "0*3", says=ran(3, 0, 1, 0, "thread 0 done 7"), written={0: 1})
+    case("run a lent log value 7, the table's count 1", after(LOOK), "0*4", marked + ", count 0 1", "0*3", says=ran(3, 0, 0, 1, "thread 0 open"), written={0: 1})
+    section("no COMMIT passed: a count of 1 is 12")
+    for command in ("run", "step"):
+        for v in (0, 1, 63):
+            case("%s count %d 1 of a fresh state" % (command, v), LOOK, "", "count %d 1" % v, "0", says="refused 12 at 0 kept")
+    case("run count 64 1 of a fresh state", LOOK, "", "count 64 1", "0*3", says=ran(3, 0, 1, 0, "thread 0 done 0"), written={})
+    fit("step count 0 1 at the first COMMIT", OWN, "0*5", "count 0 1", "0", 12)
+    fit("step count 0 1 behind the first COMMIT", OWN, "0*6", "", "0", stepped(0, 0, 0, "thread 0 done 10", "register 0 5"), {0: 1})
+    section("one COMMIT passed: any register's count of 1 fits, 2 is 12")
+    look = after(LOOK)
+    for v in (0, 1, 40, 63):
+        fit("step count %d 1 behind one COMMIT" % v, look, "0*3", "count %d 1" % v, "0", stepped(4, 0, 0, "thread 0 open"), {v: 1})
+        fit("step count %d 2 behind one COMMIT" % v, look, "0*3", "count %d 2" % v, "0", 12)
+    every = ", ".join("count %d 1" % v for v in range(64))
+    fit("step every count 1 behind one COMMIT", look, "0*3", every, "0", stepped(4, 0, 0, "thread 0 open"), {v: 1 for v in range(64)})
+    fit("step every count 1 but a 2 behind one COMMIT", look, "0*3", every + ", count 33 2", "0", 12)
+    case("run a lent count that goes on", after(OWN), "0*8", "count 0 1", "0", says=ran(1, 0, 1, 0, "thread 0 open", "register 0 5"), written={0: 2})
+    case("run a count set to 0 that goes on", addp(OWN, OWN), "0*11", "count 0 0", "0", says=ran(1, 0, 1, 0, "thread 0 open", "register 0 5"), written={0: 1})
+    section("a log count above the table's, or at an unmarked register: 12")
+    for label, tree, setup, changes, said in (
+        ("one above 0, no COMMIT passed", LOOK, "0*2", "thread 0 readcount 0 1", 12),
+        ("one above 0, one COMMIT passed", look, "0*5", "thread 0 readcount 0 1", 12),
+        ("one above 1", look, "0*5", "count 0 1, thread 0 readcount 0 2", 12),
+        ("equal to 1", look, "0*5", "count 0 1, thread 0 readcount 0 1", stepped(9, 0, 1, "thread 0 open")),
+        ("one below 1", look, "0*5", "count 0 1", stepped(10, 0, 0, "thread 0 open")),
+        ("at a marked register never named, above", look, "0*5", "thread 0 reads %d, thread 0 readcount 5 1" % (2**5 + 1), 12),
+        ("at a marked register never named, equal", look, "0*5", "thread 0 reads %d, thread 0 readcount 5 1, count 5 1" % (2**5 + 1), stepped(9, 0, 1, "thread 0 open")),
+        ("at an unmarked register, no COMMIT passed", LOOK, "0*2", "thread 0 readcount 1 1", 12),
+        ("at an unmarked register, the table's being 1", look, "0*5", "thread 0 readcount 1 1, count 1 1", 12),
+        ("at register 63, unmarked", look, "0*5", "thread 0 readcount 63 1, count 63 1", 12),
+        ("at a register that is written only", after(OWN), "0*8", "thread 0 readcount 0 1, count 0 1", 12),
+        ("behind BEGIN, nothing marked", look, "0*4", "thread 0 readcount 0 1, count 0 1", 12),
+        ("outside a transaction", look, "0*3", "thread 0 readcount 0 1, count 0 1", 12),
+        ("of a thread that has ended", LOOK, "0*3", "thread 0 readcount 0 1, count 0 1", 12),
+        ("in a record of no thread", look, "0*5", "thread 1 readcount 0 1, count 0 1", 12),
+        ("in the last record", look, "0*5", "thread 15 readcount 63 1, count 63 1", 12),
+        ("in record 16", look, "0*5", "thread 16 readcount 63 %s" % MOST, stepped(9, 0, 1, "thread 0 open")),
+    ):
+        fit("step a log count " + label, tree, setup, changes, "0", said)
+    section("a log count below the table's: stale, and 12 if the send-backs are equal to the COMMITs passed")
+    three = addp(OWN, addp(OWN, addp(OWN, LOOK)))  # three COMMITs passed, register 0 written three times; at the last COMMIT from 0*20 on
+    for backs, count, said in ((0, 2, 10), (2, 2, 10), (2, 0, 10), (3, 2, 12), (3, 0, 12), (3, 3, 9), (4, 3, 12)):
+        told = 12 if said == 12 else stepped(said, 0, int(said == 9), "thread 0 open", "register 0 5")
+        fit("step a log count of %d below 3, %d send-backs" % (count, backs), three, "0*20", "thread 0 readcount 0 %d, thread 0 backs %d" % (count, backs), "0", told, {0: 3})
+    fit("step a log count below the table's, of a thread that is not picked", WHOLE, "0*2 2*6 1*2", "thread 1 readcount 0 0, thread 1 backs 1", "0", 12)
+
+
 def the_table():
     """The rows of the table of states in docs/TRACE.md, with the same labels."""
     section("states that fit and states that do not: labels as in docs/TRACE.md")
-    fresh, one, both, begun, inside, behind, done = "", "0", "0*2", "0*2 1", "0*2 1*2", "0*2 1*6", "0*2 2*6"
+    fresh, one, both, begun, inside, behind, done, ahead = "", "0", "0*2", "0*2 1", "0*2 1*2", "0*2 1*6", "0*2 2*6", "0*2 2*6 1*2"
     picks = "0*2 1*3 2 3"
 
     def blank(i):
@@ -925,7 +1077,7 @@ def the_table():
         ("values on the stack, in registers and in logs are free; a log may mark a register which its transaction never names", WHOLE, (
             ("free-cells", both, "thread 0 cell 0 7, thread 0 cell 1 -3", True),
             ("free-registers", both, ", ".join("register %d -5" % v for v in range(64)), True),
-            ("free-read", "0*2 2*6 1*2", "thread 1 readlog 0 9", True),
+            ("free-read", ahead, "thread 1 readlog 0 9", True),
             ("free-write", inside, "thread 1 writes 32, thread 1 writelog 5 9", True),
             ("unnamed", "0*2 2*6 1", "thread 1 reads %s, thread 1 readlog 63 9" % BIT_63, True),
         )),
@@ -947,18 +1099,56 @@ def the_table():
             ("backs-above-two", PICKS, "thread 0 backs 3", False),
         )),
         ("or equal to it while that thread's open transaction has a stale read", WHOLE, (
-            ("stale-none-passed", inside, "register 0 5", False),
-            ("stale-none-passed-log", inside, "thread 1 readlog 0 9", False),
-            ("stale-none-passed-unnamed", begun, "thread 1 reads %s, thread 1 readlog 63 9" % BIT_63, False),
+            ("stale-none-passed", inside, "count 0 1", False),
+            ("stale-none-passed-unnamed", begun, "thread 1 reads %s, thread 1 readlog 63 9, count 63 1" % BIT_63, False),
+            ("value-none-passed", inside, "register 0 5", True),
+            ("value-none-passed-log", inside, "thread 1 readlog 0 9", True),
+            ("value-none-passed-unnamed", begun, "thread 1 reads %s, thread 1 readlog 63 9" % BIT_63, True),
             ("stale-below", "0*2 1*2 2*6", "", True),
             ("stale-equal", "0*2 1*2 2*6", "thread 1 backs 1", False),
             ("stale-above", "0*2 1*2 2*6", "thread 1 backs 2", False),
             ("stale-of-another", "0*2 1*2 2*6", "thread 0 backs 1, thread 2 backs 1", True),
-            ("unstale-equal", "0*2 2*6 1*2", "thread 1 backs 1", True),
-            ("unstale-above", "0*2 2*6 1*2", "thread 1 backs 2", False),
-            ("set-back-equal", "0*2 1*2 2*6", "thread 1 backs 1, register 0 0", True),
+            ("unstale-equal", ahead, "thread 1 backs 1", True),
+            ("unstale-above", ahead, "thread 1 backs 2", False),
+            ("set-back-equal", "0*2 1*2 2*6", "thread 1 backs 1, register 0 0", False),
+            ("count-set-back-equal", "0*2 1*2 2*6", "thread 1 backs 1, count 0 0", True),
+            ("value-equal", ahead, "thread 1 backs 1, register 0 9", True),
+            ("log-below", ahead, "thread 1 readcount 0 0", True),
+            ("log-below-equal", ahead, "thread 1 readcount 0 0, thread 1 backs 1", False),
             ("written-equal", "0*2 2*6 1*5", "thread 1 backs 1, thread 1 writelog 0 -9", True),
             ("unmarked-equal", "0*2 2*6 1", "thread 1 backs 1, register 0 9", True),
+        )),
+        ("the table's count: above the COMMITs passed by all threads the state is foreign", WHOLE, (
+            ("count-fresh", fresh, "count 0 1", False),
+            ("count-fresh-63", fresh, "count 63 1", False),
+            ("count-before-commit", "0*2 1*5", "count 0 1", False),
+            ("count-in-child", "0*3", "count 0 1", False),
+            ("count-equal", done, "count 1 1", True),
+            ("count-equal-63", done, "count 63 1", True),
+            ("count-equal-all", done, ", ".join("count %d 1" % v for v in range(64)), True),
+            ("count-above", done, "count 0 2", False),
+            ("count-above-63", done, "count 63 2", False),
+            ("count-lower", done, "count 0 0", True),
+            ("count-equal-two", PICKS, "count 5 2", True),
+            ("count-above-two", PICKS, "count 5 3", False),
+            ("count-sent-back", "0*3 1*2 2*6 1*4", "count 5 2", False),
+        )),
+        ("a read log's count: above the table's the state is foreign", WHOLE, (
+            ("log-ahead", ahead, "thread 1 readcount 0 2", False),
+            ("log-ahead-none-passed", inside, "thread 1 readcount 0 1", False),
+            ("log-ahead-lower", ahead, "count 0 0", False),
+            ("log-ahead-unnamed", "0*2 2*6 1", "thread 1 reads %s, thread 1 readcount 63 1" % BIT_63, False),
+            ("log-equal-unnamed", "0*2 2*6 1", "thread 1 reads %s, thread 1 readcount 63 1, count 63 1" % BIT_63, True),
+            ("log-equal-lower", ahead, "count 0 0, thread 1 readcount 0 0", True),
+        )),
+        ("or, its register unmarked, is not 0", WHOLE, (
+            ("unmarked-count", ahead, "thread 1 readcount 1 1, count 1 1", False),
+            ("unmarked-count-63", ahead, "thread 1 readcount 63 1, count 63 1", False),
+            ("unmarked-count-written", "0*2 2*6 1", "thread 1 writes 1, thread 1 writelog 0 4, thread 1 readcount 0 1", False),
+            ("unmarked-count-outside", done, "thread 1 readcount 0 1", False),
+            ("unmarked-count-ended", done, "thread 2 readcount 0 1", False),
+            ("unused-count", done, "thread 3 readcount 0 1", False),
+            ("unused-count-last", done, "thread 15 readcount 63 1, count 63 1", False),
         )),
     )
     for title, tree, states in rows:
@@ -966,10 +1156,10 @@ def the_table():
         for label, setup, changes, fit in states:
             case("run " + label, tree, setup, changes, picks)
             assert (answers[-1].rpartition(": ")[2] == "refused 12 at 0 kept") != fit, label
-    lines.append("# a run of other than 16 records, or a table of other than 64 registers")
-    for label, changes in (("records-15", "records 15"), ("records-17", "records 17"), ("registers-63", "registers 63"), ("registers-65", "registers 65")):
-        case("run " + label, SEVEN, "", changes, "0", says="refused 12 at 0 kept")
-    case("run fits-sized", SEVEN, "", "records 16, registers 64", "0", says=ran(1, 0, 0, 0, "thread 0 done 7"))
+    lines.append("# a run of other than 16 records, or a table of other than 64 registers or counts")
+    for changes in ("records 15", "records 17", "registers 63", "registers 65", "counts 63", "counts 65"):
+        case("run " + changes.replace(" ", "-"), SEVEN, "", changes, "0", says="refused 12 at 0 kept")
+    case("run fits-sized", SEVEN, "", "records 16, registers 64, counts 64", "0", says=ran(1, 0, 0, 0, "thread 0 done 7"))
     lines.append("# further states: the last numbers of a record and of 64 bits, and what lies behind the memory lent")
     for label, setup, changes in (
         ("the greatest place", both, "thread 1 place " + EVERY),
@@ -979,6 +1169,8 @@ def the_table():
         ("the greatest notes", inside, "thread 1 begin %s, thread 1 base %s" % (EVERY, EVERY)),
         ("the greatest count of sums", "0*2 1*4", "thread 1 over " + EVERY),
         ("the greatest number of send-backs", done, "thread 1 backs " + EVERY),
+        ("the greatest count", done, "count 0 " + MOST),
+        ("the greatest count of a read log", ahead, "thread 1 readcount 0 " + MOST),
         ("a height of 64", both, "thread 0 height 64"),
         ("all registers marked outside", both, "thread 2 reads " + EVERY),
         ("a place in the mark", "", "thread 0 place 4"),
@@ -989,7 +1181,8 @@ def the_table():
         ("threads 0 and 1 exchanged", one, spawned(0, 8, 20) + ", thread 1 start 5, thread 1 end 36, thread 1 place 20, thread 0 height 0, thread 1 height 1"),
     ):
         case("run " + label, WHOLE, setup, changes, picks, says="refused 12 at 0 kept")
-    case("run record 16 and register 64 changed", WHOLE, both, "thread 16 start 9, thread 16 cell 0 3, register 64 12", picks)
+    case("run record 16, register 64 and count 64 changed", WHOLE, both, "thread 16 start 9, thread 16 cell 0 3, thread 16 readcount 0 3, register 64 12, count 64 " + MOST, picks)
+    assert "refused" not in answers[-1]
 
 
 def the_cuts():
@@ -1019,12 +1212,17 @@ def the_lines():
         ("run no value of a rule", "%s; ; thread 0 rule; 0" % text),
         ("run no value of the send-backs", "%s; ; thread 0 backs; 0" % text),
         ("run thread 17", "%s; ; thread 17 start 3; 0" % text),
+        ("run no value of a count in a read log", "%s; ; thread 0 readcount 1; 0" % text),
         ("run cell 64", "%s; ; thread 0 cell 64 3; 0" % text),
+        ("run readcount 64", "%s; ; thread 0 readcount 64 3; 0" % text),
         ("run register 65", "%s; ; register 65 3; 0" % text),
+        ("run count 65", "%s; ; count 65 3; 0" % text),
         ("run 18 records", "%s; ; records 18; 0" % text),
         ("run 66 registers", "%s; ; registers 66; 0" % text),
+        ("run 66 counts", "%s; ; counts 66; 0" % text),
         ("run a byte behind the code", "%s; ; code 10 3; 0" % text),
         ("run no value", "%s; ; register 0; 0" % text),
+        ("run no count", "%s; ; count 0; 0" % text),
         ("step two picks", "%s; ; ; 0*2" % text),
         ("step no pick", "%s; ; ; " % text),
     ):
@@ -1090,16 +1288,20 @@ def some_change(rng, tree, code, setup):
     kind = rng.random()
     if kind < 0.12:
         return "code %d %d" % (rng.randrange(len(code)), rng.choice((0, 1, 2, 3, 5, 6, 7, 64)))
+    v = rng.choice((0, 1, 63))
+    if kind < 0.2:
+        return "register %d %d" % (v, rng.randint(-3, 3))
     if kind < 0.3:
-        return "register %d %d" % (rng.choice((0, 1, 63)), rng.randint(-3, 3))
-    if kind < 0.45:
-        v = rng.choice((0, 1, 63))
+        return "count %d %d" % (v, max(0, memory.counts[v] + rng.choice((-1, 1, 1, 2))))
+    if kind < 0.38:
+        return "thread %d readcount %d %d" % (i, v, max(0, memory.counts[v] + rng.choice((-1, 0, 0, 1))))
+    if kind < 0.5:
         log, logged = rng.choice((("reads", "readlog"), ("writes", "writelog")))
         return "thread %d %s %d, thread %d %s %d %d" % (i, log, getattr(t, log) | 1 << v, i, logged, v, rng.randint(-2, 2))
     if kind < 0.6:
         return "thread %d cell %d %d" % (i, max(0, t.height + rng.randint(-2, 1)), rng.randint(-2, 2))
     if kind < 0.7:
-        return "thread %d %s %d %d" % (i, rng.choice(("readlog", "writelog")), rng.choice((0, 1, 63)), rng.randint(-1, 1))
+        return "thread %d %s %d %d" % (i, rng.choice(("readlog", "writelog")), v, rng.randint(-1, 1))
     if kind < 0.8:
         return "thread %d place %d, thread %d height %d" % (i, rng.randint(5, len(code)), i, max(0, t.height + rng.randint(-1, 1)))
     name = rng.choice(SCALARS)
@@ -1127,5 +1329,5 @@ def the_random():
 
 def make():
     lines.append("# Calls of fresh, step and run on states, written by cases.py.")
-    for part in (the_whole_case, fresh_states, the_order, the_events, the_sizes, the_transactions, the_overs, the_rules, the_table, the_cuts, the_lines, the_random):
+    for part in (the_whole_case, fresh_states, the_order, the_events, the_sizes, the_transactions, the_overs, the_rules, the_counts, the_table, the_cuts, the_lines, the_random):
         part()

@@ -1,4 +1,5 @@
 -- A call's contract says what the call leaves of the memory.
+use Prim.Native.Nat.{ℕ}
 use mathlib.Core.Path.{_≡_, ap, _∙_}
 use mathlib.Core.List.{List}
 use lib.IntN.{ℤ}
@@ -10,10 +11,10 @@ use Rattle.memory.specs.declared.Memory.{Memory}
 use Rattle.owned.specs.Owned.{onFirst}
 use Rattle.thread.specs.declared.Thread.{Thread}
 
-pub left-by : {Reply : Type 0} (m : Memory) (call : State → Returned Reply) (rs : List ℤ) (ts : List Thread) (reply : Reply) (a : Memory)
-    → a ≡ leaving m rs ts → answered rs ts reply ≡ onFirst (m .cells) (m .records) call (m .registers) (m .threads) → a ≡ leftBy m call
+pub left-by : {Reply : Type 0} (m : Memory) (call : State → Returned Reply) (rs : List ℤ) (ns : List ℕ) (ts : List Thread) (reply : Reply) (a : Memory) → a ≡ leaving m rs ns ts
+    → answered rs ns ts reply ≡ onFirst (m .cells) (m .counters) (m .records) call (m .registers) (m .counts) (m .threads) → a ≡ leftBy m call
 unfolding leftBy
-left-by {Reply} m call rs ts reply a f e = f ∙ ap (λ (r : Returned Reply). leaving m (r .state .registers) (r .state .threads)) e
+left-by {Reply} m call rs ns ts reply a f e = f ∙ ap (λ (r : Returned Reply). leaving m (r .state .registers) (r .state .counts) (r .state .threads)) e
 
 -- the second of two calls, on what the first leaves
 pub then-left : {Reply : Type 0} (m n : Memory) (call : State → Returned Reply) (a : Memory) → n ≡ m → a ≡ leftBy n call → a ≡ leftBy m call

@@ -18,12 +18,13 @@ struct Taken {
 }
 
 fn taken_fresh(m: Memory, laid: owned::Laid) -> Taken
-    ensures { λ r. ⌜ r .after ≡ leaving m (laid .registers) (laid .threads) ⌝ }
+    ensures { λ r. ⌜ r .after ≡ leaving m (laid .registers) (laid .counts) (laid .threads) ⌝ }
 {
     let registers = laid.registers;
+    let counts = laid.counts;
     let threads = laid.threads;
     let reply = laid.reply;
-    let after = m.left(registers, threads);
+    let after = m.left(registers, counts, threads);
     Taken {
         after,
         refusal: reply.refusal,
@@ -40,18 +41,28 @@ fn call_fresh(code: &[u8], m: Memory) -> Taken
     ensures { λ r. ⌜ r .after ≡ leftBy m (λ s. freshCall (now (code .entry)) s) ⌝ }
 {
     let registers = m.registers;
+    let counts = m.counts;
     let threads = m.threads;
     taken_fresh(
         m,
-        owned::fresh(code, registers, m.cells, threads, m.records),
+        owned::fresh(
+            code,
+            registers,
+            m.cells,
+            counts,
+            m.counters,
+            threads,
+            m.records,
+        ),
     )
 }
 
 fn taken_step(m: Memory, stepped: owned::Stepped) -> Taken {
     let registers = stepped.registers;
+    let counts = stepped.counts;
     let threads = stepped.threads;
     let reply = stepped.reply;
-    let after = m.left(registers, threads);
+    let after = m.left(registers, counts, threads);
     Taken {
         after,
         refusal: reply.refusal,
@@ -66,20 +77,31 @@ fn taken_step(m: Memory, stepped: owned::Stepped) -> Taken {
 
 fn call_step(code: &[u8], m: Memory, pick: u8) -> Taken {
     let registers = m.registers;
+    let counts = m.counts;
     let threads = m.threads;
     taken_step(
         m,
-        owned::step(code, registers, m.cells, threads, m.records, pick),
+        owned::step(
+            code,
+            registers,
+            m.cells,
+            counts,
+            m.counters,
+            threads,
+            m.records,
+            pick,
+        ),
     )
 }
 
 fn taken_run(m: Memory, ran: owned::Ran) -> Taken
-    ensures { λ r. ⌜ r .after ≡ leaving m (ran .registers) (ran .threads) ⌝ }
+    ensures { λ r. ⌜ r .after ≡ leaving m (ran .registers) (ran .counts) (ran .threads) ⌝ }
 {
     let registers = ran.registers;
+    let counts = ran.counts;
     let threads = ran.threads;
     let reply = ran.reply;
-    let after = m.left(registers, threads);
+    let after = m.left(registers, counts, threads);
     Taken {
         after,
         refusal: reply.refusal,
@@ -96,10 +118,20 @@ fn call_run(code: &[u8], m: Memory, picks: &[u8]) -> Taken
     ensures { λ r. ⌜ r .after ≡ leftBy m (λ s. runCall (now (code .entry)) s (now (picks .entry))) ⌝ }
 {
     let registers = m.registers;
+    let counts = m.counts;
     let threads = m.threads;
     taken_run(
         m,
-        owned::run(code, registers, m.cells, threads, m.records, picks),
+        owned::run(
+            code,
+            registers,
+            m.cells,
+            counts,
+            m.counters,
+            threads,
+            m.records,
+            picks,
+        ),
     )
 }
 
@@ -162,15 +194,18 @@ pub fn run_run(code: &[u8], m: Memory, picks: &[u8]) {
     write_after(taken);
 }
 
-// Writes the counts of a call, or its refusal.
+// Writes the counts of a call and those of the table that it left, or its refusal.
 fn write_call(m: Memory, taken: Taken) {
     if refused(m, taken) {
         return;
     }
     text::write_counts(taken.a, taken.b, taken.c, taken.d, taken.e);
+    let after = taken.after;
+    let counts = after.counts;
+    memory::write_table_counts(counts);
 }
 
-// `run`, what is written of it without the state, and what it leaves.
+// `run`, what is written of it without threads and registers, and what it leaves.
 pub fn run_next(code: &[u8], m: Memory, picks: &[u8]) -> Memory
     ensures { λ r. ⌜ r ≡ leftBy m (λ s. runCall (now (code .entry)) s (now (picks .entry))) ⌝ }
 {

@@ -12,7 +12,7 @@ use Rattle.exports.specs.Written.{writing}
 use Rattle.listing.specs.Listed.{listed, refusalLine, decimal, digits, ascii}
 use Rattle.machine.specs.Answers.{freshOf, stepOf, runOf, freshCall, stepCall, runCall}
 use Rattle.machine.specs.Fits.{walkOp, nextPlace}
-use Rattle.machine.specs.FitTest.{walk, walkTo, freeFrom, placed, allZero, noneBehind, inFront, passedBy, among, allAmong, threadsOf, oneEach, commitsPassed, needs, allTallied, fitsBeside, fits}
+use Rattle.machine.specs.FitTest.{walk, walkTo, freeFrom, uncountedFrom, withinFrom, atMostFrom, placed, allZero, noneBehind, inFront, passedBy, among, allAmong, threadsOf, oneEach, commitsPassed, needs, allTallied, fitsBeside, fits}
 use Rattle.machine.specs.Steps.{numberOf, commit, act, perform, settle, pickAmong, fresh, run}
 use Rattle.script.specs.Bytes.{nodeBytes, bytes16, bytes32, bytesT, bytesP, jobMark, jobBytes}
 use Rattle.script.specs.Count.{nodesT, nodesP, depthT, depthP, forks, longestNodes}
@@ -20,7 +20,7 @@ use Rattle.script.specs.Jobs.{operand, forkOf}
 use Rattle.script.specs.Reader.{permitted, nodeOf, nodeAt, grown, readNodes, jobMarked, taken, readTree, shortFrom, readJob}
 use Rattle.stm.specs.Events.{tally, countsOf, eventNumber, eventRegister, turnNumber, eventOf}
 use Rattle.stm.specs.Rules.{usedBy, ruleNumber, ruleAfter, backsAfter}
-use Rattle.thread.specs.Threads.{blank, spawned, push, add, begin, sourceOf, read, write, closed as closedAt, stale, firstStale, overlaid}
+use Rattle.thread.specs.Threads.{blank, spawned, push, add, begin, sourceOf, read, write, closed as closedAt, stale, firstStale, overlaid, recounted}
 use Rattle.word.specs.Registers.{none, member, with}
 use Rattle.word.specs.Sum.{residue, signed, wrap, wrapping, overflows}
 
@@ -32,14 +32,17 @@ export-cases = record { compiling = refl; reading-back = refl; register-64 = ref
 
 pub owned-cases : OwnedCases
 unfolding wrapping wrap signed residue overflows readTree shortFrom readJob readNodes nodeAt nodeOf permitted operand grown forkOf jobMarked taken jobBytes jobMark bytesP bytesT nodeBytes bytes16 bytes32 nodesP nodesT forks
-    longestNodes compiled codeBytes codeMark compileP compileT instructionBytes instructionsBytes readCode readCodeTree readOps endedAt doOp opAt decoded opcodeOperand codeMarked sized depthT depthP blank spawned push add begin
-    sourceOf read write closedAt stale firstStale overlaid numberOf commit act perform settle pickAmong fresh run none member with walkOp nextPlace walk walkTo freeFrom placed allZero noneBehind inFront passedBy among allAmong
-    threadsOf oneEach commitsPassed needs allTallied usedBy ruleNumber ruleAfter backsAfter fitsBeside fits freshOf stepOf runOf tally countsOf eventNumber eventRegister turnNumber eventOf freshCall stepCall runCall
+    longestNodes compiled codeBytes codeMark compileP compileT instructionBytes instructionsBytes readCode readCodeTree readOps endedAt doOp opAt decoded opcodeOperand codeMarked sized depthT depthP blank spawned push add
+    begin sourceOf read write closedAt stale firstStale overlaid recounted numberOf commit act perform settle pickAmong fresh run none member with walkOp nextPlace walk walkTo freeFrom uncountedFrom withinFrom atMostFrom
+    placed allZero noneBehind inFront passedBy among allAmong threadsOf oneEach commitsPassed needs allTallied usedBy ruleNumber ruleAfter backsAfter fitsBeside fits freshOf stepOf runOf tally countsOf eventNumber
+    eventRegister turnNumber eventOf freshCall stepCall runCall
 owned-cases =
     record {
       lent-all = refl;
       lent-63 = refl;
       lent-65 = refl;
+      lent-counts-63 = refl;
+      lent-counts-65 = refl;
       lent-15 = refl;
       lent-17 = refl;
       stepped = refl;
@@ -48,6 +51,7 @@ owned-cases =
       freshly-none = refl;
       freshly-11 = refl;
       freshly-12 = refl;
+      freshly-12-counts = refl;
       freshly-13 = refl;
       shown = refl;
     }

@@ -1,16 +1,24 @@
--- The table of worked cases holds, by computation. Assumes nothing.
-use mathlib.Core.Path.{refl}
+-- The table of worked cases holds, by computation; those of 32,768 picks and more without walking so long a list. Assumes nothing.
+use Prim.Native.Nat.{ℕ, zero, suc}
+use mathlib.Core.Bool.{Bool, true, false}
+use mathlib.Core.Path.{_≡_, refl, ap, _∙_}
+use mathlib.Core.List.{List}
+use lib.Dec.{ltb}
+use lib.ListN.{length, replicate, length-replicate}
+use Rattle.cases.specs.Inputs.{sevenCode, times}
 use Rattle.cases.specs.Cases.{Cases}
 use Rattle.code.specs.Compile.{compileT, compileP}
 use Rattle.code.specs.Bytes.{instructionBytes, instructionsBytes, codeMark, codeBytes, compiled}
 use Rattle.code.specs.Ops.{opcodeOperand, decoded, opAt}
 use Rattle.code.specs.Reader.{doOp, endedAt, readOps, sized, codeMarked, readCodeTree, readCode}
-use Rattle.thread.specs.Threads.{blank, spawned, push, add, begin, sourceOf, read, write, closed as closedAt, stale, firstStale, overlaid}
+use Rattle.thread.specs.Threads.{blank, spawned, push, add, begin, sourceOf, read, write, closed as closedAt, stale, firstStale, overlaid, recounted}
 use Rattle.machine.specs.Fits.{walkOp, nextPlace}
-use Rattle.machine.specs.FitTest.{walk, walkTo, freeFrom, placed, allZero, noneBehind, inFront, passedBy, among, allAmong, threadsOf, oneEach, commitsPassed, needs, allTallied, fitsBeside, fits}
-use Rattle.machine.specs.Answers.{freshOf, stepOf, runOf, freshCall, stepCall, runCall}
-use Rattle.machine.specs.Steps.{numberOf, commit, act, perform, settle, pickAmong, fresh, run}
-use Rattle.stm.specs.Events.{counted, order, backs, tally, countsOf, eventNumber, eventRegister, turnNumber, eventOf}
+use Rattle.machine.specs.FitTest.{walk, walkTo, freeFrom, uncountedFrom, withinFrom, atMostFrom, placed, allZero, noneBehind, inFront, passedBy, among, allAmong, threadsOf, oneEach, commitsPassed, needs, allTallied, fitsBeside, fits}
+use Rattle.script.specs.Outcome.{refused, done, refuse}
+use Rattle.machine.specs.Answers.{Returned, returned, runReply, runSays, freshOf, stepOf, runOf, freshCall, stepCall, runCall}
+use Rattle.machine.specs.declared.RunReply.{RunReply}
+use Rattle.machine.specs.Steps.{State, Ran, numberOf, commit, act, perform, settle, pickAmong, pick, fresh, run}
+use Rattle.stm.specs.Events.{idle, pushed, Counts, counted, order, backs, tally, countsOf, eventNumber, eventRegister, turnNumber, eventOf}
 use Rattle.stm.specs.Rules.{usedBy, ruleNumber, ruleAfter, backsAfter}
 use Rattle.listing.specs.Listed.{listed, jobRun, printed, listing, countsLine, threadLines, threadLine, registerLines, registerLine, refusalLine, integer, decimal, digits, ascii}
 use Rattle.word.specs.Registers.{none, member, with}
@@ -20,8 +28,48 @@ use Rattle.script.specs.Jobs.{operand, forkOf}
 use Rattle.script.specs.Reader.{permitted, nodeOf, nodeAt, grown, readNodes, jobMarked, taken, readTree, shortFrom, readJob}
 use Rattle.word.specs.Sum.{residue, signed, wrap, wrapping, overflows}
 
+-- the counts of so many picks of a thread, each of them idle
+idle-counts :
+    (bytes : List ℕ) (s : State) → pick wrapping bytes s 0 ≡ record { state = s; event = idle; over = 0 } → (n : ℕ) →
+    countsOf (run wrapping bytes s (replicate n 0) .events) ≡ record { steps = 0; idle = n; commits = 0; back = 0; over = 0 }
+unfolding run countsOf tally
+idle-counts bytes s e zero = refl
+idle-counts bytes s e (suc n) = rw (e, idle-counts bytes s e n)
+
+-- the answer of a run of VALP 7 with so many idle picks behind its one step
+seven-idle :
+    (n : ℕ) → ltb 32768 (length (times (suc n) 0)) ≡ false →
+    runCall sevenCode (fresh sevenCode) (times (suc n) 0) .reply ≡ record { refusal = 0; place = 0; steps = 1; idle = n; commits = 0; back = 0; over = 0 }
+unfolding wrapping wrap signed residue overflows compiled codeBytes codeMark compileP compileT instructionBytes instructionsBytes bytes16 bytes32 readCode readCodeTree longestNodes nodesP nodesT forks readOps endedAt doOp
+    opAt decoded opcodeOperand codeMarked sized depthT depthP blank spawned push act perform settle pickAmong numberOf fresh run none member stale firstStale walkOp nextPlace walk walkTo freeFrom uncountedFrom withinFrom
+    atMostFrom placed allZero noneBehind inFront passedBy among allAmong threadsOf oneEach commitsPassed needs allTallied usedBy ruleNumber ruleAfter backsAfter fitsBeside fits runOf runCall tally countsOf taken
+seven-idle n l =
+    ap (λ (b : Bool). returned (λ (r : Ran). r .state) runReply (fresh sevenCode) (refuse b 13 0 (done (run wrapping sevenCode (fresh sevenCode) (replicate (suc n) 0)))) .reply) l
+    ∙ ap (λ (c : Counts). let d = tally pushed 0 c in record { refusal = 0; place = 0; steps = d .steps; idle = d .idle; commits = d .commits; back = d .back; over = d .over })
+    (idle-counts sevenCode (pick wrapping sevenCode (fresh sevenCode) 0 .state) refl n)
+
+-- 32,768 picks
+full-list : runCall sevenCode (fresh sevenCode) (times 32768 0) .reply ≡ record { refusal = 0; place = 0; steps = 1; idle = 32767; commits = 0; back = 0; over = 0 }
+full-list = seven-idle 32767 (ap (λ (k : ℕ). ltb 32768 k) (length-replicate {A = ℕ} 32768 0))
+
+-- a run of VALP 7 with more than 32,768 picks is refused with 13, and leaves what it was lent
+seven-long : (is : List ℕ) → ltb 32768 (length is) ≡ true → runCall sevenCode (fresh sevenCode) is ≡ record { state = fresh sevenCode; reply = runReply (refused 13 0) }
+unfolding signed residue compiled codeBytes codeMark compileP compileT instructionBytes instructionsBytes bytes16 bytes32 readCode readCodeTree longestNodes nodesP nodesT forks readOps endedAt doOp opAt decoded opcodeOperand
+    codeMarked sized depthT depthP blank spawned fresh none member stale firstStale walkOp nextPlace walk walkTo freeFrom uncountedFrom withinFrom atMostFrom placed allZero noneBehind inFront passedBy among allAmong threadsOf
+    oneEach commitsPassed needs allTallied fitsBeside fits runOf runCall taken
+seven-long is l = ap (λ (b : Bool). returned (λ (r : Ran). r .state) runReply (fresh sevenCode) (refuse b 13 0 (done (run wrapping sevenCode (fresh sevenCode) is)))) l
+
+-- 32,769 picks
+too-long : runCall sevenCode (fresh sevenCode) (times 32769 0) ≡ record { state = fresh sevenCode; reply = runReply (refused 13 0) }
+too-long = seven-long (times 32769 0) (ap (λ (k : ℕ). ltb 32768 k) (length-replicate {A = ℕ} 32769 0))
+
 pub cases : Cases
-unfolding listed jobRun printed listing countsLine threadLines threadLine registerLines registerLine refusalLine integer decimal digits ascii wrapping wrap signed residue overflows readTree shortFrom readJob readNodes nodeAt nodeOf permitted operand grown forkOf jobMarked taken jobBytes jobMark bytesP bytesT nodeBytes bytes16 bytes32 nodesP nodesT forks atomics threads instructions longest bound codeT codeP codeLength compiled codeBytes codeMark compileP compileT instructionBytes instructionsBytes readCode readCodeTree longestNodes readOps endedAt doOp opAt decoded opcodeOperand codeMarked sized depthT depthP blank spawned push add begin sourceOf read write closedAt stale firstStale overlaid numberOf commit act perform settle pickAmong fresh run counted order backs none member with walkOp nextPlace walk walkTo freeFrom placed allZero noneBehind inFront passedBy among allAmong threadsOf oneEach commitsPassed needs allTallied usedBy ruleNumber ruleAfter backsAfter fitsBeside fits freshOf stepOf runOf tally countsOf eventNumber eventRegister turnNumber eventOf freshCall stepCall runCall
+unfolding listed jobRun printed listing countsLine threadLines threadLine registerLines registerLine refusalLine integer decimal digits ascii wrapping wrap signed residue overflows readTree shortFrom readJob readNodes nodeAt
+    nodeOf permitted operand grown forkOf jobMarked taken jobBytes jobMark bytesP bytesT nodeBytes bytes16 bytes32 nodesP nodesT forks atomics threads instructions longest bound codeT codeP codeLength compiled codeBytes
+    codeMark compileP compileT instructionBytes instructionsBytes readCode readCodeTree longestNodes readOps endedAt doOp opAt decoded opcodeOperand codeMarked sized depthT depthP blank spawned push add begin sourceOf read
+    write closedAt stale firstStale overlaid recounted numberOf commit act perform settle pickAmong fresh run counted order backs none member with walkOp nextPlace walk walkTo freeFrom uncountedFrom withinFrom atMostFrom
+    placed allZero noneBehind inFront passedBy among allAmong threadsOf oneEach commitsPassed needs allTallied usedBy ruleNumber ruleAfter backsAfter fitsBeside fits freshOf stepOf runOf tally countsOf eventNumber
+    eventRegister turnNumber eventOf freshCall stepCall runCall
 cases =
     record {
       seven-read = refl;
@@ -132,6 +180,7 @@ cases =
       lowest-stale = refl;
       last-stale = refl;
       same-value = refl;
+      written-before = refl;
       step-idle = refl;
       step-back = refl;
       idle-3 = refl;
@@ -150,10 +199,10 @@ cases =
       run-whole = refl;
       run-none = refl;
       run-all-threads = refl;
-      full-list = refl;
-      run-13 = refl;
-      run-13-left = refl;
-      long-list = refl;
+      full-list = full-list;
+      run-13 = ap (λ (r : Returned RunReply). r .reply) too-long;
+      run-13-left = ap (λ (r : Returned RunReply). r .state) too-long;
+      long-list = ap (λ (r : Returned RunReply). runSays (r .reply)) too-long;
       run-12 = refl;
       run-12-left = refl;
       run-11 = refl;

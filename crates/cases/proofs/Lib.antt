@@ -4,5 +4,6 @@ pub mod Forecasts
 pub mod Overflows
 pub mod LongTransactions
 pub mod Rules
+pub mod Staleness
 pub mod Refusals
 pub mod Calls

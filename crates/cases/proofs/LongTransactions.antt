@@ -17,7 +17,9 @@ use Rattle.word.specs.Registers.{none}
 use Rattle.word.specs.Sum.{signed, residue}
 
 pub long-transaction-cases : LongTransactionCases
-unfolding compileTo delivered sums sumsBytes writesBytes readTree shortFrom readJob readNodes nodeAt nodeOf permitted operand grown forkOf jobMarked taken nodeBytes bytes16 bytes32 bytesT bytesP signed residue nodesT nodesP depthT depthP forks longest longestNodes compiled codeBytes codeMark compileP compileT instructionBytes instructionsBytes readCode readCodeTree readOps endedAt doOp opAt decoded opcodeOperand codeMarked sized figures refusedWith none listed jobRun printed refusalLine decimal digits ascii
+unfolding compileTo delivered sums sumsBytes writesBytes readTree shortFrom readJob readNodes nodeAt nodeOf permitted operand grown forkOf jobMarked taken nodeBytes bytes16 bytes32 bytesT bytesP signed residue nodesT nodesP
+    depthT depthP forks longest longestNodes compiled codeBytes codeMark compileP compileT instructionBytes instructionsBytes readCode readCodeTree readOps endedAt doOp opAt decoded opcodeOperand codeMarked sized figures
+    refusedWith none listed jobRun printed refusalLine decimal digits ascii
 long-transaction-cases =
     record {
       most = refl;

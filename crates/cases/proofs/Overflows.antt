@@ -4,9 +4,9 @@ use Rattle.code.specs.Compile.{compileT, compileP}
 use Rattle.code.specs.Bytes.{instructionBytes, instructionsBytes, codeMark, codeBytes, compiled}
 use Rattle.code.specs.Ops.{opcodeOperand, decoded, opAt}
 use Rattle.code.specs.Reader.{doOp, endedAt, readOps, sized, codeMarked, readCodeTree, readCode}
-use Rattle.thread.specs.Threads.{blank, spawned, push, add, begin, sourceOf, read, write, closed as closedAt, stale, firstStale, overlaid}
+use Rattle.thread.specs.Threads.{blank, spawned, push, add, begin, sourceOf, read, write, closed as closedAt, stale, firstStale, overlaid, recounted}
 use Rattle.machine.specs.Fits.{walkOp, nextPlace}
-use Rattle.machine.specs.FitTest.{walk, walkTo, freeFrom, placed, allZero, noneBehind, inFront, passedBy, among, allAmong, threadsOf, oneEach, commitsPassed, needs, allTallied, fitsBeside, fits}
+use Rattle.machine.specs.FitTest.{walk, walkTo, freeFrom, uncountedFrom, withinFrom, atMostFrom, placed, allZero, noneBehind, inFront, passedBy, among, allAmong, threadsOf, oneEach, commitsPassed, needs, allTallied, fitsBeside, fits}
 use Rattle.machine.specs.Answers.{freshOf, stepOf, runOf, freshCall, stepCall, runCall}
 use Rattle.machine.specs.Steps.{numberOf, commit, act, perform, settle, pickAmong, fresh, run}
 use Rattle.stm.specs.Events.{counted, order, backs, tally, countsOf, eventNumber, eventRegister, turnNumber, eventOf}
@@ -23,7 +23,12 @@ use Rattle.word.specs.Sum.{residue, signed, wrap, wrapping, overflows}
 use Rattle.cases.specs.Overflows.{OverflowCases}
 
 pub overflow-cases : OverflowCases
-unfolding listed jobRun printed listing countsLine threadLines threadLine registerLines registerLine refusalLine integer decimal digits ascii wrapping wrap signed residue readTree shortFrom readJob readNodes nodeAt nodeOf permitted operand grown forkOf jobMarked taken jobBytes jobMark bytesP bytesT nodeBytes bytes16 bytes32 nodesP nodesT forks atomics threads instructions longest bound codeT codeP codeLength compiled codeBytes codeMark compileP compileT instructionBytes instructionsBytes readCode readCodeTree longestNodes readOps endedAt doOp opAt decoded opcodeOperand codeMarked sized depthT depthP blank spawned push add begin sourceOf read write closedAt stale firstStale overlaid numberOf commit act perform settle pickAmong fresh run counted order backs none member with walkOp nextPlace walk walkTo freeFrom placed allZero noneBehind inFront passedBy among allAmong threadsOf oneEach commitsPassed needs allTallied usedBy ruleNumber ruleAfter backsAfter fitsBeside fits freshOf stepOf runOf tally countsOf eventNumber eventRegister turnNumber eventOf freshCall stepCall runCall overflows overflowsT overflowsP overflowsTurns work reduce initial turn
+unfolding listed jobRun printed listing countsLine threadLines threadLine registerLines registerLine refusalLine integer decimal digits ascii wrapping wrap signed residue readTree shortFrom readJob readNodes nodeAt nodeOf
+    permitted operand grown forkOf jobMarked taken jobBytes jobMark bytesP bytesT nodeBytes bytes16 bytes32 nodesP nodesT forks atomics threads instructions longest bound codeT codeP codeLength compiled codeBytes codeMark
+    compileP compileT instructionBytes instructionsBytes readCode readCodeTree longestNodes readOps endedAt doOp opAt decoded opcodeOperand codeMarked sized depthT depthP blank spawned push add begin sourceOf read write
+    closedAt stale firstStale overlaid recounted numberOf commit act perform settle pickAmong fresh run counted order backs none member with walkOp nextPlace walk walkTo freeFrom uncountedFrom withinFrom atMostFrom placed
+    allZero noneBehind inFront passedBy among allAmong threadsOf oneEach commitsPassed needs allTallied usedBy ruleNumber ruleAfter backsAfter fitsBeside fits freshOf stepOf runOf tally countsOf eventNumber eventRegister
+    turnNumber eventOf freshCall stepCall runCall overflows overflowsT overflowsP overflowsTurns work reduce initial turn
 overflow-cases =
     record {
       above = refl;

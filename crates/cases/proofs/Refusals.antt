@@ -12,7 +12,7 @@ use Rattle.delivery.specs.Delivered.{delivered}
 use Rattle.listing.specs.Listed.{listed, jobRun, printed, refusalLine, decimal, digits, ascii}
 use Rattle.machine.specs.Answers.{runOf}
 use Rattle.machine.specs.Fits.{walkOp, nextPlace}
-use Rattle.machine.specs.FitTest.{walk, walkTo, freeFrom, placed, allZero, noneBehind, inFront, passedBy, among, allAmong, threadsOf, oneEach, commitsPassed, needs, allTallied, fitsBeside, fits}
+use Rattle.machine.specs.FitTest.{walk, walkTo, freeFrom, uncountedFrom, withinFrom, atMostFrom, placed, allZero, noneBehind, inFront, passedBy, among, allAmong, threadsOf, oneEach, commitsPassed, needs, allTallied, fitsBeside, fits}
 use Rattle.machine.specs.Steps.{fresh}
 use Rattle.script.specs.Bytes.{nodeBytes, bytes16, bytes32, bytesT, bytesP, jobMark, jobBytes}
 use Rattle.script.specs.Count.{nodesT, nodesP, depthT, depthP, forks, longestNodes}
@@ -115,10 +115,10 @@ job-refusals =
     }
 
 pub call-refusals : CallRefusals
-unfolding sums sumsBytes writesBytes deep deepBytes writes forked forkedBytes readJob readTree shortFrom readNodes nodeAt nodeOf permitted operand grown forkOf jobMarked taken nodeBytes bytes32 bytesT bytesP nodesT signed residue
-    bytes16 jobMark jobBytes nodesP depthT depthP forks longestNodes compiled codeBytes codeMark compileP compileT instructionBytes instructionsBytes readCode readCodeTree readOps endedAt doOp opAt decoded opcodeOperand codeMarked
-    sized compileTo readBackTo delivered listed jobRun printed refusalLine decimal digits ascii runOf fresh blank spawned stale firstStale none member walkOp nextPlace walk walkTo freeFrom placed allZero noneBehind inFront
-    passedBy among allAmong threadsOf oneEach commitsPassed needs allTallied fitsBeside fits
+unfolding sums sumsBytes writesBytes deep deepBytes writes forked forkedBytes readJob readTree shortFrom readNodes nodeAt nodeOf permitted operand grown forkOf jobMarked taken nodeBytes bytes32 bytesT bytesP nodesT signed
+    residue bytes16 jobMark jobBytes nodesP depthT depthP forks longestNodes compiled codeBytes codeMark compileP compileT instructionBytes instructionsBytes readCode readCodeTree readOps endedAt doOp opAt decoded
+    opcodeOperand codeMarked sized compileTo readBackTo delivered listed jobRun printed refusalLine decimal digits ascii runOf fresh blank spawned stale firstStale none member walkOp nextPlace walk walkTo freeFrom
+    uncountedFrom withinFrom atMostFrom placed allZero noneBehind inFront passedBy among allAmong threadsOf oneEach commitsPassed needs allTallied fitsBeside fits
 call-refusals =
     record {
       compile-10 = refl;

@@ -4,9 +4,9 @@ use Rattle.code.specs.Compile.{compileT, compileP}
 use Rattle.code.specs.Bytes.{instructionBytes, instructionsBytes, codeMark, codeBytes, compiled}
 use Rattle.code.specs.Ops.{opcodeOperand, decoded, opAt}
 use Rattle.code.specs.Reader.{doOp, endedAt, readOps, sized, codeMarked, readCodeTree, readCode}
-use Rattle.thread.specs.Threads.{blank, spawned, push, add, begin, sourceOf, read, write, closed as closedAt, stale, firstStale, overlaid}
+use Rattle.thread.specs.Threads.{blank, spawned, push, add, begin, sourceOf, read, write, closed as closedAt, stale, firstStale, overlaid, recounted}
 use Rattle.machine.specs.Fits.{walkOp, nextPlace}
-use Rattle.machine.specs.FitTest.{walk, walkTo, freeFrom, placed, allZero, noneBehind, inFront, passedBy, among, allAmong, threadsOf, oneEach, commitsPassed, needs, allTallied, fitsBeside, fits}
+use Rattle.machine.specs.FitTest.{walk, walkTo, freeFrom, uncountedFrom, withinFrom, atMostFrom, placed, allZero, noneBehind, inFront, passedBy, among, allAmong, threadsOf, oneEach, commitsPassed, needs, allTallied, fitsBeside, fits}
 use Rattle.machine.specs.Answers.{stepOf, runOf, stepCall, runCall, backsOf}
 use Rattle.machine.specs.Steps.{numberOf, commit, act, perform, settle, pickAmong, fresh, run}
 use Rattle.stm.specs.Events.{counted, order, backs, tally, countsOf, eventNumber, eventRegister, turnNumber, eventOf}
@@ -20,7 +20,11 @@ use Rattle.word.specs.Sum.{residue, signed, wrap, wrapping, overflows}
 use Rattle.cases.specs.Rules.{RuleCases, TallyCases, rulesOf}
 
 pub rule-cases : RuleCases
-unfolding wrapping wrap signed residue readTree shortFrom readJob readNodes nodeAt nodeOf permitted operand grown forkOf jobMarked taken jobBytes jobMark bytesP bytesT nodeBytes bytes16 bytes32 nodesP nodesT forks atomics threads instructions longest bound codeT codeP codeLength compiled codeBytes codeMark compileP compileT instructionBytes instructionsBytes readCode readCodeTree longestNodes readOps endedAt doOp opAt decoded opcodeOperand codeMarked sized depthT depthP blank spawned push add begin sourceOf read write closedAt stale firstStale overlaid numberOf commit act perform settle pickAmong fresh run counted order backs none member with walkOp nextPlace walk walkTo freeFrom placed allZero noneBehind inFront passedBy among allAmong threadsOf oneEach commitsPassed needs allTallied usedBy ruleNumber ruleAfter backsAfter fitsBeside fits stepOf runOf tally countsOf eventNumber eventRegister turnNumber eventOf stepCall runCall overflows ruleOfNumber lastRule backsOf rulesOf
+unfolding wrapping wrap signed residue readTree shortFrom readJob readNodes nodeAt nodeOf permitted operand grown forkOf jobMarked taken jobBytes jobMark bytesP bytesT nodeBytes bytes16 bytes32 nodesP nodesT forks atomics
+    threads instructions longest bound codeT codeP codeLength compiled codeBytes codeMark compileP compileT instructionBytes instructionsBytes readCode readCodeTree longestNodes readOps endedAt doOp opAt decoded opcodeOperand
+    codeMarked sized depthT depthP blank spawned push add begin sourceOf read write closedAt stale firstStale overlaid recounted numberOf commit act perform settle pickAmong fresh run counted order backs none member with
+    walkOp nextPlace walk walkTo freeFrom uncountedFrom withinFrom atMostFrom placed allZero noneBehind inFront passedBy among allAmong threadsOf oneEach commitsPassed needs allTallied usedBy ruleNumber ruleAfter backsAfter
+    fitsBeside fits stepOf runOf tally countsOf eventNumber eventRegister turnNumber eventOf stepCall runCall overflows ruleOfNumber lastRule backsOf rulesOf
 rule-cases =
     record {
       number-0 = refl;
@@ -46,6 +50,7 @@ rule-cases =
       missing-named = refl;
       far-named = refl;
       refused-named = refl;
+      other-value-named = refl;
       reads-rules = refl;
       lowest-named = refl;
       lowest-answer = refl;
@@ -75,7 +80,11 @@ rule-cases =
     }
 
 pub tally-cases : TallyCases
-unfolding wrapping wrap signed residue readTree shortFrom readJob readNodes nodeAt nodeOf permitted operand grown forkOf jobMarked taken jobBytes jobMark bytesP bytesT nodeBytes bytes16 bytes32 nodesP nodesT forks atomics threads instructions longest bound codeT codeP codeLength compiled codeBytes codeMark compileP compileT instructionBytes instructionsBytes readCode readCodeTree longestNodes readOps endedAt doOp opAt decoded opcodeOperand codeMarked sized depthT depthP blank spawned push add begin sourceOf read write closedAt stale firstStale overlaid numberOf commit act perform settle pickAmong fresh run counted order backs none member with walkOp nextPlace walk walkTo freeFrom placed allZero noneBehind inFront passedBy among allAmong threadsOf oneEach commitsPassed needs allTallied usedBy ruleNumber ruleAfter backsAfter fitsBeside fits stepOf runOf tally countsOf eventNumber eventRegister turnNumber eventOf stepCall runCall overflows ruleOfNumber lastRule backsOf rulesOf
+unfolding wrapping wrap signed residue readTree shortFrom readJob readNodes nodeAt nodeOf permitted operand grown forkOf jobMarked taken jobBytes jobMark bytesP bytesT nodeBytes bytes16 bytes32 nodesP nodesT forks atomics
+    threads instructions longest bound codeT codeP codeLength compiled codeBytes codeMark compileP compileT instructionBytes instructionsBytes readCode readCodeTree longestNodes readOps endedAt doOp opAt decoded opcodeOperand
+    codeMarked sized depthT depthP blank spawned push add begin sourceOf read write closedAt stale firstStale overlaid recounted numberOf commit act perform settle pickAmong fresh run counted order backs none member with
+    walkOp nextPlace walk walkTo freeFrom uncountedFrom withinFrom atMostFrom placed allZero noneBehind inFront passedBy among allAmong threadsOf oneEach commitsPassed needs allTallied usedBy ruleNumber ruleAfter backsAfter
+    fitsBeside fits stepOf runOf tally countsOf eventNumber eventRegister turnNumber eventOf stepCall runCall overflows ruleOfNumber lastRule backsOf rulesOf
 tally-cases =
     record {
       none-passed = refl;
@@ -94,11 +103,15 @@ tally-cases =
       stale-none-passed = refl;
       stale-none-step = refl;
       stale-none-left = refl;
+      other-value = refl;
       other-register = refl;
       stale-below = refl;
       stale-equal = refl;
+      value-back-below = refl;
+      value-back-equal = refl;
       unstale-equal = refl;
       unstale-above = refl;
+      count-logged = refl;
       stale-of-another = refl;
       stale-of-another-ended = refl;
       free-rule = refl;

@@ -15,13 +15,13 @@ use Rattle.code.specs.Bytes.{compiled}
 use Rattle.code.specs.Reader.{readCode}
 use Rattle.guarantee.specs.Histories.{Ended}
 use Rattle.listing.specs.Listed.{ascii, listed}
-use Rattle.thread.specs.Threads.{zeros, blank, spawned, exists, withPlace, withNotes}
+use Rattle.thread.specs.Threads.{zeros, unwritten, blank, spawned, exists, withPlace, withNotes}
 use Rattle.machine.specs.Steps.{numberOf, threadAt, fresh}
 use Rattle.machine.specs.FitTest.{fits}
 use Rattle.machine.specs.Answers.{freshSays, stepSays, runSays, freshCall, stepCall, runCall}
 use Rattle.stm.specs.Events.{idle, sentBack, counted, isIdle, isCommit, isBack, order, backs}
 use Rattle.word.specs.Sum.{wrapping}
-use Rattle.cases.specs.Inputs.{header, accepted, seven, sevenCode, registersJob, lowTree, lowCode, ownWriteTree, ownWriteCode, wholeTree, wholeJob, wholeCode, highTree, highCode, lookCode, twiceCode, lastCode, staleCode, nestCode, times, ran, steps, wholePicks, staleThere, highPicks, nestPicks, told, front, second, noThreads, sized, oneForked, bothForked, behindBegin, behindRead, behindCommit, wholeEnd, highRead, nested, putAt, changed, withRegisters, exchanged, withMark, withHeight, withCell, withRead, withWrite, withReadValue, withWriteValue, withCode, looking, readSeven, readSevenWroteFive}
+use Rattle.cases.specs.Inputs.{header, accepted, seven, sevenCode, registersJob, lowTree, lowCode, ownWriteTree, ownWriteCode, wholeTree, wholeJob, wholeCode, highTree, highCode, lookCode, twiceCode, lastCode, staleCode, nestCode, times, ran, steps, wholePicks, staleThere, highPicks, nestPicks, told, front, second, frontCounts, noLogs, standing, noThreads, sized, oneForked, bothForked, behindBegin, behindRead, behindCommit, wholeEnd, highRead, nested, putAt, changed, withRegisters, exchanged, withMark, withHeight, withCell, withRead, withWrite, withReadValue, withWriteValue, withCode, looking, readSeven, readSevenWroteFive}
 
 -- what a definition computes, on the left, and what document 01 says of it, on the right
 pub record Cases : Type 0 where
@@ -129,27 +129,37 @@ pub record Cases : Type 0 where
   pub high-readlog : threadAt (ran highCode highPicks .state) 0 .readlog ≡ replicate 64 (pos 0)
   pub high-done : Ended (ran highCode (highPicks ++ times 5 0) .state) 0 (pos 6)
   -- ---- what each instruction leaves in its thread's record. PUSH; ADD, which frees a cell
-  pub push-record : threadAt (stepCall sevenCode (fresh sevenCode) 0 .state) 0 ≡ record { start = 5; end = 10; place = 10; height = 1; cells = front (pos 7); begin = 0; base = 0; over = 0; reads = 0; readlog = zeros; writes = 0; writelog = zeros; rule = 1; backs = 0 }
-  pub sum-record : threadAt (stepCall lowCode (ran lowCode (times 2 0) .state) 0 .state) 0 ≡ record { start = 5; end = 16; place = 16; height = 1; cells = front (pos 2147483647); begin = 0; base = 0; over = 0; reads = 0; readlog = zeros; writes = 0; writelog = zeros; rule = 2; backs = 0 }
+  pub push-record : threadAt (stepCall sevenCode (fresh sevenCode) 0 .state) 0 ≡ standing 5 10 10 1 (front (pos 7)) 0 0 noLogs 1 0
+  pub sum-record : threadAt (stepCall lowCode (ran lowCode (times 2 0) .state) 0 .state) 0 ≡ standing 5 16 16 1 (front (pos 2147483647)) 0 0 noLogs 2 0
   -- "FORK gives 0 to its own thread and starts p as the next thread number"; "the parent goes on after it"
-  pub fork-parent : threadAt (stepCall wholeCode (fresh wholeCode) 0 .state) 0 ≡ record { start = 5; end = 36; place = 20; height = 1; cells = zeros; begin = 0; base = 0; over = 0; reads = 0; readlog = zeros; writes = 0; writelog = zeros; rule = 3; backs = 0 }
-  pub fork-child : threadAt (stepCall wholeCode (fresh wholeCode) 0 .state) 1 ≡ record { start = 8; end = 20; place = 8; height = 0; cells = zeros; begin = 0; base = 0; over = 0; reads = 0; readlog = zeros; writes = 0; writelog = zeros; rule = 0; backs = 0 }
-  pub fork-next : threadAt (stepCall wholeCode oneForked 0 .state) 2 ≡ record { start = 23; end = 35; place = 23; height = 0; cells = zeros; begin = 0; base = 0; over = 0; reads = 0; readlog = zeros; writes = 0; writelog = zeros; rule = 0; backs = 0 }
+  pub fork-parent : threadAt (stepCall wholeCode (fresh wholeCode) 0 .state) 0 ≡ standing 5 36 20 1 zeros 0 0 noLogs 3 0
+  pub fork-child : threadAt (stepCall wholeCode (fresh wholeCode) 0 .state) 1 ≡ standing 8 20 8 0 zeros 0 0 noLogs 0 0
+  pub fork-next : threadAt (stepCall wholeCode oneForked 0 .state) 2 ≡ standing 23 35 23 0 zeros 0 0 noLogs 0 0
   pub fork-number : numberOf (stepCall wholeCode oneForked 0 .state .threads) ≡ 3
   -- "BEGIN: notes its place and the stack height, and empties both logs"
-  pub begin-record : threadAt (stepCall highCode (ran highCode (times 2 0) .state) 0 .state) 0 ≡ record { start = 5; end = 28; place = 23; height = 2; cells = front (pos 5); begin = 22; base = 2; over = 0; reads = 0; readlog = zeros; writes = 0; writelog = zeros; rule = 4; backs = 0 }
-  -- "READ: the value in the write log if there, else in the read log if there, else the table's, which enters the read log"
-  pub read-from-writes : threadAt (stepCall lookCode (looking readSevenWroteFive) 0 .state) 0 ≡ record { start = 5; end = 17; place = 15; height = 2; cells = second (pos 5); begin = 12; base = 1; over = 0; reads = 1; readlog = front (pos 7); writes = 1; writelog = front (pos 5); rule = 5; backs = 0 }
-  pub read-from-reads : threadAt (stepCall lookCode (looking readSeven) 0 .state) 0 ≡ record { start = 5; end = 17; place = 15; height = 2; cells = second (pos 7); begin = 12; base = 1; over = 0; reads = 1; readlog = front (pos 7); writes = 0; writelog = zeros; rule = 6; backs = 0 }
-  pub read-from-table : threadAt (stepCall lookCode (looking (λ t. t)) 0 .state) 0 ≡ record { start = 5; end = 17; place = 15; height = 2; cells = second (pos 9); begin = 12; base = 1; over = 0; reads = 1; readlog = front (pos 9); writes = 0; writelog = zeros; rule = 7; backs = 0 }
+  pub begin-record : threadAt (stepCall highCode (ran highCode (times 2 0) .state) 0 .state) 0 ≡ standing 5 28 23 2 (front (pos 5)) 22 2 noLogs 4 0
+  -- "READ: the value in the write log if there, else in the read log if there, else the table's, which enters the read log", with the table's count
+  pub read-from-writes :
+      threadAt (stepCall lookCode (looking readSevenWroteFive) 0 .state) 0 ≡
+      standing 5 17 15 2 (second (pos 5)) 12 1 (record { reads = 1; readlog = front (pos 7); readcounts = unwritten; writes = 1; writelog = front (pos 5) }) 5 0
+  pub read-from-reads :
+      threadAt (stepCall lookCode (looking readSeven) 0 .state) 0 ≡
+      standing 5 17 15 2 (second (pos 7)) 12 1 (record { reads = 1; readlog = front (pos 7); readcounts = unwritten; writes = 0; writelog = zeros }) 6 0
+  pub read-from-table :
+      threadAt (stepCall lookCode (looking (λ t. t)) 0 .state) 0 ≡
+      standing 5 17 15 2 (second (pos 9)) 12 1 (record { reads = 1; readlog = front (pos 9); readcounts = frontCounts 1; writes = 0; writelog = zeros }) 7 0
   -- "WRITE: puts the top of the stack in the write log; the top stays"; the table is as it was
-  pub write-record : threadAt (stepCall wholeCode (ran wholeCode (times 2 0 ++ times 4 1) .state) 1 .state) 1 ≡ record { start = 8; end = 20; place = 19; height = 1; cells = front (pos 1); begin = 8; base = 0; over = 0; reads = 1; readlog = zeros; writes = 1; writelog = front (pos 1); rule = 8; backs = 0 }
+  pub write-record :
+      threadAt (stepCall wholeCode (ran wholeCode (times 2 0 ++ times 4 1) .state) 1 .state) 1 ≡
+      standing 8 20 19 1 (front (pos 1)) 8 0 (record { reads = 1; readlog = zeros; readcounts = unwritten; writes = 1; writelog = front (pos 1) }) 8 0
   pub write-table : stepCall wholeCode (ran wholeCode (times 2 0 ++ times 4 1) .state) 1 .state .registers ≡ zeros
   -- COMMIT: "the write log goes into the table"; behind it logs and notes are empty
-  pub commit-record : threadAt (stepCall wholeCode (ran wholeCode (times 2 0 ++ times 5 1) .state) 1 .state) 1 ≡ record { start = 8; end = 20; place = 20; height = 1; cells = front (pos 1); begin = 0; base = 0; over = 0; reads = 0; readlog = zeros; writes = 0; writelog = zeros; rule = 9; backs = 0 }
+  pub commit-record :
+      threadAt (stepCall wholeCode (ran wholeCode (times 2 0 ++ times 5 1) .state) 1 .state) 1 ≡
+      standing 8 20 20 1 (front (pos 1)) 0 0 noLogs 9 0
   pub commit-table : stepCall wholeCode (ran wholeCode (times 2 0 ++ times 5 1) .state) 1 .state .registers ≡ front (pos 1)
   -- "With a stale one the thread is sent back: to its BEGIN, stack height as noted, logs and notes emptied"; the table is as it was
-  pub back-record : threadAt (stepCall wholeCode (ran wholeCode staleThere .state) 1 .state) 1 ≡ record { start = 8; end = 20; place = 8; height = 0; cells = zeros; begin = 0; base = 0; over = 0; reads = 0; readlog = zeros; writes = 0; writelog = zeros; rule = 10; backs = 1 }
+  pub back-record : threadAt (stepCall wholeCode (ran wholeCode staleThere .state) 1 .state) 1 ≡ standing 8 20 8 0 zeros 0 0 noLogs 10 1
   pub back-table : stepCall wholeCode (ran wholeCode staleThere .state) 1 .state .registers ≡ front (pos 1)
   -- ---- the reply of `step`, an event number after the other; a turn is "an ADD outside a transaction, a FORK, or a COMMIT that takes effect"
   pub step-0-idle : stepCall sevenCode (ran sevenCode (times 1 0) .state) 0 .reply ≡ record { refusal = 0; place = 0; event = 0; register = 0; turn = 0; over = 0 }
@@ -170,8 +180,13 @@ pub record Cases : Type 0 where
   -- "walks the registers from 0 up and stops at the first stale one": of 1 and 2, of which 2 was read first; up to 63
   pub lowest-stale : stepCall staleCode (ran staleCode (times 5 0 ++ times 5 1) .state) 0 .reply ≡ record { refusal = 0; place = 0; event = 10; register = 1; turn = 0; over = 0 }
   pub last-stale : stepCall (lastCode (pos 1)) (ran (lastCode (pos 1)) (times 3 0 ++ times 4 1) .state) 0 .reply ≡ record { refusal = 0; place = 0; event = 10; register = 63; turn = 0; over = 0 }
-  -- "A register is stale if its read log value differs from the table's": not if the same value was written
-  pub same-value : stepCall (lastCode (pos 0)) (ran (lastCode (pos 0)) (times 3 0 ++ times 4 1) .state) 0 .reply ≡ record { refusal = 0; place = 0; event = 9; register = 0; turn = 1; over = 0 }
+  -- document 02 No. 6: "stale if a commit wrote it after it entered the read log, even with an equal value"; not if that commit came before the READ
+  pub same-value :
+      stepCall (lastCode (pos 0)) (ran (lastCode (pos 0)) (times 3 0 ++ times 4 1) .state) 0 .reply ≡
+      record { refusal = 0; place = 0; event = 10; register = 63; turn = 0; over = 0 }
+  pub written-before :
+      stepCall (lastCode (pos 0)) (ran (lastCode (pos 0)) (times 1 0 ++ (times 4 1 ++ times 2 0)) .state) 0 .reply ≡
+      record { refusal = 0; place = 0; event = 9; register = 0; turn = 1; over = 0 }
   -- what such a reply says
   pub step-idle : stepSays (stepCall sevenCode (ran sevenCode (times 1 0) .state) 0 .reply) ≡ done (told idle 0)
   pub step-back : stepSays (stepCall staleCode (ran staleCode (times 5 0 ++ times 5 1) .state) 0 .reply) ≡ done (told (sentBack 1) 0)
@@ -213,28 +228,30 @@ pub record Cases : Type 0 where
   pub foreign-code : stepSays (stepCall [] noThreads 0 .reply) ≡ refused 11 0
   pub foreign-state : stepSays (stepCall sevenCode noThreads 0 .reply) ≡ refused 12 0
   -- ---- `fresh`: "thread 0 alone, at the start of the whole code, and every register 0"; its reply, and what it leaves whatever the records held
-  pub fresh-state : fresh sevenCode ≡ record { registers = zeros; threads = record { start = 5; end = 10; place = 5; height = 0; cells = zeros; begin = 0; base = 0; over = 0; reads = 0; readlog = zeros; writes = 0; writelog = zeros; rule = 0; backs = 0 } ∷ replicate 15 (record { start = 0; end = 0; place = 0; height = 0; cells = zeros; begin = 0; base = 0; over = 0; reads = 0; readlog = zeros; writes = 0; writelog = zeros; rule = 0; backs = 0 }) }
+  pub fresh-state :
+      fresh sevenCode ≡
+      record { registers = zeros; counts = unwritten; threads = standing 5 10 5 0 zeros 0 0 noLogs 0 0 ∷ replicate 15 (standing 0 0 0 0 zeros 0 0 noLogs 0 0) }
   pub fresh-reply : freshCall sevenCode noThreads .reply ≡ record { refusal = 0; place = 0 }
   pub fresh-left : freshCall sevenCode noThreads .state ≡ fresh sevenCode
   pub fresh-over : freshCall sevenCode wholeEnd .state ≡ fresh sevenCode
   pub laid-down : freshSays (freshCall sevenCode noThreads .reply) ≡ done tt
   -- "a foreign state, also where a fresh state is to be laid down"; 11 before 12
-  pub fresh-12 : freshCall sevenCode (sized 64 15) .reply ≡ record { refusal = 12; place = 0 }
-  pub fresh-12-left : freshCall sevenCode (sized 64 15) .state ≡ sized 64 15
-  pub fresh-12-records : freshCall sevenCode (sized 64 17) .reply ≡ record { refusal = 12; place = 0 }
-  pub fresh-12-registers : freshCall sevenCode (sized 63 16) .reply ≡ record { refusal = 12; place = 0 }
-  pub fresh-12-registers-65 : freshCall sevenCode (sized 65 16) .reply ≡ record { refusal = 12; place = 0 }
-  pub fresh-11 : freshCall [] (sized 64 15) .reply ≡ record { refusal = 11; place = 0 }
-  pub fresh-11-left : freshCall [] (sized 64 15) .state ≡ sized 64 15
-  pub foreign-fresh : freshSays (freshCall sevenCode (record { registers = replicate 64 (pos 0); threads = replicate 15 blank }) .reply) ≡ refused 12 0
-  pub foreign-table : freshSays (freshCall sevenCode (record { registers = replicate 63 (pos 0); threads = replicate 16 blank }) .reply) ≡ refused 12 0
+  pub fresh-12 : freshCall sevenCode (sized 64 64 15) .reply ≡ record { refusal = 12; place = 0 }
+  pub fresh-12-left : freshCall sevenCode (sized 64 64 15) .state ≡ sized 64 64 15
+  pub fresh-12-records : freshCall sevenCode (sized 64 64 17) .reply ≡ record { refusal = 12; place = 0 }
+  pub fresh-12-registers : freshCall sevenCode (sized 63 64 16) .reply ≡ record { refusal = 12; place = 0 }
+  pub fresh-12-registers-65 : freshCall sevenCode (sized 65 64 16) .reply ≡ record { refusal = 12; place = 0 }
+  pub fresh-11 : freshCall [] (sized 64 64 15) .reply ≡ record { refusal = 11; place = 0 }
+  pub fresh-11-left : freshCall [] (sized 64 64 15) .state ≡ sized 64 64 15
+  pub foreign-fresh : freshSays (freshCall sevenCode (record { registers = zeros; counts = unwritten; threads = replicate 15 blank }) .reply) ≡ refused 12 0
+  pub foreign-table : freshSays (freshCall sevenCode (record { registers = replicate 63 (pos 0); counts = unwritten; threads = replicate 16 blank }) .reply) ≡ refused 12 0
   -- ---- "A state fits its code if ..". A state that fits stands before those which differ from it in one thing and do not
   -- "A run of other than 16 records, or a table of other than 64 registers, is a foreign state"
-  pub fits-sized : fits sevenCode (sized 64 16) ≡ true
-  pub records-15 : fits sevenCode (sized 64 15) ≡ false
-  pub records-17 : fits sevenCode (sized 64 17) ≡ false
-  pub registers-63 : fits sevenCode (sized 63 16) ≡ false
-  pub registers-65 : fits sevenCode (sized 65 16) ≡ false
+  pub fits-sized : fits sevenCode (sized 64 64 16) ≡ true
+  pub records-15 : fits sevenCode (sized 64 64 15) ≡ false
+  pub records-17 : fits sevenCode (sized 64 64 17) ≡ false
+  pub registers-63 : fits sevenCode (sized 63 64 16) ≡ false
+  pub registers-65 : fits sevenCode (sized 65 64 16) ≡ false
   -- "thread 0 owns the whole code": an end before its last instruction and one behind it, a start at its second FORK, where it stands
   pub fits-fresh : fits wholeCode (fresh wholeCode) ≡ true
   pub root-end-early : fits wholeCode (changed (fresh wholeCode) 0 (withCode 5 35)) ≡ false
@@ -320,10 +337,10 @@ pub record Cases : Type 0 where
   pub unused-write : fits wholeCode (putAt bothForked 3 (withWrite 63 blank)) ≡ false
   pub unused-write-value : fits wholeCode (putAt bothForked 3 (withWriteValue 0 (negsuc 0) blank)) ≡ false
   pub unused-last : fits wholeCode (putAt bothForked 15 (withCell 63 (pos 1) blank)) ≡ false
-  -- values on the stack and in write logs are free; those of registers and read logs as far as document 02 No. 4 lets them, a COMMIT being
-  -- passed here where a read is stale; a log may mark a register which its transaction never names
+  -- values on the stack, in registers and in logs are free, by document 02 No. 6 also a read log's value other than the table's; a log may mark a
+  -- register which its transaction never names
   pub free-cells : fits wholeCode (changed bothForked 0 (λ t. withCell 0 (pos 7) (withCell 1 (negsuc 2) t))) ≡ true
   pub free-registers : fits wholeCode (withRegisters (replicate 64 (negsuc 4)) bothForked) ≡ true
-  pub free-read : fits wholeCode (changed (ran wholeCode (times 2 0 ++ (times 6 2 ++ times 2 1)) .state) 1 (withReadValue 0 (pos 9))) ≡ true
+  pub free-read : fits wholeCode (changed behindRead 1 (withReadValue 0 (pos 9))) ≡ true
   pub free-write : fits wholeCode (changed behindRead 1 (λ t. withWriteValue 5 (pos 9) (withWrite 5 t))) ≡ true
-  pub unnamed : fits wholeCode (withMark (ran wholeCode (times 2 0 ++ (times 6 2 ++ times 1 1)) .state)) ≡ true
+  pub unnamed : fits wholeCode (withMark behindBegin) ≡ true

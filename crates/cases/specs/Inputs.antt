@@ -8,7 +8,7 @@ use Rattle.script.specs.Outcome.{Outcome, done}
 use Rattle.script.specs.Jobs.{Job}
 use Rattle.code.specs.Bytes.{compiled}
 use Rattle.thread.specs.declared.Thread.{Thread}
-use Rattle.thread.specs.Threads.{blank, spawned, noted, withStack, withLogs}
+use Rattle.thread.specs.Threads.{zeros, unwritten, blank, spawned, noted, withStack, withLogs}
 use Rattle.machine.specs.Steps.{State, Ran, threadAt, fresh, run}
 use Rattle.machine.specs.Answers.{Told}
 use Rattle.stm.specs.Events.{fromTable, Event, countsOf}
@@ -156,13 +156,50 @@ front n = n ∷ replicate 63 (pos 0)
 abbrev pub second : ℤ → List ℤ
 second n = pos 0 ∷ n ∷ replicate 62 (pos 0)
 
+-- 64 counts: n, then 0
+abbrev pub frontCounts : ℕ → List ℕ
+frontCounts n = n ∷ replicate 63 0
+
+-- what a record's two logs hold
+pub record Logs : Type 0 where
+  pub reads : ℕ
+  pub readlog : List ℤ
+  pub readcounts : List ℕ
+  pub writes : ℕ
+  pub writelog : List ℤ
+
+-- both empty
+abbrev pub noLogs : Logs
+noLogs = record { reads = 0; readlog = zeros; readcounts = unwritten; writes = 0; writelog = zeros }
+
+-- a record that has noted no sum outside the range: its own code and place, its stack, its BEGIN's notes, its logs, its last rule and send-backs
+abbrev pub standing : (start end place height : ℕ) (cells : List ℤ) (begin base : ℕ) → Logs → (rule backs : ℕ) → Thread
+standing start end place height cells begin base logs rule backs =
+    record {
+      start = start;
+      end = end;
+      place = place;
+      height = height;
+      cells = cells;
+      begin = begin;
+      base = base;
+      over = 0;
+      reads = logs .reads;
+      readlog = logs .readlog;
+      readcounts = logs .readcounts;
+      writes = logs .writes;
+      writelog = logs .writelog;
+      rule = rule;
+      backs = backs;
+    }
+
 -- no record of a thread
 abbrev pub noThreads : State
-noThreads = record { registers = replicate 64 (pos 0); threads = replicate 16 blank }
+noThreads = record { registers = zeros; counts = unwritten; threads = replicate 16 blank }
 
--- a state of so many registers and records, thread 0 as in the fresh state of sevenCode
-abbrev pub sized : (registers records : ℕ) → State
-sized r n = record { registers = replicate r (pos 0); threads = set (replicate n blank) 0 (spawned 5 10) }
+-- a state of so many registers, counts and records, thread 0 as in the fresh state of sevenCode
+abbrev pub sized : (registers counts records : ℕ) → State
+sized r c n = record { registers = replicate r (pos 0); counts = replicate c 0; threads = set (replicate n blank) 0 (spawned 5 10) }
 
 -- the whole case: the first FORK passed; both; thread 1 then behind BEGIN, behind READ, behind COMMIT; the last pick done
 abbrev pub oneForked : State
@@ -199,7 +236,7 @@ nested = ran nestCode nestPicks .state
 -- ---- one thing changed in a state
 -- thread i's record is t
 abbrev pub putAt : State → ℕ → Thread → State
-putAt s i t = record { registers = s .registers; threads = set (s .threads) i t }
+putAt s i t = record { registers = s .registers; counts = s .counts; threads = set (s .threads) i t }
 
 -- thread i's record is changed
 abbrev pub changed : State → ℕ → (Thread → Thread) → State
@@ -207,15 +244,19 @@ changed s i f = putAt s i (f (threadAt s i))
 
 -- the registers are changed
 abbrev pub withRegisters : List ℤ → State → State
-withRegisters registers s = record { registers = registers; threads = s .threads }
+withRegisters registers s = record { registers = registers; counts = s .counts; threads = s .threads }
+
+-- the table's counts are changed
+abbrev pub withCounts : List ℕ → State → State
+withCounts counts s = record { registers = s .registers; counts = counts; threads = s .threads }
 
 -- threads 1 and 2 exchanged
 abbrev pub exchanged : State → State
 exchanged s = putAt (putAt s 1 (threadAt s 2)) 2 (threadAt s 1)
 
--- thread 1's read log marks register 63, with the value 9
+-- thread 1's read log marks register 63, with the value 9 and the count 0
 abbrev pub withMark : State → State
-withMark s = changed s 1 (noted fromTable 63 (pos 9))
+withMark s = changed s 1 (noted fromTable 63 (pos 9) 0)
 
 -- another height, the cells as they are
 abbrev pub withHeight : ℕ → Thread → Thread
@@ -225,21 +266,25 @@ withHeight height t = withStack height (t .cells) t
 abbrev pub withCell : ℕ → ℤ → Thread → Thread
 withCell cell n t = withStack (t .height) (set (t .cells) cell n) t
 
--- register v marked besides, the values as they are: in the read log, in the write log
+-- register v marked besides, the values and counts as they are: in the read log, in the write log
 abbrev pub withRead : ℕ → Thread → Thread
-withRead v t = withLogs (with (t .reads) v) (t .readlog) (t .writes) (t .writelog) t
+withRead v t = withLogs (with (t .reads) v) (t .readlog) (t .readcounts) (t .writes) (t .writelog) t
 
 -- the same in the write log
 abbrev pub withWrite : ℕ → Thread → Thread
-withWrite v t = withLogs (t .reads) (t .readlog) (with (t .writes) v) (t .writelog) t
+withWrite v t = withLogs (t .reads) (t .readlog) (t .readcounts) (with (t .writes) v) (t .writelog) t
 
--- another value of register v, the marks as they are: in the read log, in the write log
+-- another value of register v, the marks and counts as they are: in the read log, in the write log
 abbrev pub withReadValue : ℕ → ℤ → Thread → Thread
-withReadValue v n t = withLogs (t .reads) (set (t .readlog) v n) (t .writes) (t .writelog) t
+withReadValue v n t = withLogs (t .reads) (set (t .readlog) v n) (t .readcounts) (t .writes) (t .writelog) t
 
 -- the same in the write log
 abbrev pub withWriteValue : ℕ → ℤ → Thread → Thread
-withWriteValue v n t = withLogs (t .reads) (t .readlog) (t .writes) (set (t .writelog) v n) t
+withWriteValue v n t = withLogs (t .reads) (t .readlog) (t .readcounts) (t .writes) (set (t .writelog) v n) t
+
+-- another count of register v in the read log, the marks and values as they are
+abbrev pub withReadCount : (v count : ℕ) → Thread → Thread
+withReadCount v count t = withLogs (t .reads) (t .readlog) (set (t .readcounts) v count) (t .writes) (t .writelog) t
 
 -- another own code
 abbrev pub withCode : (start end : ℕ) → Thread → Thread
@@ -255,17 +300,18 @@ withCode start end t =
       over = t .over;
       reads = t .reads;
       readlog = t .readlog;
+      readcounts = t .readcounts;
       writes = t .writes;
       writelog = t .writelog;
       rule = t .rule;
       backs = t .backs;
     }
 
--- lookCode behind its second BEGIN with 9 in register 0, its logs being changed
+-- lookCode behind its second BEGIN, one COMMIT being passed, with 9 in register 0 and its count 1, its logs being changed
 abbrev pub looking : (Thread → Thread) → State
-looking f = withRegisters (front (pos 9)) (changed (ran lookCode (times 4 0) .state) 0 f)
+looking f = withCounts (frontCounts 1) (withRegisters (front (pos 9)) (changed (ran lookCode (times 4 0) .state) 0 f))
 
--- 7 in the read log; 7 in the read log and 5 in the write log
+-- 7 in the read log, with the count 0
 abbrev pub readSeven : Thread → Thread
 readSeven t = withReadValue 0 (pos 7) (withRead 0 t)
 

@@ -283,7 +283,7 @@ pub record CallRefusals : Type 0 where
   pub code-forks-16 : readCode (codeFor (Fork (fiveForks (fiveForks (fiveForks (ValP (pos 1))))))) ≡ refused 11 0
   pub code-nodes-1000 : readCode (codeFor (fourAnd part)) ≡ accepted (fourAnd part)
   pub code-nodes-1001 : readCode (codeFor (fourAnd (Write 0 part))) ≡ refused 11 0
-  -- ---- 12, "does not fit the code", at 0: its rows stand in Cases, Overflows and Rules; before 13: `run-12` in Cases
+  -- ---- 12, "does not fit the code", at 0: its rows stand in Cases, Overflows, Rules and Staleness; before 13: `run-12` in Cases
   -- ---- 13, "more than 32,768 picks", at 0 (32,768, 32,769, and behind 11 and 12: Cases)
   -- the run program: 32,769 picks behind a job, behind a job without its mark, and behind one with 201 nodes in a transaction
   pub long-listing : listed (0x00 ∷ 0x0C ∷ (seven ++ times 32769 0)) ≡ ascii "refused 13 at 0\n"

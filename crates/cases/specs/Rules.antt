@@ -6,7 +6,7 @@ use mathlib.Core.List.{List, [], _∷_, _++_}
 use mathlib.Core.Option.{Option, none, some}
 use lib.IntN.{ℤ, pos}
 use lib.ListN.{replicate}
-use Rattle.cases.specs.Inputs.{codeFor, sevenCode, lookCode, wholeCode, wholePicks, staleThere, times, ran, front, putAt, changed, withRegisters, bothForked, behindRead, behindCommit, wholeEnd}
+use Rattle.cases.specs.Inputs.{codeFor, sevenCode, lookCode, wholeCode, wholePicks, staleThere, times, ran, front, frontCounts, putAt, changed, withRegisters, withCounts, withReadCount, bothForked, behindRead, behindCommit, wholeEnd}
 use Rattle.machine.specs.Answers.{ruleNamed, stepSays, stepCall, runCall, backsOf}
 use Rattle.machine.specs.FitTest.{fits}
 use Rattle.machine.specs.Steps.{State, threadAt, fresh}
@@ -14,7 +14,7 @@ use Rattle.script.specs.Outcome.{Outcome, refused, done}
 use Rattle.script.specs.Tree.{AddP, Atomic, Fork, ValT, AddT, Read, Write}
 use Rattle.stm.specs.Events.{Happened}
 use Rattle.stm.specs.Rules.{MachineRule, push, sum, fork, begin, readFromWriteLog, readFromReadLog, readFromTable, write, commit, sentBackWith, usedBy, ruleOfNumber, lastRule}
-use Rattle.thread.specs.Threads.{blank, withRule}
+use Rattle.thread.specs.Threads.{zeros, unwritten, blank, withRule}
 use Rattle.thread.specs.declared.Thread.{Thread}
 
 -- the rules of picks, one after the other
@@ -77,9 +77,13 @@ backed s i n = changed s i (withBacks n)
 abbrev pub readStale : State
 readStale = ran wholeCode (times 2 0 ++ (times 2 1 ++ times 6 2)) .state
 
--- and register 0 put back to 0: no read is stale
-abbrev pub putBack : State
-putBack = withRegisters (replicate 64 (pos 0)) readStale
+-- and register 0's value put back to 0, its count as it is: the read is stale by document 02 No. 6
+abbrev pub valueBack : State
+valueBack = withRegisters zeros readStale
+
+-- and register 0's count put back to 0, its value as it is: no read is stale
+abbrev pub countBack : State
+countBack = withCounts unwritten readStale
 
 -- the rules of picks, of answers and of records, on the left, and what document 02 No. 4 says of them, on the right
 pub record RuleCases : Type 0 where
@@ -114,8 +118,9 @@ pub record RuleCases : Type 0 where
   pub ended-named : namedAfter wholePicks 1 ≡ done none
   pub missing-named : namedAfter [] 1 ≡ done none
   pub far-named : namedAfter [] 200 ≡ done none
-  -- a refused step names none of them
-  pub refused-named : ruleNamed (stepCall wholeCode (withRegisters (front (pos 9)) behindRead) 1 .reply) ≡ refused 12 0
+  -- a refused step names none of them: a count above the COMMITs passed; with another value it is not refused
+  pub refused-named : ruleNamed (stepCall wholeCode (withCounts (frontCounts 1) behindRead) 1 .reply) ≡ refused 12 0
+  pub other-value-named : ruleNamed (stepCall wholeCode (withRegisters (front (pos 9)) behindRead) 1 .reply) ≡ done (some push)
   -- the three sources of READ
   pub reads-rules :
       rulesOf (ran readsCode (times 10 0) .events) ≡
@@ -173,16 +178,22 @@ pub record TallyCases : Type 0 where
   pub own-above-two : fits lookCode (backed (ran lookCode (times 7 0) .state) 0 3) ≡ false
   -- a thread that was sent back has passed no COMMIT by it
   pub not-passed-back : fits wholeCode (backed (ran wholeCode sentBackThere .state) 1 2) ≡ false
-  -- "or equal to it while that thread's open transaction has a stale read": no COMMIT passed and a stale read is 12
-  pub stale-none-passed : fits wholeCode (withRegisters (front (pos 9)) behindRead) ≡ false
-  pub stale-none-step : stepSays (stepCall wholeCode (withRegisters (front (pos 9)) behindRead) 1 .reply) ≡ refused 12 0
-  pub stale-none-left : stepCall wholeCode (withRegisters (front (pos 9)) behindRead) 1 .state ≡ withRegisters (front (pos 9)) behindRead
+  -- "or equal to it while that thread's open transaction has a stale read": where no COMMIT is passed a stale read needs a count that is foreign
+  -- itself, so both grounds hold
+  pub stale-none-passed : fits wholeCode (withCounts (frontCounts 1) behindRead) ≡ false
+  pub stale-none-step : stepSays (stepCall wholeCode (withCounts (frontCounts 1) behindRead) 1 .reply) ≡ refused 12 0
+  pub stale-none-left : stepCall wholeCode (withCounts (frontCounts 1) behindRead) 1 .state ≡ withCounts (frontCounts 1) behindRead
+  -- by document 02 No. 6 a register with another value and the logged count is not stale, nor is one that was not read
+  pub other-value : fits wholeCode (withRegisters (front (pos 9)) behindRead) ≡ true
   pub other-register : fits wholeCode (withRegisters (pos 0 ∷ pos 9 ∷ replicate 62 (pos 0)) behindRead) ≡ true
-  -- one passed: 0 fits with a stale read, 1 does not; without one 1 does
+  -- one passed: 0 fits with a stale read, 1 does not, also with the value that was read; without a stale read 1 does, 2 does not
   pub stale-below : fits wholeCode readStale ≡ true
   pub stale-equal : fits wholeCode (backed readStale 1 1) ≡ false
-  pub unstale-equal : fits wholeCode (backed putBack 1 1) ≡ true
-  pub unstale-above : fits wholeCode (backed putBack 1 2) ≡ false
+  pub value-back-below : fits wholeCode valueBack ≡ true
+  pub value-back-equal : fits wholeCode (backed valueBack 1 1) ≡ false
+  pub unstale-equal : fits wholeCode (backed countBack 1 1) ≡ true
+  pub unstale-above : fits wholeCode (backed countBack 1 2) ≡ false
+  pub count-logged : fits wholeCode (backed (changed readStale 1 (withReadCount 0 1)) 1 1) ≡ true
   -- it is that thread's own transaction: thread 0 has none, thread 2 has ended
   pub stale-of-another : fits wholeCode (backed readStale 0 1) ≡ true
   pub stale-of-another-ended : fits wholeCode (backed readStale 2 1) ≡ true

@@ -19,7 +19,7 @@ use Rattle.machine.specs.declared.FreshReply.{FreshReply}
 use Rattle.progress.specs.InnerProgress.{freshRefusalOf, freshReplyOf, unlessOf}
 use Rattle.script.specs.Jobs.{Job}
 use Rattle.script.specs.Outcome.{Outcome, refused, done, onward, refuse}
-use Rattle.engine.specs.InnerEngine.{leastOf, overwritten, recordOf, laid, cleared}
+use Rattle.engine.specs.InnerEngine.{leastOf, overwritten, recordOf, laid, cleared, forgotten}
 
 -- a thread whose code is from 0 to 0 is none
 pub unspawned : spawned 0 0 ≡ blank
@@ -125,44 +125,54 @@ pub cleared-none : (rs : List ℤ) → cleared 0 rs ≡ rs
 unfolding cleared
 cleared-none rs = overwritten-none (λ _. pos 0) rs
 
--- both loops together make 64 registers and 16 records the fresh state
-pub makes-fresh : (code : List ℕ) (rs : List ℤ) (ts : List Thread) → length rs ≡ 64 → length ts ≡ 16 → stateFrom (cleared 64 rs) (laid (length code) 16 ts) ≡ fresh code
-unfolding fresh
-makes-fresh code rs ts h k =
-    ap (λ (l : List ℤ). stateFrom l (laid (length code) 16 ts)) (cleared-all rs h) ∙ ap (stateFrom (replicate 64 (pos 0))) (laid-all (length code) ts k)
+-- the same of the counts
+pub forgotten-all : (ns : List ℕ) → length ns ≡ 64 → forgotten 64 ns ≡ replicate 64 0
+unfolding forgotten
+forgotten-all ns h = overwritten-all (λ _. 0) 0 64 0 ns (λ k l. refl) h
 
-module _ (code : List ℕ) (rs : List ℤ) (ts : List Thread) where
+pub forgotten-none : (ns : List ℕ) → forgotten 0 ns ≡ ns
+unfolding forgotten
+forgotten-none ns = overwritten-none (λ _. 0) ns
+
+-- the loops together make 64 registers, 64 counts and 16 records the fresh state
+pub makes-fresh : (code : List ℕ) (rs : List ℤ) (ns : List ℕ) (ts : List Thread) → length rs ≡ 64 → length ns ≡ 64 → length ts ≡ 16 → stateFrom (cleared 64 rs) (forgotten 64 ns) (laid (length code) 16 ts) ≡ fresh code
+unfolding fresh
+makes-fresh code rs ns ts h m k =
+    ap (λ (l : List ℤ). stateFrom l (forgotten 64 ns) (laid (length code) 16 ts)) (cleared-all rs h)
+    ∙ (ap (λ (l : List ℕ). stateFrom (replicate 64 (pos 0)) l (laid (length code) 16 ts)) (forgotten-all ns m) ∙ ap (stateFrom (replicate 64 (pos 0)) (replicate 64 0)) (laid-all (length code) ts k))
+
+module _ (code : List ℕ) (rs : List ℤ) (ns : List ℕ) (ts : List Thread) where
   -- laying down by a refusal
   abbrev by : ℕ → Returned FreshReply
-  by k = answered (cleared (unlessOf k 64) rs) (laid (length code) (unlessOf k 16) ts) (freshReplyOf k)
+  by k = answered (cleared (unlessOf k 64) rs) (forgotten (unlessOf k 64) ns) (laid (length code) (unlessOf k 16) ts) (freshReplyOf k)
 
   -- the call, by what the code is
   abbrev called : Outcome Job → Returned FreshReply
-  called o = returned (λ (r : State). r) freshReply (stateFrom rs ts) (onward o (λ (j : Job). rightLengths (stateFrom rs ts) (done (fresh code))))
+  called o = returned (λ (r : State). r) freshReply (stateFrom rs ns ts) (onward o (λ (j : Job). rightLengths (stateFrom rs ns ts) (done (fresh code))))
 
   -- a refusal lays nothing down
-  kept : (k : ℕ) → unlessOf k 64 ≡ 0 → unlessOf k 16 ≡ 0 → by k ≡ answered rs ts (freshReplyOf k)
+  kept : (k : ℕ) → unlessOf k 64 ≡ 0 → unlessOf k 16 ≡ 0 → by k ≡ answered rs ns ts (freshReplyOf k)
   kept k a b =
-      ap (λ (n : ℕ). answered (cleared n rs) (laid (length code) (unlessOf k 16) ts) (freshReplyOf k)) a ∙ ap (λ (n : ℕ). answered (cleared 0 rs) (laid (length code) n ts) (freshReplyOf k)) b
-      ∙ ap (λ (l : List ℤ). answered l (laid (length code) 0 ts) (freshReplyOf k)) (cleared-none rs) ∙ ap (λ (l : List Thread). answered rs l (freshReplyOf k)) (laid-none (length code) ts)
+      ap (λ (n : ℕ). answered (cleared n rs) (forgotten n ns) (laid (length code) (unlessOf k 16) ts) (freshReplyOf k)) a ∙ ap (λ (n : ℕ). answered (cleared 0 rs) (forgotten 0 ns) (laid (length code) n ts) (freshReplyOf k)) b
+      ∙ ap (λ (l : List ℤ). answered l (forgotten 0 ns) (laid (length code) 0 ts) (freshReplyOf k)) (cleared-none rs) ∙ ap (λ (l : List ℕ). answered rs l (laid (length code) 0 ts) (freshReplyOf k)) (forgotten-none ns) ∙ ap (λ (l : List Thread). answered rs ns l (freshReplyOf k)) (laid-none (length code) ts)
 
-  -- of an accepted job's code, by the two tests
-  by-tests : (t u : Bool) → eqb (length ts) 16 ≡ t → eqb (length rs) 64 ≡ u
-      → by (cond t (cond u 0 12) 12) ≡ returned (λ (r : State). r) freshReply (stateFrom rs ts) (refuse (not (t && u)) 12 0 (done (fresh code)))
+  -- of an accepted job's code, by the three tests
+  by-tests : (t u v : Bool) → eqb (length ts) 16 ≡ t → eqb (length rs) 64 ≡ u → eqb (length ns) 64 ≡ v
+      → by (cond t (cond u (cond v 0 12) 12) 12) ≡ returned (λ (r : State). r) freshReply (stateFrom rs ns ts) (refuse (not (t && (u && v))) 12 0 (done (fresh code)))
   unfolding unlessOf
-  by-tests true true e f = ap (λ (z : State). record { state = z; reply = freshReplyOf 0 }) (makes-fresh code rs ts (eqb-true (length rs) 64 f) (eqb-true (length ts) 16 e))
-  by-tests true false e f = kept 12 refl refl
-  by-tests false true e f = kept 12 refl refl
-  by-tests false false e f = kept 12 refl refl
+  by-tests true true true e f g = ap (λ (z : State). record { state = z; reply = freshReplyOf 0 }) (makes-fresh code rs ns ts (eqb-true (length rs) 64 f) (eqb-true (length ns) 64 g) (eqb-true (length ts) 16 e))
+  by-tests true true false e f g = kept 12 refl refl
+  by-tests true false v e f g = kept 12 refl refl
+  by-tests false u v e f g = kept 12 refl refl
 
-  by-code : (o : Outcome Job) → ((n p : ℕ) → o ≡ refused n p → (n ≡ 11) × (p ≡ 0)) → by (freshRefusalOf o (length rs) (length ts)) ≡ called o
+  by-code : (o : Outcome Job) → ((n p : ℕ) → o ≡ refused n p → (n ≡ 11) × (p ≡ 0)) → by (freshRefusalOf o (length rs) (length ns) (length ts)) ≡ called o
   unfolding freshRefusalOf unlessOf
   by-code (refused n p) only =
       let o = only n p refl in
-      kept 11 refl refl ∙ ap (λ (m : ℕ). answered rs ts (record { refusal = m; place = 0 })) (sym (o .0)) ∙ ap (λ (q : ℕ). answered rs ts (record { refusal = n; place = q })) (sym (o .1))
-  by-code (done j) only = by-tests (eqb (length ts) 16) (eqb (length rs) 64) refl refl
+      kept 11 refl refl ∙ ap (λ (m : ℕ). answered rs ns ts (record { refusal = m; place = 0 })) (sym (o .0)) ∙ ap (λ (q : ℕ). answered rs ns ts (record { refusal = n; place = q })) (sym (o .1))
+  by-code (done j) only = by-tests (eqb (length ts) 16) (eqb (length rs) 64) (eqb (length ns) 64) refl refl refl
 
-  -- both loops, as far as the refusal lets them, are the call
-  pub fresh-by-value : by (freshRefusalOf (readCode code) (length rs) (length ts)) ≡ freshCall code (stateFrom rs ts)
+  -- the loops, as far as the refusal lets them, are the call
+  pub fresh-by-value : by (freshRefusalOf (readCode code) (length rs) (length ns) (length ts)) ≡ freshCall code (stateFrom rs ns ts)
   unfolding freshCall freshOf
   fresh-by-value = by-code (readCode code) (only-foreign code)

@@ -5,3 +5,4 @@ pub mod Relend
 pub mod Rows
 pub mod Told
 pub mod Within
+pub mod Literal

@@ -66,6 +66,17 @@ module _ (R : RattleType) (κ ν : Lft) (q : Share) (γ : GName) (b o : ℕ) (ys
         move ! (1 ∷ []) $ fsplit ! $ move ! (2 ∷ 3 ∷ 0 ∷ 1 ∷ []) $ closes-slice ! tt R ys ys refl b o $ at-once ! $
         fjoin ! $ pureI ! (at-slice R (list γ) counted) (tt, (tt, tt)) (refl, room) $ fjoin ! $ done !
 
+    -- lent on to be read, at a count
+    pub share-on-at : (n : ℕ) → length ys ≡ n
+        → ent 𝓤 (sep 𝓤 (sem 𝓤 H A (MutSlice ℓ κ R .own (list γ) (sliceVal (b, o) n ∷ []))) (A .lft κ q)) (H .⇛ (ex 𝓤 (λ (δ : GName). sep 𝓤 (sem 𝓤 H A (ShrSlice ℓ′ ν R .own (list δ) (sliceVal (b, o) n ∷ []))) (sem 𝓤 H A Parked))))
+    share-on-at n e =
+        subst (λ (m : ℕ). ent 𝓤 (sep 𝓤 (sem 𝓤 H A (MutSlice ℓ κ R .own (list γ) (sliceVal (b, o) m ∷ []))) (A .lft κ q)) (H .⇛ (ex 𝓤 (λ (δ : GName). sep 𝓤 (sem 𝓤 H A (ShrSlice ℓ′ ν R .own (list δ) (sliceVal (b, o) m ∷ []))) (sem 𝓤 H A Parked))))) e share-on
+
+    -- and back, at a count
+    pub share-back-at : (n : ℕ) → length ys ≡ n → Room R n → ent 𝓤 (sep 𝓤 (A .dead ν) (sem 𝓤 H A Parked)) (H .⇛ (sep 𝓤 (sem 𝓤 H A (MutSlice ℓ κ R .own (list γ) (sliceVal (b, o) n ∷ []))) (A .lft κ q)))
+    share-back-at n e room =
+        subst (λ (m : ℕ). ent 𝓤 (sep 𝓤 (A .dead ν) (sem 𝓤 H A Parked)) (H .⇛ (sep 𝓤 (sem 𝓤 H A (MutSlice ℓ κ R .own (list γ) (sliceVal (b, o) m ∷ []))) (A .lft κ q)))) e (share-back (subst (Room R) (sym e) room))
+
 module _ {M : Type 1} (𝓤 : URA M) (H : Heap 𝓤) (A : Atoms 𝓤) (W : Given 𝓤 H A) (R : RattleType) (n : ℕ) (ν : Lft) (l : ℕ) (ys : List (R .Denot)) where
   -- the local's array by its name
   abbrev there : GName → RefT (List (R .Denot))

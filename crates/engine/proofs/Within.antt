@@ -33,9 +33,9 @@ by-refusal cd s n c y = go (eqb (refusalOf (readCode cd) (fits cd s) n) 0) refl
     go false e = (omega arith, λ h. omega (arith, h))
 
 -- by the survey of the records
-pub within : (cd : List ℕ) (rs : List ℤ) (ys : List Thread) (n : ℕ) (v : Survey) → v ≡ surveyOf rs ys → Bytes cd → Typed (stateFrom rs ys)
-    → (admittedTo (readCode cd) (surveyFits v cd (length rs) 0) (v .count) n .limit ≤ n) × (0 < admittedTo (readCode cd) (surveyFits v cd (length rs) 0) (v .count) n .limit → length ys ≡ 16)
-within cd rs ys n v e b y = subst (λ (p : Progress). (p .limit ≤ n) × (0 < p .limit → length ys ≡ 16)) (sym same) (by-refusal cd (stateFrom rs ys) n (surveyOf rs ys .count) y)
+pub within : (cd : List ℕ) (rs : List ℤ) (ns : List ℕ) (ys : List Thread) (n : ℕ) (v : Survey) → v ≡ surveyOf ns ys → Bytes cd → Typed (stateFrom rs ns ys)
+    → (admittedTo (readCode cd) (surveyFits v cd (length rs) ns 0) (v .count) n .limit ≤ n) × (0 < admittedTo (readCode cd) (surveyFits v cd (length rs) ns 0) (v .count) n .limit → length ys ≡ 16)
+within cd rs ns ys n v e b y = subst (λ (p : Progress). (p .limit ≤ n) × (0 < p .limit → length ys ≡ 16)) (sym same) (by-refusal cd (stateFrom rs ns ys) n (surveyOf ns ys .count) y)
   where
-    same : admittedTo (readCode cd) (surveyFits v cd (length rs) 0) (v .count) n ≡ beginning (refusalOf (readCode cd) (fits cd (stateFrom rs ys)) n) (surveyOf rs ys .count) n
-    same = ap (λ (u : Survey). admittedTo (readCode cd) (surveyFits u cd (length rs) 0) (u .count) n) e ∙ ap (λ (r : ℕ). beginning r (surveyOf rs ys .count) n) (same-refusal cd (stateFrom rs ys) n b)
+    same : admittedTo (readCode cd) (surveyFits v cd (length rs) ns 0) (v .count) n ≡ beginning (refusalOf (readCode cd) (fits cd (stateFrom rs ns ys)) n) (surveyOf ns ys .count) n
+    same = ap (λ (u : Survey). admittedTo (readCode cd) (surveyFits u cd (length rs) ns 0) (u .count) n) e ∙ ap (λ (r : ℕ). beginning r (surveyOf ns ys .count) n) (same-refusal cd (stateFrom rs ns ys) n b)

@@ -20,8 +20,8 @@ use Rattle.code.specs.Reader.{readCode}
 use Rattle.script.specs.Bytes.{Bytes}
 
 -- what is known of the records once they were gathered: their survey, and what each record has by its type
-pub record Gathered (table : List ℤ) (ts : List Thread) (r : Survey) : Type 0 where
-  pub survey : r ≡ surveyOf table ts
+pub record Gathered (counts : List ℕ) (ts : List Thread) (r : Survey) : Type 0 where
+  pub survey : r ≡ surveyOf counts ts
   pub typed : (i : ℕ) → TypedThread (getD ts i blank)
   pub ranged : (i : ℕ) → RangedThread (getD ts i blank)
 
@@ -47,11 +47,15 @@ laid end limit ts = overwritten (λ i. recordOf i end) limit 0 ts
 unfoldable pub cleared : (limit : ℕ) → List ℤ → List ℤ
 cleared limit rs = overwritten (λ _. pos 0) limit 0 rs
 
+-- the counts with the first `limit` of them 0
+unfoldable pub forgotten : (limit : ℕ) → List ℕ → List ℕ
+forgotten limit ns = overwritten (λ _. 0) limit 0 ns
+
 -- a state with what is carried from pick to pick
-abbrev pub drove : List ℤ → List Thread → Progress → Driven
-drove rs ts p = record { state = stateFrom rs ts; progress = p }
+abbrev pub drove : List ℤ → List ℕ → List Thread → Progress → Driven
+drove rs ns ts p = record { state = stateFrom rs ns ts; progress = p }
 
 -- with what a call begins, and that its code is of bytes
-pub record Admitted (code : List ℕ) (survey : Survey) (registers picks : ℕ) (r : Progress) : Type 0 where
-  pub progress : r ≡ admittedTo (readCode code) (surveyFits survey code registers 0) (survey .count) picks
+pub record Admitted (code : List ℕ) (survey : Survey) (registers : ℕ) (counts : List ℕ) (picks : ℕ) (r : Progress) : Type 0 where
+  pub progress : r ≡ admittedTo (readCode code) (surveyFits survey code registers counts 0) (survey .count) picks
   pub bytes : Bytes code

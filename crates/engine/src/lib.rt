@@ -4,10 +4,11 @@ ghost use mathlib.Core.Bool.{cond, true};
 ghost use mathlib.Core.Path.{_≡_};
 ghost use lib.Dec.{ltb};
 ghost use lib.ListN.{getD, length};
-ghost use Rattle.engine.specs.InnerEngine.{Admitted, Gathered, cleared, drove, laid, recordOf};
+ghost use Rattle.engine.specs.InnerEngine.{Admitted, Gathered, cleared, drove, forgotten, laid, recordOf};
 ghost use Rattle.machine.specs.Answers.{answered, freshCall, runCall, stepCall};
 ghost use Rattle.machine.specs.Steps.{stateFrom};
 ghost use Rattle.progress.specs.InnerProgress.{driven, drivenBy, pickedBy, plainPick, whichOf};
+ghost use Rattle.thread.specs.InnerStep.{tableFrom};
 ghost use Rattle.thread.specs.Threads.{blank, spawned};
 
 // The lesser of two numbers.
@@ -35,6 +36,7 @@ pub fn spawned(start: usize, end: usize) -> thread::Thread
         over: 0,
         reads: 0,
         readlog: [0; 64],
+        readcounts: [0; 64],
         writes: 0,
         writelog: [0; 64],
         rule: 0,
@@ -52,15 +54,15 @@ fn record_of(i: usize, end: usize) -> thread::Thread
     spawned(0, 0)
 }
 
-// The survey of all records; the registers say which of them have a stale read.
-fn gather(threads: &[thread::Thread], registers: &[i32]) -> survey::Survey
-    ensures { λ r. ⌜ Gathered (now (registers .entry)) (now (threads .entry)) r ⌝ }
+// The survey of all records; the counts say which of them have a stale read.
+fn gather(threads: &[thread::Thread], counts: &[u32]) -> survey::Survey
+    ensures { λ r. ⌜ Gathered (now (counts .entry)) (now (threads .entry)) r ⌝ }
 {
     let mut s = survey::Survey::start();
     let mut i: usize = 0;
     while i < threads.len() {
         let t = threads[i];
-        s = s.with(t, registers);
+        s = s.with(t, counts);
         i += 1;
     }
     s
@@ -90,20 +92,33 @@ fn clear(registers: &mut [i32], limit: usize)
     }
 }
 
+// The first `limit` counts become 0, as far as there are so many.
+fn forget(counts: &mut [u32], limit: usize)
+    ensures { λ _. ⌜ now (counts .exit) ≡ forgotten limit (now (counts .entry)) ⌝ }
+{
+    let n = least(limit, counts.len());
+    let mut i: usize = 0;
+    while i < n {
+        counts[i] = 0;
+        i += 1;
+    }
+}
+
 // Any pick: its record is taken out, stepped by value and put back; a forked child's record takes its seat.
 fn full(
     code: &[u8],
     registers: &mut [i32],
+    counts: &mut [u32],
     threads: &mut [thread::Thread],
     pick: u8,
     p: progress::Progress,
 ) -> progress::Progress
     requires { ⌜ whichOf pick < length (now threads) ⌝ }
-    ensures { λ r. ⌜ drove (now (registers .exit)) (now (threads .exit)) r ≡ drivenBy (stateFrom (now (registers .entry)) (now (threads .entry))) (whichOf pick) (pickedBy (now (code .entry)) (now (registers .entry)) pick (getD (now (threads .entry)) (whichOf pick) blank) p) ⌝ }
+    ensures { λ r. ⌜ drove (now (registers .exit)) (now (counts .exit)) (now (threads .exit)) r ≡ drivenBy (stateFrom (now (registers .entry)) (now (counts .entry)) (now (threads .entry))) (whichOf pick) (pickedBy (now (code .entry)) (tableFrom (now (registers .entry)) (now (counts .entry))) pick (getD (now (threads .entry)) (whichOf pick) blank) p) ⌝ }
 {
     let who = progress::which(pick);
     let t = threads[who];
-    let out = progress::perform(t, code, registers, pick, p);
+    let out = progress::perform(t, code, registers, counts, pick, p);
     threads[who] = out.thread;
     let seat = out.seat;
     if seat < threads.len() {
@@ -116,16 +131,17 @@ fn full(
 fn brief(
     code: &[u8],
     registers: &mut [i32],
+    counts: &mut [u32],
     threads: &mut [thread::Thread],
     pick: u8,
     p: progress::Progress,
 ) -> progress::Progress
     requires { ⌜ (whichOf pick < length (now threads)) × (plainPick (now code) pick (getD (now threads) (whichOf pick) blank) ≡ true) ⌝ }
-    ensures { λ r. ⌜ drove (now (registers .exit)) (now (threads .exit)) r ≡ drivenBy (stateFrom (now (registers .entry)) (now (threads .entry))) (whichOf pick) (pickedBy (now (code .entry)) (now (registers .entry)) pick (getD (now (threads .entry)) (whichOf pick) blank) p) ⌝ }
+    ensures { λ r. ⌜ drove (now (registers .exit)) (now (counts .exit)) (now (threads .exit)) r ≡ drivenBy (stateFrom (now (registers .entry)) (now (counts .entry)) (now (threads .entry))) (whichOf pick) (pickedBy (now (code .entry)) (tableFrom (now (registers .entry)) (now (counts .entry))) pick (getD (now (threads .entry)) (whichOf pick) blank) p) ⌝ }
 {
     let who = progress::which(pick);
     let t = threads[who];
-    let out = progress::plain(t, code, registers, pick, p);
+    let out = progress::plain(t, code, registers, counts, pick, p);
     threads[who] = out.thread;
     let seat = out.seat;
     if seat < threads.len() {
@@ -138,19 +154,20 @@ fn brief(
 fn turn(
     code: &[u8],
     registers: &mut [i32],
+    counts: &mut [u32],
     threads: &mut [thread::Thread],
     pick: u8,
     p: progress::Progress,
 ) -> progress::Progress
     requires { ⌜ whichOf pick < length (now threads) ⌝ }
-    ensures { λ r. ⌜ drove (now (registers .exit)) (now (threads .exit)) r ≡ drivenBy (stateFrom (now (registers .entry)) (now (threads .entry))) (whichOf pick) (pickedBy (now (code .entry)) (now (registers .entry)) pick (getD (now (threads .entry)) (whichOf pick) blank) p) ⌝ }
+    ensures { λ r. ⌜ drove (now (registers .exit)) (now (counts .exit)) (now (threads .exit)) r ≡ drivenBy (stateFrom (now (registers .entry)) (now (counts .entry)) (now (threads .entry))) (whichOf pick) (pickedBy (now (code .entry)) (tableFrom (now (registers .entry)) (now (counts .entry))) pick (getD (now (threads .entry)) (whichOf pick) blank) p) ⌝ }
 {
     let who = progress::which(pick);
     let t = threads[who];
     if progress::is_plain(t, code, pick) {
-        brief(code, registers, threads, pick, p)
+        brief(code, registers, counts, threads, pick, p)
     } else {
-        full(code, registers, threads, pick, p)
+        full(code, registers, counts, threads, pick, p)
     }
 }
 
@@ -166,45 +183,54 @@ fn pick_at(picks: &[u8], i: usize) -> u8
 fn drive(
     code: &[u8],
     registers: &mut [i32],
+    counts: &mut [u32],
     threads: &mut [thread::Thread],
     picks: &[u8],
     p: progress::Progress,
 ) -> progress::Progress
     requires { ⌜ (p .limit ≤ length (now picks)) × (0 < p .limit → length (now threads) ≡ 16) ⌝ }
-    ensures { λ r. ⌜ drove (now (registers .exit)) (now (threads .exit)) r ≡ driven (now (code .entry)) (p .limit) (now (picks .entry)) (drove (now (registers .entry)) (now (threads .entry)) p) ⌝ }
+    ensures { λ r. ⌜ drove (now (registers .exit)) (now (counts .exit)) (now (threads .exit)) r ≡ driven (now (code .entry)) (p .limit) (now (picks .entry)) (drove (now (registers .entry)) (now (counts .entry)) (now (threads .entry)) p) ⌝ }
 {
     let limit = p.limit;
     let mut q = p;
     let mut i: usize = 0;
     while i < limit {
         let pick = pick_at(picks, i);
-        q = turn(code, registers, threads, pick, q);
+        q = turn(code, registers, counts, threads, pick, q);
         i += 1;
     }
     q
 }
 
 // The progress with which a call begins. Its contract also hands on that the code is of bytes, which the slice has by its type.
-fn admit(code: &[u8], survey: survey::Survey, registers: usize, picks: usize) -> progress::Progress
-    ensures { λ r. ⌜ Admitted (now (code .entry)) survey registers picks r ⌝ }
+fn admit(
+    code: &[u8],
+    survey: survey::Survey,
+    registers: usize,
+    counts: &[u32],
+    picks: usize,
+) -> progress::Progress
+    ensures { λ r. ⌜ Admitted (now (code .entry)) survey registers (now (counts .entry)) picks r ⌝ }
 {
-    progress::admitted(code, survey, registers, picks)
+    progress::admitted(code, survey, registers, counts, picks)
 }
 
-// A fresh state for the code, laid down over whatever the registers and records held. Refused with 11, then 12; nothing is altered then.
+// A fresh state for the code, laid down over whatever the registers, counts and records held. Refused with 11, then 12; nothing is altered then.
 #[no_mangle]
 pub extern "C" fn kuspigo_fresh(
     code: &[u8],
     registers: &mut [i32],
+    counts: &mut [u32],
     threads: &mut [thread::Thread],
 ) -> machine::FreshReply
-    ensures { λ r. ⌜ answered (now (registers .exit)) (now (threads .exit)) r ≡ freshCall (now (code .entry)) (stateFrom (now (registers .entry)) (now (threads .entry))) ⌝ }
+    ensures { λ r. ⌜ answered (now (registers .exit)) (now (counts .exit)) (now (threads .exit)) r ≡ freshCall (now (code .entry)) (stateFrom (now (registers .entry)) (now (counts .entry)) (now (threads .entry))) ⌝ }
 {
-    let refusal = progress::fresh_refusal(code, registers.len(), threads.len());
+    let refusal = progress::fresh_refusal(code, registers.len(), counts.len(), threads.len());
     let records = progress::unless(refusal, 16);
     lay(threads, code.len(), records);
     let cells = progress::unless(refusal, 64);
     clear(registers, cells);
+    forget(counts, cells);
     progress::fresh_reply(refusal)
 }
 
@@ -213,15 +239,16 @@ pub extern "C" fn kuspigo_fresh(
 pub extern "C" fn kuspigo_step(
     code: &[u8],
     registers: &mut [i32],
+    counts: &mut [u32],
     threads: &mut [thread::Thread],
     pick: u8,
 ) -> machine::StepReply
-    ensures { λ r. ⌜ answered (now (registers .exit)) (now (threads .exit)) r ≡ stepCall (now (code .entry)) (stateFrom (now (registers .entry)) (now (threads .entry))) pick ⌝ }
+    ensures { λ r. ⌜ answered (now (registers .exit)) (now (counts .exit)) (now (threads .exit)) r ≡ stepCall (now (code .entry)) (stateFrom (now (registers .entry)) (now (counts .entry)) (now (threads .entry))) pick ⌝ }
 {
-    let s = gather(threads, registers);
-    let p = admit(code, s, registers.len(), 1);
+    let s = gather(threads, counts);
+    let p = admit(code, s, registers.len(), counts, 1);
     let picks = [pick];
-    let q = drive(code, registers, threads, &picks, p);
+    let q = drive(code, registers, counts, threads, &picks, p);
     q.step_reply()
 }
 
@@ -230,13 +257,14 @@ pub extern "C" fn kuspigo_step(
 pub extern "C" fn kuspigo_run(
     code: &[u8],
     registers: &mut [i32],
+    counts: &mut [u32],
     threads: &mut [thread::Thread],
     picks: &[u8],
 ) -> machine::RunReply
-    ensures { λ r. ⌜ answered (now (registers .exit)) (now (threads .exit)) r ≡ runCall (now (code .entry)) (stateFrom (now (registers .entry)) (now (threads .entry))) (now (picks .entry)) ⌝ }
+    ensures { λ r. ⌜ answered (now (registers .exit)) (now (counts .exit)) (now (threads .exit)) r ≡ runCall (now (code .entry)) (stateFrom (now (registers .entry)) (now (counts .entry)) (now (threads .entry))) (now (picks .entry)) ⌝ }
 {
-    let s = gather(threads, registers);
-    let p = admit(code, s, registers.len(), picks.len());
-    let q = drive(code, registers, threads, picks, p);
+    let s = gather(threads, counts);
+    let p = admit(code, s, registers.len(), counts, picks.len());
+    let q = drive(code, registers, counts, threads, picks, p);
     q.run_reply()
 }

@@ -72,8 +72,8 @@ pub extern "C" fn kuspigo_report(input: &[u8], out: &mut [u8]) -> Written
 
 // The version of the C interface. Its name holds the number, so that a header or wrapper of another version does not link.
 #[no_mangle]
-pub extern "C" fn kuspigo_api_1() -> usize
-    ensures { λ r. ⌜ r ≡ 1 ⌝ }
+pub extern "C" fn kuspigo_api_2() -> usize
+    ensures { λ r. ⌜ r ≡ 2 ⌝ }
 {
-    1
+    2
 }

@@ -9,7 +9,7 @@ use Rattle.guarantee.specs.Histories.{Session, History, picksTaken, Ende
 use Rattle.guarantee.specs.Agreement.{Agreement}
 use Rattle.guarantee.proofs.Histories.{is-code, history-run, fits-behind, ended-shows, one-on, same-head}
 use Rattle.code.specs.Bytes.{compiled}
-use Rattle.machine.specs.Steps.{State, numberOf, threadAt, Ran, fresh}
+use Rattle.machine.specs.Steps.{State, numberOf, threadAt, Ran, fresh, tableIn}
 use Rattle.machine.specs.Fits.{Exists, Fits, Typed}
 use Rattle.machine.specs.Stands.{stackFrom}
 use Rattle.machine.specs.Answers.{sumOf}
@@ -33,13 +33,13 @@ use Rattle.script.proofs.Same.{same-refl}
 use Rattle.stm.specs.Events.{Happened}
 
 module _ (job : List ℕ) (j : Job) (b : Bytes job) (accepted : readJob job ≡ done j) where
-  reached : {now : Session} {events : List Happened} → History (compiled j) now events → (soup : List SThread) × (StepsM (sumOf j) (replicate 64 (pos 0)) (load (j .tree)) (now .state .registers) soup × StandsFor (compiled j) (now .state) soup)
+  reached : {now : Session} {events : List Happened} → History (compiled j) now events → (soup : List SThread) × (StepsM (sumOf j) (record { registers = replicate 64 (pos 0); counts = replicate 64 0 }) (load (j .tree)) (tableIn (now .state)) soup × StandsFor (compiled j) (now .state) soup)
   unfolding fresh
   reached {now} {events} h =
       let c = is-code job j b accepted in
       let m = history-run job j b accepted h in
       let r = run-is-steps c (sumOf j) (picksTaken h) (fresh (compiled j)) (fresh-fits (compiled j)) (fresh-typed (compiled j)) (load (j .tree)) (record { threads = load (j .tree); ordered = fresh-soup c; same = same-refl (load (j .tree)) }) in
-      (r .0, subst (λ (x : Ran). StepsM (sumOf j) (replicate 64 (pos 0)) (load (j .tree)) (x .state .registers) (r .0) × StandsFor (compiled j) (x .state) (r .0)) m (r .1))
+      (r .0, subst (λ (x : Ran). StepsM (sumOf j) (record { registers = replicate 64 (pos 0); counts = replicate 64 0 }) (load (j .tree)) (tableIn (x .state)) (r .0) × StandsFor (compiled j) (x .state) (r .0)) m (r .1))
 
   -- a thread that has ended, with its result, and the source's
   ended-is-halted : (s : State) → Fits (compiled j) s → Typed s → (i : ℕ) → Exists s i → (m : SThread) → Carries (compiled j) (threadAt s i) m → (n : ℤ) → Ended s i n ↔ Halted m n

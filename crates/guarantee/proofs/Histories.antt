@@ -19,6 +19,7 @@ use Rattle.code.proofs.Foreign.{there-and-back, code-bytes}
 use Rattle.thread.specs.declared.Thread.{Thread}
 use Rattle.machine.specs.Steps as steps
 use Rattle.machine.specs.Steps.{State, Stepped, numberOf, threadAt, pick, fresh, Ran}
+use Rattle.stm.specs.Counted.{Counted}
 use Rattle.stm.specs.Events.{Happened, counted, isIdle, isCommit, isBack, backs, order, countsOf, Counts, together}
 use Rattle.machine.specs.Fits.{Exists, Fits, Typed, Ranged}
 use Rattle.machine.specs.FitTest.{fits}
@@ -42,7 +43,7 @@ use Rattle.script.proofs.Accepts.{accepted-is-job, passed}
 use Rattle.machine.specs.InnerStands.{registerCells}
 use Rattle.machine.specs.Stands.{Stands, stackFrom}
 use Rattle.machine.proofs.Codes.{stands-end, stands-inside}
-use Rattle.machine.proofs.Showings.{Shows, shut, open′}
+use Rattle.machine.proofs.Showings.{Shows, shut, open′, cells-values}
 use Rattle.machine.proofs.Numbers.{below-exists, exists-below}
 use Rattle.machine.proofs.Mirrors.{Mirrors}
 use Rattle.machine.proofs.Fresh.{fresh-typed, fresh-fits, fresh-mirrors}
@@ -108,10 +109,6 @@ cut sum (x ∷ a) (i ∷ is) s b e =
       behind = c .behind;
     }
 
-values-same : (h : List ℤ) → valuesOf registerCells h ≡ h
-values-same [] = refl
-values-same (n ∷ h) = ap (λ (l : List ℤ). n ∷ l) (values-same h)
-
 -- a record at its end shows a VALP
 pub ended-shows : {bytes : List ℕ} (t : Thread) (task : Task registerCells) → t .place ≡ t .end → Shows bytes t task → (t .height ≡ 1) × (meant registerCells task ≡ ValP (getD (t .cells) 0 (pos 0)))
 unfolding Outside Inside processOf stackFrom
@@ -137,7 +134,7 @@ same-head e = cc
 same-outside : {c d : Code} {σ τ : List ℤ} → _≡_ {A = Task registerCells} (outside c σ) (outside d τ) → (c ≡ d) × (σ ≡ τ)
 same-outside e = (cc, cc)
 
-not-outside : {body c d : Code} {base σ τ : List ℤ} {r w : Log ℤ} {n : ℕ} → _≡_ {A = Task registerCells} (inside body base c σ r w n) (outside d τ) → ⊥
+not-outside : {body c d : Code} {base σ τ : List ℤ} {r : Log Counted} {w : Log ℤ} {n : ℕ} → _≡_ {A = Task registerCells} (inside body base c σ r w n) (outside d τ) → ⊥
 not-outside e = absurd (let z : _≡_ {A = ℕ} 0 1 = cc in omega arith)
 
 -- and a record that shows an ended task is at its end
@@ -214,15 +211,15 @@ module _ (job : List ℕ) (j : Job) (b : Bytes job) (accepted : readJob job ≡ 
       ∙ ap (λ (y : Ran). record { state = y .state; events = events ++ y .events }) (sym x))
 
   -- what holds behind a list of calls
-  record Behind (s : State) (events : List Happened) : Type 0 where
-    picks : List ℕ
-    its-events : events ≡ eventsOf registerCells (sumOf j) (start registerCells (compileP (j .tree) ε)) picks
-    mirrors : Mirrors (compiled j) s (endOf registerCells (sumOf j) (start registerCells (compileP (j .tree) ε)) picks)
-    fit : Fits (compiled j) s
-    typed : Typed s
-    ranges : Ranged s
+  pub record Behind (s : State) (events : List Happened) : Type 0 where
+    pub picks : List ℕ
+    pub its-events : events ≡ eventsOf registerCells (sumOf j) (start registerCells (compileP (j .tree) ε)) picks
+    pub mirrors : Mirrors (compiled j) s (endOf registerCells (sumOf j) (start registerCells (compileP (j .tree) ε)) picks)
+    pub fit : Fits (compiled j) s
+    pub typed : Typed s
+    pub ranges : Ranged s
 
-  behind : {now : Session} {events : List Happened} → History (compiled j) now events → Behind (now .state) events
+  pub behind : {now : Session} {events : List Happened} → History (compiled j) now events → Behind (now .state) events
   behind {now} {events} h =
       let m = history-run h in
       let k = run-keeps is-code outer (sumOf j) (picksTaken h) (fresh (compiled j)) (start registerCells (compileP (j .tree) ε)) (fresh-fits (compiled j)) (fresh-typed (compiled j)) (fresh-mirrors (compiled j) is-code outer) in
@@ -254,7 +251,7 @@ module _ (job : List ℕ) (j : Job) (b : Bytes job) (accepted : readJob job ≡ 
           (run-linked registerCells (sumOf j) (k .picks) (start registerCells (compileP (j .tree) ε)) (initial (j .tree)) (start-linked registerCells (sumOf j) (j .tree) (is-job .within .sized .valued)) .linked)
 
       registers′ : now .state .registers ≡ turns (sumOf j) (initial (j .tree)) (order events) .registers
-      registers′ = k .mirrors .table ∙ (sym (values-same (sys .table)) ∙ sym (linked .registers))
+      registers′ = sym (cells-values (now .state .registers) (now .state .counts) (k .fit .registers ∙ sym (k .fit .counts))) ∙ (ap (valuesOf registerCells) (k .mirrors .table) ∙ sym (linked .registers))
 
       number : numberOf (now .state .threads) ≡ length (turns (sumOf j) (initial (j .tree)) (order events) .threads)
       number = k .mirrors .number ∙ (sym (meant-length registerCells (sys .tasks)) ∙ sym (ap length (linked .threads)))

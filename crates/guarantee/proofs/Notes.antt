@@ -101,7 +101,7 @@ module _ (job : List ℕ) (j : Job) (b : Bytes job) (accepted : readJob job ≡ 
   with s i over = withNotes (threadAt s i .begin) (threadAt s i .base) over (threadAt s i)
 
   abbrev noting : State → ℕ → ℕ → State
-  noting s i over = record { registers = s .registers; threads = set (s .threads) i (with s i over) }
+  noting s i over = record { registers = s .registers; counts = s .counts; threads = set (s .threads) i (with s i over) }
 
   abbrev Since : State → ℕ → ℕ → Type 0
   Since s i n = AddsSince its (threadAt s i .begin) (threadAt s i .place) n
@@ -140,7 +140,7 @@ module _ (job : List ℕ) (j : Job) (b : Bytes job) (accepted : readJob job ≡ 
         go : (t : Bool) → eqb k i ≡ t → TypedThread (threadAt (noting s i over) k)
         go true z =
             subst (λ (m : ℕ). TypedThread (threadAt (noting s i over) m)) (sym (eqb-true k i z))
-            (subst TypedThread (sym there) (record { cells = y i .cells; readlog = y i .readlog; writelog = y i .writelog }))
+            (subst TypedThread (sym there) (record { cells = y i .cells; readlog = y i .readlog; readcounts = y i .readcounts; writelog = y i .writelog }))
         go false z = subst TypedThread (sym (getD-set-other (s .threads) i k (with s i over) blank (eqb-false k i z))) (y k)
 
     any-count : (n : ℕ) → Since s i n → Fits its (noting s i over) ↔ (over ≤ n)

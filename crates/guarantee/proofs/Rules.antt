@@ -17,7 +17,7 @@ use Rattle.machine.specs.Answers.{sumOf, stepOf, Told, stepCall, ruleNamed, bac
 use Rattle.machine.specs.Fits.{CommitsPassed, Exists, Fits, Typed}
 use Rattle.source.specs.Soup.{Soup, Name, sourceRule, PickOn, ruleOf}
 use Rattle.source.specs.Source.{SThread}
-use Rattle.machine.specs.Steps.{State, Stepped, threadAt, numberOf, fresh, pick, Ran, run}
+use Rattle.machine.specs.Steps.{State, Stepped, threadAt, numberOf, fresh, pick, Ran, run, tableIn}
 use Rattle.machine.proofs.Agrees.{outer, does-one}
 use Rattle.source.proofs.Agrees.{pick-is-step}
 use Rattle.source.proofs.Named.{named-used}
@@ -34,7 +34,7 @@ use Rattle.script.specs.Bytes.{Bytes}
 use Rattle.script.specs.Jobs.{Job}
 use Rattle.script.specs.Outcome.{Outcome, refused, done, mapped}
 use Rattle.script.specs.Reader.{readJob}
-use Rattle.script.specs.Turns.{Registers}
+use Rattle.stm.specs.Counted.{Table}
 use Rattle.stm.specs.Events.{Event, idle, pushed, summed, forked, begun, looked, fromWrites, fromReads, fromTable, wrote, committed, sentBack, isIdle, Happened, backs, countsOf}
 use Rattle.stm.specs.Rules.{MachineRule, usedBy, ruleNumber, held, lastRule}
 use Rattle.stm.proofs.Rules.{rule-of-number, number-of-rule, no-rule, answer-number}
@@ -113,7 +113,7 @@ module _ (job : List ℕ) (j : Job) (b : Bytes job) (accepted : readJob job ≡ 
           go true e = ap (λ (r : Stepped). usedBy (r .event)) (ended-idle (sumOf j) its (numberOf (s .threads)) s i (g e))
           go false e = ap (λ (r : Stepped). usedBy (r .event)) (missing-idle (sumOf j) its (numberOf (s .threads)) s i e)
 
-  by-source : (s : State) → Fits its s → Typed s → (soup : List SThread) → Soup its s soup → (i : ℕ) (m : MachineRule) → usedBy (pick (sumOf j) its s i .event) ≡ some m → (h′ : Registers) × ((soup′ : List SThread) × ((p : PickOn its (sumOf j) s i soup h′ soup′) × ((sourceRule m ≡ ruleOf (p .whole .step)) × ((others : List SThread) → sourceRule m ≡ ruleOf (p .step others)))))
+  by-source : (s : State) → Fits its s → Typed s → (soup : List SThread) → Soup its s soup → (i : ℕ) (m : MachineRule) → usedBy (pick (sumOf j) its s i .event) ≡ some m → (h′ : Table) × ((soup′ : List SThread) × ((p : PickOn its (sumOf j) s i soup h′ soup′) × ((sourceRule m ≡ ruleOf (p .whole .step)) × ((others : List SThread) → sourceRule m ≡ ruleOf (p .step others)))))
   by-source s f y soup x i m q =
       let k = pick-is-step c (sumOf j) s f y soup x i (used-busy (pick (sumOf j) its s i .event) m q) in
       let n = sym (named-used (pick (sumOf j) its s i .event) m q) in
@@ -153,15 +153,15 @@ module _ (job : List ℕ) (j : Job) (b : Bytes job) (accepted : readJob job ≡ 
       let z = fresh-sum its in
       omega arith
 
-  any-rule : (s : State) → Fits its s → Typed s → (i : ℕ) → Exists s i → (rule : ℕ) → Fits its (record { registers = s .registers; threads = set (s .threads) i (withRule rule (threadAt s i .backs) (threadAt s i)) })
+  any-rule : (s : State) → Fits its s → Typed s → (i : ℕ) → Exists s i → (rule : ℕ) → Fits its (record { registers = s .registers; counts = s .counts; threads = set (s .threads) i (withRule rule (threadAt s i .backs) (threadAt s i)) })
   any-rule s f y i e rule =
       let x = f .tallied i e in
-      numbers-free c (outer c) s f y i e rule (threadAt s i .backs) (record { not-above = x .not-above; not-stale = λ q v. stale-by (threadAt s i) (withRule rule (threadAt s i .backs) (threadAt s i)) (s .registers) refl refl v (x .not-stale q v) })
+      numbers-free c (outer c) s f y i e rule (threadAt s i .backs) (record { not-above = x .not-above; not-stale = λ q v. stale-by (threadAt s i) (withRule rule (threadAt s i .backs) (threadAt s i)) (tableIn s) refl refl v (x .not-stale q v); not-ahead = x .not-ahead })
 
-  any-backs : (s : State) → Fits its s → Typed s → (i n : ℕ) → Exists s i → CommitsPassed its (s .threads) n → (m : ℕ) → m ≤ n → (m ≡ n → (v : ℕ) → stale (threadAt s i) (s .registers) v ≡ false) → Fits its (record { registers = s .registers; threads = set (s .threads) i (withRule (threadAt s i .rule) m (threadAt s i)) })
+  any-backs : (s : State) → Fits its s → Typed s → (i n : ℕ) → Exists s i → CommitsPassed its (s .threads) n → (m : ℕ) → m ≤ n → (m ≡ n → (v : ℕ) → stale (threadAt s i) (tableIn s) v ≡ false) → Fits its (record { registers = s .registers; counts = s .counts; threads = set (s .threads) i (withRule (threadAt s i .rule) m (threadAt s i)) })
   any-backs s f y i n e p m l g =
       let q = passed-once p (f .passed) in
-      numbers-free c (outer c) s f y i e (threadAt s i .rule) m (record { not-above = omega arith; not-stale = λ z v. stale-by (threadAt s i) (withRule (threadAt s i .rule) m (threadAt s i)) (s .registers) refl refl v (g (let w : m ≡ n = omega (arith, z, q) in w) v) })
+      numbers-free c (outer c) s f y i e (threadAt s i .rule) m (record { not-above = omega arith; not-stale = λ z v. stale-by (threadAt s i) (withRule (threadAt s i .rule) m (threadAt s i)) (tableIn s) refl refl v (g (let w : m ≡ n = omega (arith, z, q) in w) v); not-ahead = f .tallied i e .not-ahead })
 
   above : (s : State) (n i : ℕ) → CommitsPassed its (s .threads) n → Exists s i → n < threadAt s i .backs → Fits its s → ⊥
   above s n i p e l f =
@@ -169,7 +169,7 @@ module _ (job : List ℕ) (j : Job) (b : Bytes job) (accepted : readJob job ≡ 
       let t = f .tallied i e .not-above in
       absurd (omega arith)
 
-  stale-equal : (s : State) (n i v : ℕ) → CommitsPassed its (s .threads) n → Exists s i → threadAt s i .backs ≡ n → stale (threadAt s i) (s .registers) v ≡ true → Fits its s → ⊥
+  stale-equal : (s : State) (n i v : ℕ) → CommitsPassed its (s .threads) n → Exists s i → threadAt s i .backs ≡ n → stale (threadAt s i) (tableIn s) v ≡ true → Fits its s → ⊥
   stale-equal s n i v p e q x f =
       let a = passed-once p (f .passed) in
       never x (f .tallied i e .not-stale (let z : threadAt s i .backs ≡ 0 + f .commits = omega arith in z) v)

@@ -1,4 +1,5 @@
--- Demand 2 on the machine: every step agrees with the machine of source document 002, chapter 5, "as document 01 fixes them".
+-- Demand 2 on the machine: every step agrees with the machine of source document 002, chapter 5, "as document 01 fixes them", its COMMIT asking for
+-- the counts of document 02 No. 6 where `r ⊆ h` is printed (source/specs/Source).
 use Prim.Native.Nat.{ℕ, _<_}
 use mathlib.Core.Bool.{true, false}
 use mathlib.Core.Logic.{_↔_}
@@ -12,14 +13,14 @@ use Rattle.code.specs.Bytes.{compiled}
 use Rattle.code.specs.Ops.{opAt}
 use Rattle.code.specs.Ops as code
 use Rattle.thread.specs.Threads.{exists, stale}
-use Rattle.machine.specs.Steps.{State, threadAt, pick, toldBy, notedBy, DoesOne, FirstStale, FoundIn, fresh, run}
+use Rattle.machine.specs.Steps.{State, threadAt, pick, toldBy, notedBy, DoesOne, FirstStale, FoundIn, fresh, run, tableIn}
 use Rattle.machine.specs.Fits.{Exists, Fits, Typed}
 use Rattle.machine.specs.Answers.{sumOf}
 use Rattle.source.specs.Source.{SThread, Halted, StepM, StepsM}
 use Rattle.source.specs.Soup.{Carries, Soup, StandsFor, ruleOf, IsFor, First, named, ByRule, load, PickOn}
 use Rattle.script.specs.Outcome.{done}
 use Rattle.script.specs.Jobs.{Job}
-use Rattle.script.specs.Turns.{Registers}
+use Rattle.stm.specs.Counted.{Table}
 use Rattle.stm.specs.Events.{Source, idle, looked, committed, sentBack, Happened, isIdle}
 use Rattle.word.specs.Sum.{Rule}
 
@@ -43,10 +44,10 @@ module _ (j : Job) where
         (s : State) → Fits its s → Typed s → (i : ℕ) → Exists s i → (threadAt s i .place ≡ threadAt s i .end → ⊥) →
         DoesOne sum its s i
     -- a send-back tells "the first stale one"; a commit that takes effect found none
-    pub sent-back-first : (s : State) (i v : ℕ) → pick sum its s i .event ≡ sentBack v → FirstStale (threadAt s i) (s .registers) v
+    pub sent-back-first : (s : State) (i v : ℕ) → pick sum its s i .event ≡ sentBack v → FirstStale (threadAt s i) (tableIn s) v
     pub committed-none :
         (s : State) (i : ℕ) → pick sum its s i .event ≡ committed →
-        (u : ℕ) → u < 64 → stale (threadAt s i) (s .registers) u ≡ false
+        (u : ℕ) → u < 64 → stale (threadAt s i) (tableIn s) u ≡ false
     -- READ tells where it found its value
     pub looked-found :
         (s : State) (i : ℕ) (from : Source) → pick sum its s i .event ≡ looked from →
@@ -80,32 +81,33 @@ module _ (j : Job) where
     pub pick-is-step :
         (s : State) → Fits its s → Typed s → (soup : List SThread) → Soup its s soup →
         (i : ℕ) → isIdle (pick sum its s i .event) ≡ false →
-        (h′ : Registers) × ((soup′ : List SThread) × PickOn its sum s i soup h′ soup′)
+        (h′ : Table) × ((soup′ : List SThread) × PickOn its sum s i soup h′ soup′)
     -- and each step of the soup is such a pick, whose event names its rule
     pub step-is-pick :
         (s : State) → Fits its s → Typed s → (soup : List SThread) → Soup its s soup →
-        (h′ : Registers) (soup′ : List SThread) → (step : StepM sum (s .registers) soup h′ soup′) →
+        (h′ : Table) (soup′ : List SThread) → (step : StepM sum (tableIn s) soup h′ soup′) →
         (i : ℕ) × ((isIdle (pick sum its s i .event) ≡ false) ×
         ((named (pick sum its s i .event) ≡ some (ruleOf step)) × PickOn its sum s i soup h′ soup′))
     -- a rule's name says which instruction it is for, so that different rules have different names
     pub rule-is-for :
-        {h h′ : Registers} {m : SThread} {behind left : List SThread} →
+        {h h′ : Table} {m : SThread} {behind left : List SThread} →
         (x : StepM sum h (m ∷ behind) h′ left) → First x → IsFor (ruleOf x) h m
     -- picks and steps also for soups in any order
     pub pick-is-step-same :
         (s : State) → Fits its s → Typed s → (soup : List SThread) → StandsFor its s soup →
         (i : ℕ) → isIdle (pick sum its s i .event) ≡ false →
         (soup′ : List SThread) ×
-        (ByRule sum (s .registers) soup (pick sum its s i .state .registers) soup′ (pick sum its s i .event) ×
+        (ByRule sum (tableIn s) soup (tableIn (pick sum its s i .state)) soup′ (pick sum its s i .event) ×
         StandsFor its (pick sum its s i .state) soup′)
     pub step-is-pick-same :
         (s : State) → Fits its s → Typed s → (soup : List SThread) → StandsFor its s soup →
-        (h′ : Registers) (soup′ : List SThread) → (step : StepM sum (s .registers) soup h′ soup′) →
+        (h′ : Table) (soup′ : List SThread) → (step : StepM sum (tableIn s) soup h′ soup′) →
         (i : ℕ) × ((named (pick sum its s i .event) ≡ some (ruleOf step)) ×
-        ((pick sum its s i .state .registers ≡ h′) × StandsFor its (pick sum its s i .state) soup′))
-    -- behind every list of calls stands a soup that the source's machine reaches from the loaded process, every register being 0
+        ((tableIn (pick sum its s i .state) ≡ h′) × StandsFor its (pick sum its s i .state) soup′))
+    -- behind every list of calls stands a soup that the source's machine reaches from the loaded process, every register being 0 and never written
     pub history-reached :
         {now : Session} {events : List Happened} → History its now events →
         (soup : List SThread) ×
-        (StepsM sum (replicate 64 (pos 0)) (load (j .tree)) (now .state .registers) soup × StandsFor its (now .state) soup)
+        (StepsM sum (record { registers = replicate 64 (pos 0); counts = replicate 64 0 }) (load (j .tree)) (tableIn (now .state)) soup ×
+        StandsFor its (now .state) soup)
     pub history-fits : {now : Session} {events : List Happened} → History its now events → Fits its (now .state) × Typed (now .state)

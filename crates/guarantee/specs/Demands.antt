@@ -113,7 +113,8 @@ pub record Demand2 : Type 0 where
   pub idle-over :
       (sum : Rule) (s : Script) (i : ℕ) (is : List ℕ) → turn sum s i ≡ idle →
       overflowsTurns sum s (i ∷ is) ≡ overflowsTurns sum s is
-  -- every step of the machine
+  -- every step of the machine; document 02 No. 6 replaces one premise of the source's COMMIT (source/specs/Source), and `Staleness` says what of it
+  -- holds of every run
   pub machine : (job : List ℕ) (j : Job) → Bytes job → readJob job ≡ done j → Agreement j
   -- "code is read back exactly if some accepted job compiles to it, and to that job"
   pub read-back-exactly :

@@ -45,7 +45,11 @@ module _ (j : Job) where
   -- the state with another count among the notes of thread i
   abbrev noting : State → ℕ → (over : ℕ) → State
   noting s i over =
-      record { registers = s .registers; threads = set (s .threads) i (withNotes (threadAt s i .begin) (threadAt s i .base) over (threadAt s i)) }
+      record {
+        registers = s .registers;
+        counts = s .counts;
+        threads = set (s .threads) i (withNotes (threadAt s i .begin) (threadAt s i .base) over (threadAt s i));
+      }
 
   -- which counts fit
   pub record CountsNoted : Type 0 where

@@ -15,10 +15,10 @@ use Rattle.machine.specs.Answers.{sumOf, stepOf, stepCall, ruleNamed, backsOf}
 use Rattle.machine.specs.Fits.{CommitsPassed, Exists, Fits, Typed}
 use Rattle.source.specs.Soup.{Soup, sourceRule, PickOn, ruleOf}
 use Rattle.source.specs.Source.{SThread}
-use Rattle.machine.specs.Steps.{State, Stepped, threadAt, pick, FirstStale, FoundIn, fresh, run}
+use Rattle.machine.specs.Steps.{State, Stepped, threadAt, pick, FirstStale, FoundIn, fresh, run, tableIn}
 use Rattle.script.specs.Jobs.{Job}
 use Rattle.script.specs.Outcome.{done, mapped}
-use Rattle.script.specs.Turns.{Registers}
+use Rattle.stm.specs.Counted.{Table}
 use Rattle.stm.specs.Events.{Source, Event, isCommit, Happened, backs, more, countsOf, eventNumber, eventRegister}
 use Rattle.stm.specs.Rules.{MachineRule, sentBackWith, readRule, usedBy, ruleNumber, ruleOfNumber, OfMachine, held, ruleAfter, backsAfter, lastRule}
 use Rattle.thread.specs.declared.Thread.{Thread}
@@ -48,7 +48,7 @@ module _ (j : Job) where
 
   -- the state with another last rule and another number of send-backs of thread i
   abbrev renumbered : State → ℕ → (rule backs : ℕ) → State
-  renumbered s i rule n = record { registers = s .registers; threads = set (s .threads) i (withRule rule n (threadAt s i)) }
+  renumbered s i rule n = record { registers = s .registers; counts = s .counts; threads = set (s .threads) i (withRule rule n (threadAt s i)) }
 
   -- document 02 No. 4, of every step of the job's code, of every thread's record, and of the state test
   pub record RulesNamed : Type 0 where
@@ -60,13 +60,13 @@ module _ (j : Job) where
     pub by-source :
         (s : State) → Fits its s → Typed s → (soup : List SThread) → Soup its s soup →
         (i : ℕ) (m : MachineRule) → uses s i ≡ some m →
-        (h′ : Registers) × ((soup′ : List SThread) × ((p : PickOn its sum s i soup h′ soup′) ×
+        (h′ : Table) × ((soup′ : List SThread) × ((p : PickOn its sum s i soup h′ soup′) ×
         ((sourceRule m ≡ ruleOf (p .whole .step)) × ((others : List SThread) → sourceRule m ≡ ruleOf (p .step others)))))
     -- "read from write log, read from read log, read from table", and "sent back with the lowest stale register"
     pub read-from :
         (s : State) (i : ℕ) (from : Source) → uses s i ≡ some (readRule from) →
         (v : ℕ) × ((opAt (drop (threadAt s i .place) its) ≡ done (code.read v)) × FoundIn (threadAt s i) v from)
-    pub lowest-stale : (s : State) (i v : ℕ) → uses s i ≡ some (sentBackWith v) → FirstStale (threadAt s i) (s .registers) v
+    pub lowest-stale : (s : State) (i v : ℕ) → uses s i ≡ some (sentBackWith v) → FirstStale (threadAt s i) (tableIn s) v
     -- ---- "Each thread record now also holds its last rule that was not idle, none at first, and its own number of send-backs"
     -- a pick of thread i changes both numbers in the record of thread i alone
     pub rule-after :
@@ -100,10 +100,10 @@ module _ (j : Job) where
     pub above : (s : State) (n i : ℕ) → CommitsPassed its (s .threads) n → Exists s i → n < threadAt s i .backs → Fits its s → ⊥
     pub stale-equal :
         (s : State) (n i v : ℕ) → CommitsPassed its (s .threads) n → Exists s i →
-        threadAt s i .backs ≡ n → stale (threadAt s i) (s .registers) v ≡ true → Fits its s → ⊥
+        threadAt s i .backs ≡ n → stale (threadAt s i) (tableIn s) v ≡ true → Fits its s → ⊥
     -- and it is for no other value of these numbers: any last rule fits, also one that is no rule's number; any number of send-backs does that
     -- is below the COMMITs passed, and the equal one if no read is stale
     pub any-rule : (s : State) → Fits its s → Typed s → (i : ℕ) → Exists s i → (rule : ℕ) → Fits its (renumbered s i rule (threadAt s i .backs))
     pub any-backs :
         (s : State) → Fits its s → Typed s → (i n : ℕ) → Exists s i → CommitsPassed its (s .threads) n →
-        (m : ℕ) → m ≤ n → (m ≡ n → (v : ℕ) → stale (threadAt s i) (s .registers) v ≡ false) → Fits its (renumbered s i (threadAt s i .rule) m)
+        (m : ℕ) → m ≤ n → (m ≡ n → (v : ℕ) → stale (threadAt s i) (tableIn s) v ≡ false) → Fits its (renumbered s i (threadAt s i .rule) m)

@@ -94,6 +94,6 @@ unfolding registerLines
 registers-end v ns h = ap (registerLines v) (drop-of-length-le ns {i = v} h)
 
 -- the whole listing
-pub listing-is : (c : Counts) (rs : List ℤ) (ts : List Thread) → (countsLine c ++ threadLines 0 ts) ++ registerLines 0 rs ≡ listing c (stateFrom rs ts)
+pub listing-is : (c : Counts) (rs : List ℤ) (ns : List ℕ) (ts : List Thread) → (countsLine c ++ threadLines 0 ts) ++ registerLines 0 rs ≡ listing c (stateFrom rs ns ts)
 unfolding listing
-listing-is c rs ts = append-assoc (countsLine c) (threadLines 0 ts) (registerLines 0 rs)
+listing-is c rs ns ts = append-assoc (countsLine c) (threadLines 0 ts) (registerLines 0 rs)

@@ -1,4 +1,4 @@
--- What is printed of a run on a fresh state, from what `owned::shown` hands back: one register and one record more than a state has, which are 0.
+-- What is printed of a run on a fresh state, from what `owned::shown` hands back: one register, one count and one record more than a state has, which are 0.
 -- Assumes nothing.
 use Prim.Native.Nat.{ℕ, zero, suc, _+_, _<_, _≤_}
 use mathlib.Core.Bool.{Bool, true, false, not, cond}
@@ -39,9 +39,9 @@ registers-zero v [] = refl
 registers-zero v (n ∷ ns) = ap (registerLine v n ++_) (registers-zero (suc v) ns)
 
 -- what is blank is not listed
-same-listing : (c : Counts) (rs : List ℤ) (ts : List Thread) → listing c (stateFrom (rs ++ (pos 0 ∷ [])) (ts ++ (blank ∷ []))) ≡ listing c (stateFrom rs ts)
+same-listing : (c : Counts) (rs : List ℤ) (ns : List ℕ) (ts : List Thread) → listing c (stateFrom (rs ++ (pos 0 ∷ [])) (ns ++ (0 ∷ [])) (ts ++ (blank ∷ []))) ≡ listing c (stateFrom rs ns ts)
 unfolding listing
-same-listing c rs ts = ap (λ (l : List ℕ). countsLine c ++ (l ++ registerLines 0 (rs ++ (pos 0 ∷ [])))) (threads-blank 0 ts) ∙ ap (λ (l : List ℕ). countsLine c ++ (threadLines 0 ts ++ l)) (registers-zero 0 rs)
+same-listing c rs ns ts = ap (λ (l : List ℕ). countsLine c ++ (l ++ registerLines 0 (rs ++ (pos 0 ∷ [])))) (threads-blank 0 ts) ∙ ap (λ (l : List ℕ). countsLine c ++ (threadLines 0 ts ++ l)) (registers-zero 0 rs)
 
 module _ (s : State) where
   -- what a call returns that comes to this
@@ -73,27 +73,35 @@ numbered code s is n p e z = go (readCode code) refl e
     go (done j) c e = by-tests j (not (fits code s)) (ltb 32768 (length is)) e
 
 module _ (code picks : List ℕ) (j : Job) (accepted : readCode code ≡ done j) where
-  -- over 64 registers and 16 records a fresh state is laid down
-  laid : freshCall code (stateFrom (replicate 64 (pos 0)) (replicate 16 blank)) .state ≡ fresh code
+  -- 64 registers, 64 counts and 16 records
+  abbrev lent : State
+  lent = stateFrom (replicate 64 (pos 0)) (replicate 64 0) (replicate 16 blank)
+
+  -- over them a fresh state is laid down
+  laid : freshCall code lent .state ≡ fresh code
   unfolding freshCall freshOf
-  laid = ap (λ (o : Outcome Job). returned (λ (r : State). r) freshReply (stateFrom (replicate 64 (pos 0)) (replicate 16 blank)) (onward o (λ (k : Job). rightLengths (stateFrom (replicate 64 (pos 0)) (replicate 16 blank)) (done (fresh code)))) .state) accepted
+  laid = ap (λ (o : Outcome Job). returned (λ (r : State). r) freshReply lent (onward o (λ (k : Job). rightLengths lent (done (fresh code)))) .state) accepted
 
   -- the run of it
   abbrev ran : Returned RunReply
   ran = runCall code (fresh code) picks
 
-  shown-is : onFirst 64 16 (freshlyRun code picks) (replicate 65 (pos 0)) (replicate 17 blank) ≡ answered (ran .state .registers ++ (pos 0 ∷ [])) (ran .state .threads ++ (blank ∷ [])) (ran .reply)
-  shown-is = ap (λ (s : State). let r = runCall code s picks in answered (r .state .registers ++ (pos 0 ∷ [])) (r .state .threads ++ (blank ∷ [])) (r .reply)) laid
+  -- what `owned::shown` hands back
+  abbrev shown : Returned RunReply
+  shown = onFirst 64 64 16 (freshlyRun code picks) (replicate 65 (pos 0)) (replicate 65 0) (replicate 17 blank)
 
-  module _ (rs : List ℤ) (ts : List Thread) (reply : RunReply) (f : answered rs ts reply ≡ onFirst 64 16 (freshlyRun code picks) (replicate 65 (pos 0)) (replicate 17 blank)) where
+  shown-is : shown ≡ answered (ran .state .registers ++ (pos 0 ∷ [])) (ran .state .counts ++ (0 ∷ [])) (ran .state .threads ++ (blank ∷ [])) (ran .reply)
+  shown-is = ap (λ (s : State). let r = runCall code s picks in answered (r .state .registers ++ (pos 0 ∷ [])) (r .state .counts ++ (0 ∷ [])) (r .state .threads ++ (blank ∷ [])) (r .reply)) laid
+
+  module _ (rs : List ℤ) (ns : List ℕ) (ts : List Thread) (reply : RunReply) (f : answered rs ns ts reply ≡ shown) where
     told : reply ≡ ran .reply
     told = ap (λ (r : Returned RunReply). r .reply) (f ∙ shown-is)
 
     -- the listing of a run that is taken
-    pub listing-text : reply .refusal ≡ 0 → listing (countsIn reply) (stateFrom rs ts) ≡ printed (runOf code (fresh code) picks)
+    pub listing-text : reply .refusal ≡ 0 → listing (countsIn reply) (stateFrom rs ns ts) ≡ printed (runOf code (fresh code) picks)
     unfolding runCall
     listing-text e =
-        ap (λ (r : Returned RunReply). listing (countsIn (r .reply)) (r .state)) (f ∙ shown-is) ∙ same-listing (countsIn (ran .reply)) (ran .state .registers) (ran .state .threads)
+        ap (λ (r : Returned RunReply). listing (countsIn (r .reply)) (r .state)) (f ∙ shown-is) ∙ same-listing (countsIn (ran .reply)) (ran .state .registers) (ran .state .counts) (ran .state .threads)
         ∙ listing-of (fresh code) (runOf code (fresh code) picks) (numbered code (fresh code) picks) (ap (λ (r : RunReply). r .refusal) (sym told) ∙ e)
 
     -- and the line of one that is refused

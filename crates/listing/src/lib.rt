@@ -177,7 +177,7 @@ fn put_refusal(page: &mut [u8], number: usize, place: usize) -> usize
 // The listing of a run.
 fn put_listing(page: &mut [u8], ran: owned::Ran) -> usize
     requires { ⌜ 4449 ≤ length (now page) ⌝ }
-    ensures { λ r. ⌜ Put 0 (listing (record { steps = ran .reply .steps; idle = ran .reply .idle; commits = ran .reply .commits; back = ran .reply .back; over = ran .reply .over }) (stateFrom (ran .registers) (ran .threads))) (now (page .entry)) r (now (page .exit)) ⌝ }
+    ensures { λ r. ⌜ Put 0 (listing (record { steps = ran .reply .steps; idle = ran .reply .idle; commits = ran .reply .commits; back = ran .reply .back; over = ran .reply .over }) (stateFrom (ran .registers) (ran .counts) (ran .threads))) (now (page .entry)) r (now (page .exit)) ⌝ }
 {
     let reply = ran.reply;
     let threads = ran.threads;

@@ -9,7 +9,8 @@ use borrow.Author.Tests.{le-ltb, lt-ltb, le-leb, eq-eqb, ne-eqb, eqb-true, eqb-f
 use lib.Dec.{eqb, ltb}
 use lib.IntN.{ℤ, pos}
 use lib.ListN.{length, drop, getD, set, length-append}
-use lib.Seq.{set-getD}
+use lib.Seq.{set-getD, getD-set-other}
+use Rattle.stm.specs.Counted.{Table}
 use Rattle.code.specs.Compile.{Instruction, Code, PUSH, ADD, READ, WRITE, BEGIN, COMMIT, FORK, ε, _⨾_}
 use Rattle.code.specs.Bytes.{instructionBytes, instructionsBytes, IsCode}
 use Rattle.code.specs.InnerHeights.{Takes}
@@ -21,9 +22,9 @@ use Rattle.script.specs.Jobs.{Job}
 use Rattle.script.specs.Outcome.{Outcome, done}
 use Rattle.thread.specs.declared.Action.{Action}
 use Rattle.thread.specs.declared.Thread.{Thread}
-use Rattle.thread.specs.Threads.{exists, blank, withRule, below, sumTold, adding, push, add, begin, read, write, closed, sourceOf, firstStale}
-use Rattle.thread.specs.InnerStep.{ruleAt, enoughFor, takesOp, sourceNumber, outsideTurn, Handed, handed, unacted, acting, noteAfter, overAtOnce, summing, committed, committedBy, performed, attempted, stepped}
-use Rattle.machine.specs.Steps.{State, Stepped, Acted, Child, alters, committing, commit, ruled, act, perform, settle, threadAt, pickAmong, DoesOne}
+use Rattle.thread.specs.Threads.{exists, blank, withRule, below, sumTold, adding, push, add, begin, read, write, closed, sourceOf, firstStale, overlaid, recounted}
+use Rattle.thread.specs.InnerStep.{ruleAt, enoughFor, takesOp, sourceNumber, outsideTurn, Handed, handed, unacted, acting, noteAfter, overAtOnce, summing, committed, committedBy, performed, attempted, stepped, recountedIn, risenBy, sizedBy, tableFrom}
+use Rattle.machine.specs.Steps.{State, Stepped, Acted, Child, alters, committing, commit, ruled, act, perform, settle, threadAt, pickAmong, DoesOne, tableIn}
 use Rattle.machine.specs.Fits.{Exists, Fits, Typed}
 use Rattle.machine.specs.InnerStands.{registerCells, opOf, Ready}
 use Rattle.machine.specs.InnerTurn.{childrenAs, actedAs, handedAs}
@@ -38,7 +39,7 @@ use Rattle.machine.proofs.Walking.{same-op}
 use Rattle.machine.proofs.Shapes.{Shape, out, open′ as shape-open, shape}
 use Rattle.machine.proofs.Runs.{shows-of}
 use Rattle.machine.proofs.Showings.{Shows, shut, open′}
-use Rattle.machine.proofs.Ranges.{low-fits}
+use Rattle.machine.proofs.Ranges.{low-fits, counts-low}
 use Rattle.machine.proofs.Agrees.{outer, does-one}
 use Rattle.stm.specs.Events.{Source, fromWrites, fromReads, fromTable, looked, idle, summed, committed as takenEffect, sentBack, more, eventNumber, eventRegister, turnNumber, eventOf}
 use Rattle.stm.specs.Rules.{usedBy, ruleNumber, ruleAfter, backsAfter}
@@ -103,12 +104,33 @@ ready-able {bytes} {place} {end} {h} (FORK k) {c} base b r =
     let t : suc h ≤ 64 = ready-takes r .0 in
     rw (le-ltb (length bytes - place) 3 (omega arith)) (enough-yes 0 h 63 (length (instructionsBytes k)) (length bytes - place - 3) (omega arith) (omega arith) (omega arith))
 
+-- ---- counts that are raised by one
+risen-exact : (n : ℕ) → n < 4294967295 → risenBy n ≡ suc n
+unfolding risenBy
+risen-exact n l = rw (lt-ltb n 4294967295 l) (omega arith)
+
+recounted-same : (left v : ℕ) (t : Thread) (ns : List ℕ) → ((u : ℕ) → v ≤ u → getD ns u 0 < 4294967295) → recountedIn left v (t .writes) ns ≡ recounted left v t ns
+unfolding recountedIn recounted
+recounted-same zero v t ns f = refl
+recounted-same (suc left) v t ns f = go (member (t .writes) v) (λ ns′ g. recounted-same left (suc v) t ns′ g)
+  where
+    raised : risenBy (getD ns v 0) ≡ suc (getD ns v 0)
+    raised = one (getD ns v 0) (f v (omega arith))
+      where
+        one : (n : ℕ) → n < 4294967295 → risenBy n ≡ suc n
+        one n l = risen-exact n l
+
+    go : (b : Bool) → ((ns′ : List ℕ) → ((u : ℕ) → suc v ≤ u → getD ns′ u 0 < 4294967295) → recountedIn left (suc v) (t .writes) ns′ ≡ recounted left (suc v) t ns′) → recountedIn left (suc v) (t .writes) (cond b (set ns v (risenBy (getD ns v 0))) ns) ≡ recounted left (suc v) t (cond b (set ns v (suc (getD ns v 0))) ns)
+    go true rec = ap (λ (n : ℕ). recountedIn left (suc v) (t .writes) (set ns v n)) raised ∙ rec (set ns v (suc (getD ns v 0))) (λ u l. subst (λ (n : ℕ). n < 4294967295) (sym (getD-set-other ns v u (suc (getD ns v 0)) 0 (λ e. absurd (omega arith)))) (f u (omega arith)))
+    go false rec = rec ns (λ u l. f u (omega arith))
+
 -- ---- what is done then is what the instruction does
-module _ (sum : Rule) (table : List ℤ) (t : Thread) where
+module _ (sum : Rule) (table : Table) (t : Thread) where
   -- the note and the send-backs are below the greatest number
   record Small : Type 0 where
     over : t .over < 18446744073709551615
     backs : t .backs < 18446744073709551615
+    counts : (v : ℕ) → getD (table .counts) v 0 < 4294967295
 
   noted-exact : t .over < 18446744073709551615 → (b so : Bool) → cond b (t .over) (cond so (saturated (t .over) 1) (t .over)) ≡ cond b (t .over) (t .over + cond so 1 0)
   noted-exact l true so = refl
@@ -148,7 +170,7 @@ module _ (sum : Rule) (table : List ℤ) (t : Thread) where
     where
       go : (b : Bool) → actedAs (committedBy b (firstStale 64 0 t table) table t) ≡ ruled (committing b table t (firstStale 64 0 t table))
       go true = rw (backed-exact (l .backs))
-      go false = refl
+      go false = ap (λ (ns : List ℕ). actedAs (handed (acting 9 1 (t .over) (closed (t .place + 1) (t .height) t)) (tableFrom (overlaid 64 0 t (table .registers)) ns))) (recounted-same 64 0 t (table .counts) (λ u k. l .counts u))
 
   performs-acts : Small → (op : Op) → actedAs (performed sum table t (showOp op)) ≡ act sum table t op
   unfolding actedAs performed act perform eventOf push begin write ruleAt ruleAfter usedBy ruleNumber backsAfter
@@ -184,7 +206,7 @@ module _ (sum : Rule) (table : List ℤ) (t : Thread) where
     where
       go : (b : Bool) → committedBy b (firstStale 64 0 t table) table t ≡ handedAs (ruled (committing b table t (firstStale 64 0 t table)))
       go true = rw (backed-exact (l .backs))
-      go false = refl
+      go false = ap (λ (ns : List ℕ). handed (acting 9 1 (t .over) (closed (t .place + 1) (t .height) t)) (tableFrom (overlaid 64 0 t (table .registers)) ns)) (recounted-same 64 0 t (table .counts) (λ u k. l .counts u))
 
   performs-hands : Small → (op : Op) → performed sum table t (showOp op) ≡ handedAs (act sum table t op)
   unfolding handedAs performed act perform eventNumber eventRegister turnNumber push begin write ruleAt ruleAfter usedBy ruleNumber backsAfter
@@ -215,7 +237,7 @@ module _ (sum : Rule) (table : List ℤ) (t : Thread) where
         go false q = rw (stepped, q, eq-eqb (t .place) (t .end) e)
 
     -- a record that has what its instruction takes does it
-    takes-performs : (t .start ≡ 0 → ⊥) → (t .place ≡ t .end → ⊥) → (op : Op) → opAt (drop (t .place) bytes) ≡ done op → takesOp (showOp op) (t .height) (t .base) (length table) (length bytes - t .place) ≡ true → stepped sum bytes table t ≡ performed sum table t (showOp op)
+    takes-performs : (t .start ≡ 0 → ⊥) → (t .place ≡ t .end → ⊥) → (op : Op) → opAt (drop (t .place) bytes) ≡ done op → takesOp (showOp op) (t .height) (t .base) (sizedBy (length (table .registers)) (length (table .counts))) (length bytes - t .place) ≡ true → stepped sum bytes table t ≡ performed sum table t (showOp op)
     unfolding stepped attempted
     takes-performs s p op o k =
         let a : stepped sum bytes table t ≡ attempted sum bytes table t (shownOp (opAt (drop (t .place) bytes))) = rw (stepped, ne-eqb (t .start) 0 s, ne-eqb (t .place) (t .end) p) in
@@ -223,7 +245,7 @@ module _ (sum : Rule) (table : List ℤ) (t : Thread) where
         a ∙ (ap (λ (x : Outcome Op). attempted sum bytes table t (shownOp x)) o ∙ b)
 
 -- ---- no more sums are told than are noted, or one
-pub act-low : (sum : Rule) (table : List ℤ) (t : Thread) → t .over < 6000 → (op : Op) → act sum table t op .over < 6000
+pub act-low : (sum : Rule) (table : Table) (t : Thread) → t .over < 6000 → (op : Op) → act sum table t op .over < 6000
 unfolding act perform commit
 act-low sum table t l (code.push n) = omega arith
 act-low sum table t l code.add = go (eqb (t .begin) 0) (overflows (below t 2) (below t 1))
@@ -243,6 +265,10 @@ act-low sum table t l code.commit = go (ltb (firstStale 64 0 t table) 64)
     go false = l
 
 -- ---- in a state that fits
+both-sized : {a b : ℕ} → a ≡ 64 → b ≡ 64 → sizedBy a b ≡ 64
+unfolding sizedBy
+both-sized {a} {b} e f = rw (eq-eqb b 64 f) e
+
 there : (t : Thread) → exists t ≡ true → t .start ≡ 0 → ⊥
 there t e z = never (sym (ap (λ (n : ℕ). not (eqb n 0)) z) ∙ e)
   where
@@ -257,66 +283,66 @@ base-low {bytes} {t} h = go (shape (h .region) (h .outer) (h .somewhere) (h .pla
     go (shape-open body c k r i e g) = let q = h .placed .base in let l = g .again .low in omega arith
 
 module _ {bytes : List ℕ} {j : Job} (c : IsCode bytes j) (sum : Rule) where
-  small : (s : State) → Fits bytes s → Typed s → (i : ℕ) → Small sum (s .registers) (threadAt s i)
-  small s f y i = let l = low-fits c s f y i in let a = l .over in let b = l .backs in record { over = omega arith; backs = omega arith }
+  small : (s : State) → Fits bytes s → Typed s → (i : ℕ) → Small sum (tableIn s) (threadAt s i)
+  small s f y i = let l = low-fits c s f y i in let a = l .over in let b = l .backs in record { over = omega arith; backs = omega arith; counts = λ v. (let z = counts-low c s f v in omega arith) }
 
-  step-performs : (s : State) → Fits bytes s → Typed s → (i : ℕ) → Exists s i → (threadAt s i .place ≡ threadAt s i .end → ⊥) → (op : Op) → opAt (drop (threadAt s i .place) bytes) ≡ done op → stepped sum bytes (s .registers) (threadAt s i) ≡ performed sum (s .registers) (threadAt s i) (showOp op)
+  step-performs : (s : State) → Fits bytes s → Typed s → (i : ℕ) → Exists s i → (threadAt s i .place ≡ threadAt s i .end → ⊥) → (op : Op) → opAt (drop (threadAt s i .place) bytes) ≡ done op → stepped sum bytes (tableIn s) (threadAt s i) ≡ performed sum (tableIn s) (threadAt s i) (showOp op)
   step-performs s f y i e ne op o = go (shows-of (held c (outer c) s f y i e))
     where
       low : threadAt s i .base ≤ 64
       low = base-low (held c (outer c) s f y i e)
 
-      one : {ins : Instruction} {k : Code} → threadAt s i .base ≤ 64 → Ready bytes (threadAt s i .place) (threadAt s i .end) (ins ⨾ k) (threadAt s i .height) → stepped sum bytes (s .registers) (threadAt s i) ≡ performed sum (s .registers) (threadAt s i) (showOp op)
+      one : {ins : Instruction} {k : Code} → threadAt s i .base ≤ 64 → Ready bytes (threadAt s i .place) (threadAt s i .end) (ins ⨾ k) (threadAt s i .height) → stepped sum bytes (tableIn s) (threadAt s i) ≡ performed sum (tableIn s) (threadAt s i) (showOp op)
       one {ins} b r =
           let q : opOf ins ≡ op = same-op (sym (ready-op r) ∙ o) in
-          let k : takesOp (showOp (opOf ins)) (threadAt s i .height) (threadAt s i .base) (length (s .registers)) (length bytes - threadAt s i .place) ≡ true = ap (λ (n : ℕ). takesOp (showOp (opOf ins)) (threadAt s i .height) (threadAt s i .base) n (length bytes - threadAt s i .place)) (f .registers) ∙ ready-able ins (threadAt s i .base) b r in
-          takes-performs sum (s .registers) (threadAt s i) bytes (there (threadAt s i) e) ne op o (subst (λ (x : Op). takesOp (showOp x) (threadAt s i .height) (threadAt s i .base) (length (s .registers)) (length bytes - threadAt s i .place) ≡ true) q k)
+          let k : takesOp (showOp (opOf ins)) (threadAt s i .height) (threadAt s i .base) (sizedBy (length (s .registers)) (length (s .counts))) (length bytes - threadAt s i .place) ≡ true = ap (λ (n : ℕ). takesOp (showOp (opOf ins)) (threadAt s i .height) (threadAt s i .base) n (length bytes - threadAt s i .place)) (both-sized (f .registers) (f .counts)) ∙ ready-able ins (threadAt s i .base) b r in
+          takes-performs sum (tableIn s) (threadAt s i) bytes (there (threadAt s i) e) ne op o (subst (λ (x : Op). takesOp (showOp x) (threadAt s i .height) (threadAt s i .base) (sizedBy (length (s .registers)) (length (s .counts))) (length bytes - threadAt s i .place) ≡ true) q k)
 
-      go : (task : Task registerCells) × Shows bytes (threadAt s i) task → stepped sum bytes (s .registers) (threadAt s i) ≡ performed sum (s .registers) (threadAt s i) (showOp op)
+      go : (task : Task registerCells) × Shows bytes (threadAt s i) task → stepped sum bytes (tableIn s) (threadAt s i) ≡ performed sum (tableIn s) (threadAt s i) (showOp op)
       go (task, shut ε r o z) = absurd (ne (stands-end (r .stands)))
       go (task, shut (ins ⨾ k) r o z) = one low r
       go (task, open′ body ε k r o h w g x q) = absurd (no-inside k (threadAt s i .base) o)
       go (task, open′ body (ins ⨾ k) n r o h w g x q) = one low r
 
   -- the step on a thread's record is the instruction at its place, and each number that it hands back is that instruction's
-  pub step-acts : (s : State) → Fits bytes s → Typed s → (i : ℕ) → Exists s i → (threadAt s i .place ≡ threadAt s i .end → ⊥) → (op : Op) → opAt (drop (threadAt s i .place) bytes) ≡ done op → stepped sum bytes (s .registers) (threadAt s i) ≡ handedAs (act sum (s .registers) (threadAt s i) op)
-  step-acts s f y i e ne op o = step-performs s f y i e ne op o ∙ performs-hands sum (s .registers) (threadAt s i) (small s f y i) op
+  pub step-acts : (s : State) → Fits bytes s → Typed s → (i : ℕ) → Exists s i → (threadAt s i .place ≡ threadAt s i .end → ⊥) → (op : Op) → opAt (drop (threadAt s i .place) bytes) ≡ done op → stepped sum bytes (tableIn s) (threadAt s i) ≡ handedAs (act sum (tableIn s) (threadAt s i) op)
+  step-acts s f y i e ne op o = step-performs s f y i e ne op o ∙ performs-hands sum (tableIn s) (threadAt s i) (small s f y i) op
 
-  acted-as : (s : State) → Fits bytes s → Typed s → (i : ℕ) → Exists s i → (threadAt s i .place ≡ threadAt s i .end → ⊥) → (op : Op) → opAt (drop (threadAt s i .place) bytes) ≡ done op → actedAs (stepped sum bytes (s .registers) (threadAt s i)) ≡ act sum (s .registers) (threadAt s i) op
-  acted-as s f y i e ne op o = ap actedAs (step-performs s f y i e ne op o) ∙ performs-acts sum (s .registers) (threadAt s i) (small s f y i) op
+  acted-as : (s : State) → Fits bytes s → Typed s → (i : ℕ) → Exists s i → (threadAt s i .place ≡ threadAt s i .end → ⊥) → (op : Op) → opAt (drop (threadAt s i .place) bytes) ≡ done op → actedAs (stepped sum bytes (tableIn s) (threadAt s i)) ≡ act sum (tableIn s) (threadAt s i) op
+  acted-as s f y i e ne op o = ap actedAs (step-performs s f y i e ne op o) ∙ performs-acts sum (tableIn s) (threadAt s i) (small s f y i) op
 
   -- a pick that no instruction follows hands the record back idle
-  pub idle-step : (table : List ℤ) (t : Thread) → ((t .start ≡ 0) ⊎ (t .place ≡ t .end)) → stepped sum bytes table t ≡ handedAs (alters t table idle 0)
+  pub idle-step : (table : Table) (t : Thread) → ((t .start ≡ 0) ⊎ (t .place ≡ t .end)) → stepped sum bytes table t ≡ handedAs (alters t table idle 0)
   unfolding handedAs eventNumber eventRegister turnNumber
   idle-step table t (inl e) = no-thread-stays sum table t bytes e
   idle-step table t (inr e) = ended-stays sum table t bytes e
 
   -- a pick of any record goes through the step on it
-  pub step-picks : (s : State) → Fits bytes s → Typed s → (count i : ℕ) → i < length (s .threads) → pickAmong sum bytes count s i ≡ settle count s i (actedAs (stepped sum bytes (s .registers) (threadAt s i)))
+  pub step-picks : (s : State) → Fits bytes s → Typed s → (count i : ℕ) → i < length (s .threads) → pickAmong sum bytes count s i ≡ settle count s i (actedAs (stepped sum bytes (tableIn s) (threadAt s i)))
   unfolding settle
   step-picks s f y count i l = go (exists (threadAt s i)) refl (eqb (threadAt s i .place) (threadAt s i .end)) refl
     where
-      still : stepped sum bytes (s .registers) (threadAt s i) ≡ handed (unacted (threadAt s i)) (s .registers) → record { state = s; event = idle; over = 0 } ≡ settle count s i (actedAs (stepped sum bytes (s .registers) (threadAt s i)))
+      still : stepped sum bytes (tableIn s) (threadAt s i) ≡ handed (unacted (threadAt s i)) (tableIn s) → record { state = s; event = idle; over = 0 } ≡ settle count s i (actedAs (stepped sum bytes (tableIn s) (threadAt s i)))
       still e =
           sym
           (ap (λ (h : Handed). settle count s i (actedAs h)) e
-          ∙ (ap (settle count s i) (idle-acts sum (s .registers) (threadAt s i))
-          ∙ ap (λ (ts : List Thread). record { state = record { registers = s .registers; threads = ts }; event = idle; over = 0 }) (set-getD (s .threads) i blank)))
+          ∙ (ap (settle count s i) (idle-acts sum (tableIn s) (threadAt s i))
+          ∙ ap (λ (ts : List Thread). record { state = record { registers = s .registers; counts = s .counts; threads = ts }; event = idle; over = 0 }) (set-getD (s .threads) i blank)))
 
       no-start : (b : Bool) → eqb (threadAt s i .start) 0 ≡ b → not b ≡ false → threadAt s i .start ≡ 0
       no-start true e f = eqb-true (threadAt s i .start) 0 e
       no-start false e f = absurd (let z : _≡_ {A = ℕ} 0 1 = cc in omega arith)
 
-      one : (e : exists (threadAt s i) ≡ true) (ne : threadAt s i .place ≡ threadAt s i .end → ⊥) → DoesOne sum bytes s i → pickAmong sum bytes count s i ≡ settle count s i (actedAs (stepped sum bytes (s .registers) (threadAt s i)))
+      one : (e : exists (threadAt s i) ≡ true) (ne : threadAt s i .place ≡ threadAt s i .end → ⊥) → DoesOne sum bytes s i → pickAmong sum bytes count s i ≡ settle count s i (actedAs (stepped sum bytes (tableIn s) (threadAt s i)))
       one e ne d =
           does sum bytes count s i (d .op) (lt-ltb i (length (s .threads)) l) e ne (d .at-place)
           ∙ sym (ap (settle count s i) (acted-as s f y i e ne (d .op) (d .at-place)))
 
-      go : (b : Bool) → exists (threadAt s i) ≡ b → (d : Bool) → eqb (threadAt s i .place) (threadAt s i .end) ≡ d → pickAmong sum bytes count s i ≡ settle count s i (actedAs (stepped sum bytes (s .registers) (threadAt s i)))
-      go false e d z = missing-idle sum bytes count s i e ∙ still (no-thread-stays sum (s .registers) (threadAt s i) bytes (no-start (eqb (threadAt s i .start) 0) refl e))
+      go : (b : Bool) → exists (threadAt s i) ≡ b → (d : Bool) → eqb (threadAt s i .place) (threadAt s i .end) ≡ d → pickAmong sum bytes count s i ≡ settle count s i (actedAs (stepped sum bytes (tableIn s) (threadAt s i)))
+      go false e d z = missing-idle sum bytes count s i e ∙ still (no-thread-stays sum (tableIn s) (threadAt s i) bytes (no-start (eqb (threadAt s i .start) 0) refl e))
       go true e true z =
           let q = eqb-true (threadAt s i .place) (threadAt s i .end) z in
-          ended-idle sum bytes count s i q ∙ still (ended-stays sum (s .registers) (threadAt s i) bytes q)
+          ended-idle sum bytes count s i q ∙ still (ended-stays sum (tableIn s) (threadAt s i) bytes q)
       go true e false z =
           let ne = eqb-false (threadAt s i .place) (threadAt s i .end) z in
           one e ne (does-one c sum s f y i e ne)

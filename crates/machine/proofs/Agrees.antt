@@ -10,7 +10,7 @@ use Rattle.code.specs.Compile.{Instruction, Code, ε, _⨾_, compileP}
 use Rattle.code.specs.Bytes.{IsCode}
 use Rattle.code.specs.Reader as code
 use Rattle.script.specs.Jobs.{Job}
-use Rattle.machine.specs.Steps.{State, Stepped, numberOf, threadAt, settle, pick, run, DoesOne}
+use Rattle.machine.specs.Steps.{State, Stepped, numberOf, threadAt, settle, pick, run, DoesOne, tableIn}
 use Rattle.machine.specs.Fits.{Exists, Fits, Typed}
 use Rattle.machine.specs.InnerStands.{registerCells, opOf, Ready}
 use Rattle.machine.proofs.Numbers.{in-table}
@@ -54,7 +54,7 @@ module _ {code : List ℕ} {j : Job} (c : IsCode code j) where
       one {ins} r =
           let small : ltb i (length (s .threads)) ≡ true = lt-ltb i (length (s .threads)) (in-table s i e) in
           let d = picks sum code (numberOf (s .threads)) s i (opOf ins) small e ne (ready-op r) in
-          record { op = opOf ins; at-place = ready-op r; does = d; not-idle = ap (λ (x : Stepped). isIdle (x .event)) d ∙ never-idle sum (s .registers) (threadAt s i) (opOf ins) }
+          record { op = opOf ins; at-place = ready-op r; does = d; not-idle = ap (λ (x : Stepped). isIdle (x .event)) d ∙ never-idle sum (tableIn s) (threadAt s i) (opOf ins) }
 
       go : (task : Task registerCells) × Shows code (threadAt s i) task → DoesOne sum code s i
       go (t, shut ε r o z) = absurd (ne (stands-end (r .stands)))

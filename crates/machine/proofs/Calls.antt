@@ -54,18 +54,18 @@ eleventh P code n p e x =
 
 -- ---- what the calls come to: 11, then 12, then 13
 module _ (code : List ℕ) (s : State) where
-  -- the two lengths of `fresh`
+  -- the three lengths of `fresh`
   abbrev sized : Bool
-  sized = eqb (length (s .threads)) 16 && eqb (length (s .registers)) 64
+  sized = eqb (length (s .threads)) 16 && (eqb (length (s .registers)) 64 && eqb (length (s .counts)) 64)
 
-  sized-true : length (s .threads) ≡ 16 → length (s .registers) ≡ 64 → sized ≡ true
-  sized-true k l = rw (eq-eqb (length (s .threads)) 16 k, eq-eqb (length (s .registers)) 64 l)
+  sized-true : length (s .threads) ≡ 16 → length (s .registers) ≡ 64 → length (s .counts) ≡ 64 → sized ≡ true
+  sized-true k l m = rw (eq-eqb (length (s .threads)) 16 k, eq-eqb (length (s .registers)) 64 l, eq-eqb (length (s .counts)) 64 m)
 
-  sized-false : ((length (s .threads) ≡ 16) × (length (s .registers) ≡ 64) → ⊥) → sized ≡ false
+  sized-false : ((length (s .threads) ≡ 16) × (length (s .registers) ≡ 64) × (length (s .counts) ≡ 64) → ⊥) → sized ≡ false
   sized-false n = go sized refl
     where
       go : (b : Bool) → sized ≡ b → b ≡ false
-      go true e = let p = both (eqb (length (s .threads)) 16) (eqb (length (s .registers)) 64) e in absurd (n (eqb-true _ _ (p .0), eqb-true _ _ (p .1)))
+      go true e = let p = both (eqb (length (s .threads)) 16) (eqb (length (s .registers)) 64 && eqb (length (s .counts)) 64) e in let q = both (eqb (length (s .registers)) 64) (eqb (length (s .counts)) 64) (p .1) in absurd (n (eqb-true _ _ (p .0), eqb-true _ _ (q .0), eqb-true _ _ (q .1)))
       go false e = refl
 
   unfit : Typed s → (Fits code s → ⊥) → fits code s ≡ false
@@ -158,14 +158,14 @@ known-code code b = go (readCode code) refl
 reads : {code : List ℕ} {j : Job} → IsCode code j → readCode code ≡ done j
 reads {code} {j} c = ap readCode (c .text) ∙ code-read j (c .version) (c .within)
 
--- `fresh`: 11, then the two lengths
+-- `fresh`: 11, then the three lengths
 pub fresh-answers : (code : List ℕ) (s : State) → Bytes code → (r : Returned FreshReply) → FreshAnswer code s r ↔ (r ≡ freshCall code s)
 fresh-answers code s b r = (there r, λ e. subst (λ (x : Returned FreshReply). FreshAnswer code s x) (sym e) (back (known-code code b)))
   where
     there : (r : Returned FreshReply) → FreshAnswer code s r → r ≡ freshCall code s
     there r (answers.foreign-code f) = sym (fresh-refused code s 11 0 (fresh-11 code s (foreign-exactly code b .1 f)))
     there r (answers.foreign-state c n) = sym (fresh-refused code s 12 0 (fresh-12 code s (reads c) (sized-false code s n)))
-    there r (answers.laid-down c k l) = sym (fresh-taken code s (fresh code) (fresh-done code s (reads c) (sized-true code s k l)))
+    there r (answers.laid-down c k l m) = sym (fresh-taken code s (fresh code) (fresh-done code s (reads c) (sized-true code s k l m)))
 
     back : Known code → FreshAnswer code s (freshCall code s)
     back (foreign f e) = subst (λ (x : Returned FreshReply). FreshAnswer code s x) (sym (fresh-refused code s 11 0 (fresh-11 code s e))) (answers.foreign-code f)
@@ -173,9 +173,10 @@ fresh-answers code s b r = (there r, λ e. subst (λ (x : Returned FreshReply). 
       where
         go : (t : Bool) → sized code s ≡ t → FreshAnswer code s (freshCall code s)
         go true z =
-            let p = both (eqb (length (s .threads)) 16) (eqb (length (s .registers)) 64) z in
-            subst (λ (x : Returned FreshReply). FreshAnswer code s x) (sym (fresh-taken code s (fresh code) (fresh-done code s e z))) (answers.laid-down c (eqb-true _ _ (p .0)) (eqb-true _ _ (p .1)))
-        go false z = subst (λ (x : Returned FreshReply). FreshAnswer code s x) (sym (fresh-refused code s 12 0 (fresh-12 code s e z))) (answers.foreign-state c (λ l. never (sized-true code s (l .0) (l .1)) z))
+            let p = both (eqb (length (s .threads)) 16) (eqb (length (s .registers)) 64 && eqb (length (s .counts)) 64) z in
+            let q = both (eqb (length (s .registers)) 64) (eqb (length (s .counts)) 64) (p .1) in
+            subst (λ (x : Returned FreshReply). FreshAnswer code s x) (sym (fresh-taken code s (fresh code) (fresh-done code s e z))) (answers.laid-down c (eqb-true _ _ (p .0)) (eqb-true _ _ (q .0)) (eqb-true _ _ (q .1)))
+        go false z = subst (λ (x : Returned FreshReply). FreshAnswer code s x) (sym (fresh-refused code s 12 0 (fresh-12 code s e z))) (answers.foreign-state c (λ l. never (sized-true code s (l .0) (l .1) (l .2)) z))
 
 -- `step`: 11, then 12
 pub step-answers : (code : List ℕ) (s : State) (i : ℕ) → Bytes code → Typed s → (r : Returned StepReply) → StepAnswer code s i r ↔ (r ≡ stepCall code s i)
@@ -249,7 +250,7 @@ fresh-says code s = by (readCode code) refl
   where
     by : (o : Outcome Job) → readCode code ≡ o → freshSays (returned (λ (r : State). r) freshReply s (onward o (λ j. rightLengths s (done (fresh code)))) .reply) ≡ mapped (λ (r : State). tt) (onward o (λ j. rightLengths s (done (fresh code))))
     by (refused n p) e = eleventh (λ m q. freshSays (freshReply (refused m q)) ≡ refused m q) code n p e refl
-    by (done j) e = go (not (eqb (length (s .threads)) 16 && eqb (length (s .registers)) 64))
+    by (done j) e = go (not (eqb (length (s .threads)) 16 && (eqb (length (s .registers)) 64 && eqb (length (s .counts)) 64)))
       where
         go : (b : Bool) → freshSays (returned (λ (r : State). r) freshReply s (refuse b 12 0 (done (fresh code))) .reply) ≡ mapped (λ (r : State). tt) (refuse b 12 0 (done (fresh code)))
         go true = refl

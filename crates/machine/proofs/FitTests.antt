@@ -12,13 +12,14 @@ use lib.Dec.{eqb, ltb, leb}
 use lib.IntN.{ℤ, pos, negsuc}
 use lib.ListN.{length, drop, getD, getD-replicate, length-replicate, List·getD-eq-default}
 use lib.Seq.{ext-getD}
+use Rattle.stm.specs.Counted.{Table}
 use Rattle.thread.specs.declared.Thread.{Thread}
-use Rattle.thread.specs.Threads.{zeros, blank, exists, firstStale}
-use Rattle.machine.specs.Steps.{State, threadAt, Child}
-use Rattle.machine.specs.Fits.{Walked, unmoved, Walks, starts, In, here, there, ownCode, Passed, Placed, Exists, Forked, OneThread, CommitsPassed, no-records, of-thread, of-none, BacksWithin, FitsBeside, Fits, TypedThread, Typed}
-use Rattle.machine.specs.FitTest.{walkTo, isZero, freeFrom, free, agreesWith, placed, allZero, noneBehind, inFront, same, childrenOf, passedBy, among, allAmong, threadsOf, oneEach, commitsOf, commitsPassed, needs, allTallied, fitsBeside, fits}
+use Rattle.thread.specs.Threads.{zeros, blank, exists, firstStale, unwritten}
+use Rattle.machine.specs.Steps.{State, threadAt, Child, tableIn}
+use Rattle.machine.specs.Fits.{Walked, unmoved, Walks, starts, In, here, there, ownCode, Passed, Placed, Exists, Forked, OneThread, CommitsPassed, no-records, of-thread, of-none, BacksWithin, Fits, TypedThread, Typed, FitsBeside}
+use Rattle.machine.specs.FitTest.{walkTo, isZero, freeFrom, free, uncountedFrom, uncounted, withinFrom, atMostFrom, agreesWith, placed, allZero, noneBehind, inFront, same, childrenOf, passedBy, among, allAmong, threadsOf, oneEach, commitsOf, commitsPassed, needs, allTallied, fitsBeside, fits}
 use Rattle.machine.proofs.Passing.{passed-once}
-use Rattle.machine.proofs.Stale.{found-stale, none-stale, stale-none}
+use Rattle.machine.proofs.Stale.{found-stale, none-stale, stale-none, low-none}
 use Rattle.machine.proofs.Walking.{walks-found, found-walks}
 use Rattle.word.specs.Registers.{member}
 use Rattle.word.specs.Registers as registers
@@ -78,6 +79,79 @@ all-freed marked ns n e i m = go (decLt i 64)
     go (yes l) = freed 64 0 marked ns e i (omega arith) (omega arith) m
     go (no l) = List·getD-eq-default ns (pos 0) (omega arith)
 
+-- ---- counts that are 0, or not above others
+counts-freed : (left v : ℕ) (marked : ℕ → Bool) (ns : List ℕ) → uncountedFrom left v marked ns ≡ true → (i : ℕ) → v ≤ i → i < v + left → marked i ≡ false → getD ns i 0 ≡ 0
+unfolding uncountedFrom
+counts-freed zero v marked ns e i l h m = absurd (omega arith)
+counts-freed (suc left) v marked ns e i l h m =
+    go (ℕ-discrete v i) (λ l′. counts-freed left (suc v) marked ns (second (marked v || eqb (getD ns v 0) 0) (uncountedFrom left (suc v) marked ns) e) i l′ (omega arith) m)
+  where
+    go : Dec (v ≡ i) → (suc v ≤ i → getD ns i 0 ≡ 0) → getD ns i 0 ≡ 0
+    go (no n) k = k (omega arith)
+    go (yes p) k =
+        let x = first (marked v || eqb (getD ns v 0) 0) (uncountedFrom left (suc v) marked ns) e in
+        let y : eqb (getD ns i 0) 0 ≡ true = rw (p, m) at x in
+        eqb-true (getD ns i 0) 0 y
+
+free-counts : (left v : ℕ) (marked : ℕ → Bool) (ns : List ℕ) → ((i : ℕ) → marked i ≡ false → getD ns i 0 ≡ 0) → uncountedFrom left v marked ns ≡ true
+unfolding uncountedFrom
+free-counts zero v marked ns f = refl
+free-counts (suc left) v marked ns f =
+    both (marked v || eqb (getD ns v 0) 0) (uncountedFrom left (suc v) marked ns) (go (marked v) refl) (free-counts left (suc v) marked ns f)
+  where
+    go : (b : Bool) → marked v ≡ b → (b || eqb (getD ns v 0) 0) ≡ true
+    go true m = refl
+    go false m = eq-eqb (getD ns v 0) 0 (f v m)
+
+all-uncounted : (marked : ℕ → Bool) (ns : List ℕ) → length ns ≡ 64 → uncounted marked ns ≡ true → (i : ℕ) → marked i ≡ false → getD ns i 0 ≡ 0
+all-uncounted marked ns n e i m = go (decLt i 64)
+  where
+    go : Dec (i < 64) → getD ns i 0 ≡ 0
+    go (yes l) = counts-freed 64 0 marked ns e i (omega arith) (omega arith) m
+    go (no l) = List·getD-eq-default ns 0 (omega arith)
+
+within-at : (left v : ℕ) (ns ms : List ℕ) → withinFrom left v ns ms ≡ true → (i : ℕ) → v ≤ i → i < v + left → getD ns i 0 ≤ getD ms i 0
+unfolding withinFrom
+within-at zero v ns ms e i l h = absurd (omega arith)
+within-at (suc left) v ns ms e i l h = go (ℕ-discrete v i) (λ l′. within-at left (suc v) ns ms (second (leb (getD ns v 0) (getD ms v 0)) (withinFrom left (suc v) ns ms) e) i l′ (omega arith))
+  where
+    go : Dec (v ≡ i) → (suc v ≤ i → getD ns i 0 ≤ getD ms i 0) → getD ns i 0 ≤ getD ms i 0
+    go (no n) k = k (omega arith)
+    go (yes p) k = subst (λ (u : ℕ). getD ns u 0 ≤ getD ms u 0) p (leb-true (getD ns v 0) (getD ms v 0) (first (leb (getD ns v 0) (getD ms v 0)) (withinFrom left (suc v) ns ms) e))
+
+at-within : (left v : ℕ) (ns ms : List ℕ) → ((i : ℕ) → getD ns i 0 ≤ getD ms i 0) → withinFrom left v ns ms ≡ true
+unfolding withinFrom
+at-within zero v ns ms f = refl
+at-within (suc left) v ns ms f = both (leb (getD ns v 0) (getD ms v 0)) (withinFrom left (suc v) ns ms) (le-leb (getD ns v 0) (getD ms v 0) (f v)) (at-within left (suc v) ns ms f)
+
+all-within : (ns ms : List ℕ) → length ns ≡ 64 → withinFrom 64 0 ns ms ≡ true → (i : ℕ) → getD ns i 0 ≤ getD ms i 0
+all-within ns ms n e i = go (decLt i 64)
+  where
+    go : Dec (i < 64) → getD ns i 0 ≤ getD ms i 0
+    go (yes l) = within-at 64 0 ns ms e i (omega arith) (omega arith)
+    go (no l) = let z : getD ns i 0 ≡ 0 = List·getD-eq-default ns 0 (omega arith) in omega arith
+
+most-at : (left v : ℕ) (ns : List ℕ) (m : ℕ) → atMostFrom left v ns m ≡ true → (i : ℕ) → v ≤ i → i < v + left → getD ns i 0 ≤ m
+unfolding atMostFrom
+most-at zero v ns m e i l h = absurd (omega arith)
+most-at (suc left) v ns m e i l h = go (ℕ-discrete v i) (λ l′. most-at left (suc v) ns m (second (leb (getD ns v 0) m) (atMostFrom left (suc v) ns m) e) i l′ (omega arith))
+  where
+    go : Dec (v ≡ i) → (suc v ≤ i → getD ns i 0 ≤ m) → getD ns i 0 ≤ m
+    go (no n) k = k (omega arith)
+    go (yes p) k = subst (λ (u : ℕ). getD ns u 0 ≤ m) p (leb-true (getD ns v 0) m (first (leb (getD ns v 0) m) (atMostFrom left (suc v) ns m) e))
+
+at-most : (left v : ℕ) (ns : List ℕ) (m : ℕ) → ((i : ℕ) → getD ns i 0 ≤ m) → atMostFrom left v ns m ≡ true
+unfolding atMostFrom
+at-most zero v ns m f = refl
+at-most (suc left) v ns m f = both (leb (getD ns v 0) m) (atMostFrom left (suc v) ns m) (le-leb (getD ns v 0) m (f v)) (at-most left (suc v) ns m f)
+
+all-most : (ns : List ℕ) (m : ℕ) → length ns ≡ 64 → atMostFrom 64 0 ns m ≡ true → (i : ℕ) → getD ns i 0 ≤ m
+all-most ns m n e i = go (decLt i 64)
+  where
+    go : Dec (i < 64) → getD ns i 0 ≤ m
+    go (yes l) = most-at 64 0 ns m e i (omega arith) (omega arith)
+    go (no l) = let z : getD ns i 0 ≡ 0 = List·getD-eq-default ns 0 (omega arith) in omega arith
+
 -- ---- one record
 record Agrees (t : Thread) (w : Walked) : Type 0 where
   height : t .height ≡ w .height
@@ -131,7 +205,7 @@ found-walked bytes t w e = found-walks bytes (t .start) (t .end) (suc (t .place)
 
 is-placed : (bytes : List ℕ) (t : Thread) → TypedThread t → placed bytes t ≡ true → Placed bytes t
 unfolding placed
-is-placed bytes t y e = go (walkTo bytes t) refl (first (agreesWith t (walkTo bytes t)) (free (member (t .reads)) (t .readlog) && (free (member (t .writes)) (t .writelog) && free (λ n. ltb n (t .height)) (t .cells))) e)
+is-placed bytes t y e = go (walkTo bytes t) refl (first (agreesWith t (walkTo bytes t)) (free (member (t .reads)) (t .readlog) && (free (member (t .writes)) (t .writelog) && (free (λ n. ltb n (t .height)) (t .cells) && uncounted (member (t .reads)) (t .readcounts)))) e)
   where
     go : (o : Option Walked) → walkTo bytes t ≡ o → agreesWith t o ≡ true → Placed bytes t
     go none f x = never (sym x)
@@ -140,9 +214,12 @@ is-placed bytes t y e = go (walkTo bytes t) refl (first (agreesWith t (walkTo by
         let b1 = agreesWith t (walkTo bytes t) in
         let b2 = free (member (t .reads)) (t .readlog) in
         let b3 = free (member (t .writes)) (t .writelog) in
-        let b4 = free (λ n. ltb n (t .height)) (t .cells) in
+        let b5 = free (λ n. ltb n (t .height)) (t .cells) in
+        let b6 = uncounted (member (t .reads)) (t .readcounts) in
+        let b4 = b5 && b6 in
         let r1 = second b1 (b2 && (b3 && b4)) e in
         let r2 = second b2 (b3 && b4) r1 in
+        let r3 = second b3 b4 r2 in
         record {
           walked = w;
           walks = found-walked bytes t w f;
@@ -154,7 +231,8 @@ is-placed bytes t y e = go (walkTo bytes t) refl (first (agreesWith t (walkTo by
           no-writes = a .no-writes;
           reads-free = all-freed (member (t .reads)) (t .readlog) (y .readlog) (first b2 (b3 && b4) r1);
           writes-free = all-freed (member (t .writes)) (t .writelog) (y .writelog) (first b3 b4 r2);
-          cells-free = λ n l. all-freed (λ n. ltb n (t .height)) (t .cells) (y .cells) (second b3 b4 r2) n (le-ltb n (t .height) (omega arith));
+          cells-free = λ n l. all-freed (λ n. ltb n (t .height)) (t .cells) (y .cells) (first b5 b6 r3) n (le-ltb n (t .height) (omega arith));
+          counts-free = all-uncounted (member (t .reads)) (t .readcounts) (y .readcounts) (second b5 b6 r3);
         }
 
 place : (bytes : List ℕ) (t : Thread) → Placed bytes t → placed bytes t ≡ true
@@ -163,11 +241,13 @@ place bytes t p =
     let b1 = agreesWith t (walkTo bytes t) in
     let b2 = free (member (t .reads)) (t .readlog) in
     let b3 = free (member (t .writes)) (t .writelog) in
-    let b4 = free (λ n. ltb n (t .height)) (t .cells) in
+    let b5 = free (λ n. ltb n (t .height)) (t .cells) in
+    let b6 = uncounted (member (t .reads)) (t .readcounts) in
+    let b4 = b5 && b6 in
     both b1 (b2 && (b3 && b4)) agreed
     (both b2 (b3 && b4) (free-from _ 0 (member (t .reads)) (t .readlog) (p .reads-free))
     (both b3 b4 (free-from _ 0 (member (t .writes)) (t .writelog) (p .writes-free))
-    (free-from _ 0 (λ n. ltb n (t .height)) (t .cells) (λ n h. p .cells-free n (ltb-false n (t .height) h)))))
+    (both b5 b6 (free-from _ 0 (λ n. ltb n (t .height)) (t .cells) (λ n h. p .cells-free n (ltb-false n (t .height) h))) (free-counts _ 0 (member (t .reads)) (t .readcounts) (p .counts-free)))))
   where
     agreed : agreesWith t (walkTo bytes t) ≡ true
     agreed =
@@ -179,6 +259,14 @@ zeroed : (ns : List ℤ) → length ns ≡ 64 → free (λ n. false) ns ≡ true
 zeroed ns n e =
     ext-getD (pos 0) ns zeros (n ∙ sym (length-replicate 64 (pos 0)))
     (λ i l. all-freed (λ n. false) ns n e i refl ∙ sym (getD-replicate 64 i (pos 0) (pos 0) (omega arith)))
+
+unwritten-is : (ns : List ℕ) → length ns ≡ 64 → uncounted (λ n. false) ns ≡ true → ns ≡ unwritten
+unwritten-is ns n e =
+    ext-getD 0 ns unwritten (n ∙ sym (length-replicate {A = ℕ} 64 0))
+    (λ i l. all-uncounted (λ n. false) ns n e i refl ∙ sym (getD-replicate 64 i 0 0 (omega arith)))
+
+unwritten-free : uncounted (λ n. false) unwritten ≡ true
+unwritten-free = free-counts _ 0 (λ n. false) unwritten (λ i m. let z = low-none i 0 in omega arith)
 
 zeros-free : free (λ n. false) zeros ≡ true
 zeros-free = free-from _ 0 (λ n. false) zeros (λ i m. go i (decLt i 64))
@@ -204,7 +292,9 @@ is-blank t y e =
     let b9 = free (λ n. false) (t .cells) in
     let b10 = free (λ n. false) (t .readlog) in
     let b11 = free (λ n. false) (t .writelog) in
-    let r9 = b10 && b11 in
+    let b12 = uncounted (λ n. false) (t .readcounts) in
+    let r10 = b11 && b12 in
+    let r9 = b10 && r10 in
     let r8 = b9 && r9 in
     let ry = by && r8 in
     let rx = bx && ry in
@@ -228,6 +318,7 @@ is-blank t y e =
     let ey = second bx ry ex in
     let e8 = second by r8 ey in
     let e9 = second b9 r9 e8 in
+    let e10 = second b10 r10 e9 in
     λ i. record {
       start = eqb-true (t .start) 0 (first b1 r1 e) i;
       end = eqb-true (t .end) 0 (first b2 r2 e1) i;
@@ -238,16 +329,17 @@ is-blank t y e =
       base = eqb-true (t .base) 0 (first b6 r0 e5) i;
       over = eqb-true (t .over) 0 (first b0 r6 e0) i;
       reads = eqb-true (t .reads) 0 (first b7 r7 e6) i;
-      readlog = zeroed (t .readlog) (y .readlog) (first b10 b11 e9) i;
+      readlog = zeroed (t .readlog) (y .readlog) (first b10 r10 e9) i;
+      readcounts = unwritten-is (t .readcounts) (y .readcounts) (second b11 b12 e10) i;
       writes = eqb-true (t .writes) 0 (first b8 rx e7) i;
-      writelog = zeroed (t .writelog) (y .writelog) (second b10 b11 e9) i;
+      writelog = zeroed (t .writelog) (y .writelog) (first b11 b12 e10) i;
       rule = eqb-true (t .rule) 0 (first bx ry ex) i;
       backs = eqb-true (t .backs) 0 (first by r8 ey) i;
     }
 
 blank-zero : allZero blank ≡ true
 unfolding allZero blank registers.none
-blank-zero = rw zeros-free
+blank-zero = rw (zeros-free, unwritten-free)
 
 blank-none : exists blank ≡ false
 unfolding blank
@@ -527,21 +619,24 @@ passed-by bytes (t ∷ ts) f = go (exists t) refl (passed-by bytes ts (λ i. f (
         subst (λ (o : Option Walked). CommitsPassed bytes (t ∷ ts) (commitsOf o + commitsPassed bytes ts)) (sym a) (of-thread x (f 0 x .walks) p)
     go false x p = subst (CommitsPassed bytes (t ∷ ts)) (let z : commitsPassed bytes ts ≡ 0 + commitsPassed bytes ts = omega arith in z) (of-none x p)
 
-tallied-blank : (n : ℕ) (table : List ℤ) → BacksWithin n table blank
+tallied-blank : (n : ℕ) (table : Table) → BacksWithin n table blank
 unfolding blank
-tallied-blank n table = record { not-above = omega arith; not-stale = λ q. stale-none blank table refl }
+tallied-blank n table = record { not-above = omega arith; not-stale = λ q. stale-none blank table refl; not-ahead = λ v. low-none v (getD (table .counts) v 0) }
 
-is-tallied : (n : ℕ) (table : List ℤ) (t : Thread) → leb (needs table t) n ≡ true → BacksWithin n table t
+is-tallied : (n : ℕ) (table : Table) (t : Thread) → TypedThread t → (leb (needs table t) n && withinFrom 64 0 (t .readcounts) (table .counts)) ≡ true → BacksWithin n table t
 unfolding needs
-is-tallied n table t e = go (ltb (firstStale 64 0 t table) 64) refl (leb-true (needs table t) n e)
+is-tallied n table t y e = go (ltb (firstStale 64 0 t table) 64) refl (leb-true (needs table t) n (first (leb (needs table t) n) (withinFrom 64 0 (t .readcounts) (table .counts)) e))
   where
-    go : (b : Bool) → ltb (firstStale 64 0 t table) 64 ≡ b → cond b (suc (t .backs)) (t .backs) ≤ n → BacksWithin n table t
-    go true x l = record { not-above = omega arith; not-stale = λ q. absurd (omega arith) }
-    go false x l = record { not-above = l; not-stale = λ q. none-stale t table (ltb-false (firstStale 64 0 t table) 64 x) }
+    ahead : (v : ℕ) → getD (t .readcounts) v 0 ≤ getD (table .counts) v 0
+    ahead = all-within (t .readcounts) (table .counts) (y .readcounts) (second (leb (needs table t) n) (withinFrom 64 0 (t .readcounts) (table .counts)) e)
 
-tallied-is : (n : ℕ) (table : List ℤ) (t : Thread) → BacksWithin n table t → leb (needs table t) n ≡ true
+    go : (b : Bool) → ltb (firstStale 64 0 t table) 64 ≡ b → cond b (suc (t .backs)) (t .backs) ≤ n → BacksWithin n table t
+    go true x l = record { not-above = omega arith; not-stale = λ q. absurd (omega arith); not-ahead = ahead }
+    go false x l = record { not-above = l; not-stale = λ q. none-stale t table (ltb-false (firstStale 64 0 t table) 64 x); not-ahead = ahead }
+
+tallied-is : (n : ℕ) (table : Table) (t : Thread) → BacksWithin n table t → (leb (needs table t) n && withinFrom 64 0 (t .readcounts) (table .counts)) ≡ true
 unfolding needs
-tallied-is n table t y = le-leb (needs table t) n (go (ltb (firstStale 64 0 t table) 64) refl)
+tallied-is n table t y = both (leb (needs table t) n) (withinFrom 64 0 (t .readcounts) (table .counts)) (le-leb (needs table t) n (go (ltb (firstStale 64 0 t table) 64) refl)) (at-within 64 0 (t .readcounts) (table .counts) (y .not-ahead))
   where
     go : (b : Bool) → ltb (firstStale 64 0 t table) 64 ≡ b → cond b (suc (t .backs)) (t .backs) ≤ n
     go false x = y .not-above
@@ -553,16 +648,16 @@ tallied-is n table t y = le-leb (needs table t) n (go (ltb (firstStale 64 0 t ta
             let s = found-stale t table (ltb-true (firstStale 64 0 t table) 64 x) in
             never (sym (s .its) ∙ y .not-stale (let a = y .not-above in omega arith) (firstStale 64 0 t table))
 
-all-tallied : (n : ℕ) (table : List ℤ) (ts : List Thread) → allTallied n table ts ≡ true → (i : ℕ) → BacksWithin n table (at ts i)
+all-tallied : (n : ℕ) (table : Table) (ts : List Thread) → ((i : ℕ) → TypedThread (at ts i)) → allTallied n table ts ≡ true → (i : ℕ) → BacksWithin n table (at ts i)
 unfolding allTallied
-all-tallied n table [] e i = tallied-blank n table
-all-tallied n table (t ∷ ts) e zero = is-tallied n table t (first (leb (needs table t) n) (allTallied n table ts) e)
-all-tallied n table (t ∷ ts) e (suc i) = all-tallied n table ts (second (leb (needs table t) n) (allTallied n table ts) e) i
+all-tallied n table [] y e i = tallied-blank n table
+all-tallied n table (t ∷ ts) y e zero = is-tallied n table t (y 0) (first (leb (needs table t) n && withinFrom 64 0 (t .readcounts) (table .counts)) (allTallied n table ts) e)
+all-tallied n table (t ∷ ts) y e (suc i) = all-tallied n table ts (λ k. y (suc k)) (second (leb (needs table t) n && withinFrom 64 0 (t .readcounts) (table .counts)) (allTallied n table ts) e) i
 
-tallied-all : (n : ℕ) (table : List ℤ) (ts : List Thread) → ((i : ℕ) → BacksWithin n table (at ts i)) → allTallied n table ts ≡ true
+tallied-all : (n : ℕ) (table : Table) (ts : List Thread) → ((i : ℕ) → BacksWithin n table (at ts i)) → allTallied n table ts ≡ true
 unfolding allTallied
 tallied-all n table [] f = refl
-tallied-all n table (t ∷ ts) f = both (leb (needs table t) n) (allTallied n table ts) (tallied-is n table t (f 0)) (tallied-all n table ts (λ i. f (suc i)))
+tallied-all n table (t ∷ ts) f = both (leb (needs table t) n && withinFrom 64 0 (t .readcounts) (table .counts)) (allTallied n table ts) (tallied-is n table t (f 0)) (tallied-all n table ts (λ i. f (suc i)))
 
 -- ---- the whole test
 forked : (bytes : List ℕ) (s : State) (c : Child) → Parent bytes (s .threads) c → Forked bytes s c
@@ -579,16 +674,21 @@ is-fit others bytes s y e =
     let b4 = inFront bytes ts in
     let b5 = allAmong cs (drop 1 ts) in
     let b6 = oneEach cs ts in
-    let b7 = allTallied (others + commitsPassed bytes ts) (s .registers) ts in
-    let e1 = second b1 (b2 && (b3 && (b4 && (b5 && (b6 && b7))))) e in
-    let e2 = second b2 (b3 && (b4 && (b5 && (b6 && b7)))) e1 in
+    let b8 = allTallied (others + commitsPassed bytes ts) (tableIn s) ts in
+    let b9 = atMostFrom 64 0 (s .counts) (others + commitsPassed bytes ts) in
+    let b7 = b8 && b9 in
+    let b0 = eqb (length (s .counts)) 64 in
+    let e1 = second b1 (b2 && (b0 && (b3 && (b4 && (b5 && (b6 && b7)))))) e in
+    let e0 = second b2 (b0 && (b3 && (b4 && (b5 && (b6 && b7))))) e1 in
+    let e2 = second b0 (b3 && (b4 && (b5 && (b6 && b7)))) e0 in
     let e3 = second b3 (b4 && (b5 && (b6 && b7))) e2 in
     let e4 = second b4 (b5 && (b6 && b7)) e3 in
     let e5 = second b5 (b6 && b7) e4 in
     let f = is-front bytes ts y (first b4 (b5 && (b6 && b7)) e3) in
     record {
-      records = eqb-true (length ts) 16 (first b1 (b2 && (b3 && (b4 && (b5 && (b6 && b7))))) e);
-      registers = eqb-true (length (s .registers)) 64 (first b2 (b3 && (b4 && (b5 && (b6 && b7)))) e1);
+      records = eqb-true (length ts) 16 (first b1 (b2 && (b0 && (b3 && (b4 && (b5 && (b6 && b7)))))) e);
+      registers = eqb-true (length (s .registers)) 64 (first b2 (b0 && (b3 && (b4 && (b5 && (b6 && b7))))) e1);
+      counts = eqb-true (length (s .counts)) 64 (first b0 (b3 && (b4 && (b5 && (b6 && b7)))) e0);
       root = is-same (ownCode (threadAt s 0)) (record { start = 5; end = length bytes }) (first b3 (b4 && (b5 && (b6 && b7))) e2);
       child = λ i x. forked bytes s (ownCode (threadAt s (suc i))) (parent-of bytes ts (ownCode (threadAt s (suc i))) (children (first b5 (b6 && b7) e4) i x));
       one = λ c p. one (each-one cs ts (first b6 b7 e5) c (of-parent bytes ts c (p .parent) (p .there) (p .passed)));
@@ -597,7 +697,8 @@ is-fit others bytes s y e =
       no-thread = f .no-thread;
       commits = commitsPassed bytes ts;
       passed = passed-by bytes ts (f .placed);
-      tallied = λ i h. all-tallied (others + commitsPassed bytes ts) (s .registers) ts (second b6 b7 e5) i;
+      tallied = λ i h. all-tallied (others + commitsPassed bytes ts) (tableIn s) ts y (first b8 b9 (second b6 b7 e5)) i;
+      counted = all-most (s .counts) (others + commitsPassed bytes ts) (eqb-true (length (s .counts)) 64 (first b0 (b3 && (b4 && (b5 && (b6 && b7)))) e0)) (second b8 b9 (second b6 b7 e5));
     }
   where
     one : {c : Child} → One (s .threads) c → OneThread s c
@@ -624,13 +725,17 @@ fit others bytes s f =
     let b4 = inFront bytes ts in
     let b5 = allAmong cs (drop 1 ts) in
     let b6 = oneEach cs ts in
-    let b7 = allTallied (others + commitsPassed bytes ts) (s .registers) ts in
-    both b1 (b2 && (b3 && (b4 && (b5 && (b6 && b7))))) (eq-eqb (length ts) 16 (f .records))
-    (both b2 (b3 && (b4 && (b5 && (b6 && b7)))) (eq-eqb (length (s .registers)) 64 (f .registers))
+    let b8 = allTallied (others + commitsPassed bytes ts) (tableIn s) ts in
+    let b9 = atMostFrom 64 0 (s .counts) (others + commitsPassed bytes ts) in
+    let b7 = b8 && b9 in
+    let b0 = eqb (length (s .counts)) 64 in
+    both b1 (b2 && (b0 && (b3 && (b4 && (b5 && (b6 && b7)))))) (eq-eqb (length ts) 16 (f .records))
+    (both b2 (b0 && (b3 && (b4 && (b5 && (b6 && b7))))) (eq-eqb (length (s .registers)) 64 (f .registers))
+    (both b0 (b3 && (b4 && (b5 && (b6 && b7)))) (eq-eqb (length (s .counts)) 64 (f .counts))
     (both b3 (b4 && (b5 && (b6 && b7))) (the-same (ownCode (threadAt s 0)) (record { start = 5; end = length bytes }) (f .root))
     (both b4 (b5 && (b6 && b7)) (in-front bytes ts (record { placed = f .placed; no-gap = f .no-gap; no-thread = f .no-thread }))
     (both b5 (b6 && b7) (in-all cs (drop 1 ts) children)
-    (both b6 b7 (one-each cs ts (λ c i. one c (f .one c (forked bytes s c (parent-of bytes ts c i))))) (tallied-all (others + commitsPassed bytes ts) (s .registers) ts tallies))))))
+    (both b6 b7 (one-each cs ts (λ c i. one c (f .one c (forked bytes s c (parent-of bytes ts c i))))) (both b8 b9 (tallied-all (others + commitsPassed bytes ts) (tableIn s) ts tallies) (at-most 64 0 (s .counts) (others + commitsPassed bytes ts) most))))))))
   where
     one : (c : Child) → OneThread s c → One (s .threads) c
     one c o =
@@ -640,12 +745,15 @@ fit others bytes s f =
           alone = λ i h. o .alone i (record { there = h .there; own = h .own });
         }
 
-    tallies : (i : ℕ) → BacksWithin (others + commitsPassed bytes (s .threads)) (s .registers) (at (s .threads) i)
+    most : (v : ℕ) → getD (s .counts) v 0 ≤ others + commitsPassed bytes (s .threads)
+    most v = subst (λ (n : ℕ). getD (s .counts) v 0 ≤ others + n) (passed-once (f .passed) (passed-by bytes (s .threads) (f .placed))) (f .counted v)
+
+    tallies : (i : ℕ) → BacksWithin (others + commitsPassed bytes (s .threads)) (tableIn s) (at (s .threads) i)
     tallies i = go (exists (at (s .threads) i)) refl
       where
-        go : (b : Bool) → exists (at (s .threads) i) ≡ b → BacksWithin (others + commitsPassed bytes (s .threads)) (s .registers) (at (s .threads) i)
-        go true x = subst (λ (n : ℕ). BacksWithin (others + n) (s .registers) (at (s .threads) i)) (passed-once (f .passed) (passed-by bytes (s .threads) (f .placed))) (f .tallied i x)
-        go false x = subst (BacksWithin (others + commitsPassed bytes (s .threads)) (s .registers)) (sym (f .no-thread i x)) (tallied-blank (others + commitsPassed bytes (s .threads)) (s .registers))
+        go : (b : Bool) → exists (at (s .threads) i) ≡ b → BacksWithin (others + commitsPassed bytes (s .threads)) (tableIn s) (at (s .threads) i)
+        go true x = subst (λ (n : ℕ). BacksWithin (others + n) (tableIn s) (at (s .threads) i)) (passed-once (f .passed) (passed-by bytes (s .threads) (f .placed))) (f .tallied i x)
+        go false x = subst (BacksWithin (others + commitsPassed bytes (s .threads)) (tableIn s)) (sym (f .no-thread i x)) (tallied-blank (others + commitsPassed bytes (s .threads)) (tableIn s))
 
     children : (i : ℕ) → exists (at (drop 1 (s .threads)) i) ≡ true → In (ownCode (at (drop 1 (s .threads)) i)) (passedBy bytes (s .threads))
     children i x =

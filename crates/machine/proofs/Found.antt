@@ -9,9 +9,10 @@ use borrow.Author.Tests.{eqb-true, eqb-false, ltb-true, ltb-false}
 use lib.Dec.{eqb, ltb}
 use lib.IntN.{ℤ}
 use lib.ListN.{length, drop}
+use Rattle.stm.specs.Counted.{Table}
 use Rattle.thread.specs.declared.Thread.{Thread}
 use Rattle.thread.specs.Threads.{exists, sourceOf, stale, firstStale}
-use Rattle.machine.specs.Steps.{State, Stepped, threadAt, committing, commit, act, perform, settle, doing, pickAmong, FirstStale, FoundIn, in-writes, in-reads, in-table}
+use Rattle.machine.specs.Steps.{State, Stepped, threadAt, committing, commit, act, perform, settle, doing, pickAmong, FirstStale, FoundIn, in-writes, in-reads, in-table, tableIn}
 use Rattle.machine.proofs.Picks.{no-record, missing-idle, ended-idle, busy}
 use Rattle.machine.proofs.Stale.{found-stale, found-none}
 use Rattle.code.specs.Ops.{Op, opAt}
@@ -25,7 +26,7 @@ use Rattle.word.specs.Sum.{Rule}
 -- a pick is idle or does the instruction at its thread's place
 data Does (sum : Rule) (bytes : List ℕ) (s : State) (i : ℕ) : Event → Type 0 where
   nothing : Does sum bytes s i idle
-  one : (op : Op) → opAt (drop (threadAt s i .place) bytes) ≡ done op → Does sum bytes s i (act sum (s .registers) (threadAt s i) op .event)
+  one : (op : Op) → opAt (drop (threadAt s i .place) bytes) ≡ done op → Does sum bytes s i (act sum (tableIn s) (threadAt s i) op .event)
 
 module _ (sum : Rule) (bytes : List ℕ) (count : ℕ) (s : State) (i : ℕ) where
   pick-does : Does sum bytes s i (pickAmong sum bytes count s i .event)
@@ -49,8 +50,8 @@ module _ (sum : Rule) (bytes : List ℕ) (count : ℕ) (s : State) (i : ℕ) whe
 
 -- what an instruction's event tells
 record Tells (bytes : List ℕ) (s : State) (t : Thread) (e : Event) : Type 0 where
-  back : (v : ℕ) → e ≡ sentBack v → FirstStale t (s .registers) v
-  effect : e ≡ committed → (u : ℕ) → u < 64 → stale t (s .registers) u ≡ false
+  back : (v : ℕ) → e ≡ sentBack v → FirstStale t (tableIn s) v
+  effect : e ≡ committed → (u : ℕ) → u < 64 → stale t (tableIn s) u ≡ false
   source : (from : Source) → e ≡ looked from → (v : ℕ) × ((opAt (drop (t .place) bytes) ≡ done (code.read v)) × FoundIn t v from)
 
 found-in : (t : Thread) (v : ℕ) → FoundIn t v (sourceOf t v)
@@ -86,25 +87,25 @@ module _ {bytes : List ℕ} {s : State} {t : Thread} where
         source = λ from p. never (sym q ∙ ap quiet p);
       }
 
-  commit-tells : (v : ℕ) → v ≡ firstStale 64 0 t (s .registers) → Tells bytes s t (commit (s .registers) t v .event)
+  commit-tells : (v : ℕ) → v ≡ firstStale 64 0 t (tableIn s) → Tells bytes s t (commit (tableIn s) t v .event)
   unfolding commit
   commit-tells v q = go (ltb v 64) refl
     where
-      go : (b : Bool) → ltb v 64 ≡ b → Tells bytes s t (committing b (s .registers) t v .event)
+      go : (b : Bool) → ltb v 64 ≡ b → Tells bytes s t (committing b (tableIn s) t v .event)
       go true l =
           record {
-            back = λ w e. let x : v ≡ w = cc in subst (FirstStale t (s .registers)) (sym q ∙ x) (found-stale t (s .registers) (subst (λ (n : ℕ). n < 64) q (ltb-true v 64 l)));
+            back = λ w e. let x : v ≡ w = cc in subst (FirstStale t (tableIn s)) (sym q ∙ x) (found-stale t (tableIn s) (subst (λ (n : ℕ). n < 64) q (ltb-true v 64 l)));
             effect = λ e. absurd (let z : _≡_ {A = ℕ} 0 1 = cc in omega arith);
             source = λ from e. absurd (let z : _≡_ {A = ℕ} 0 1 = cc in omega arith);
           }
       go false l =
           record {
             back = λ w e. absurd (let z : _≡_ {A = ℕ} 0 1 = cc in omega arith);
-            effect = λ e. found-none t (s .registers) (subst (λ (n : ℕ). 64 ≤ n) q (ltb-false v 64 l));
+            effect = λ e. found-none t (tableIn s) (subst (λ (n : ℕ). 64 ≤ n) q (ltb-false v 64 l));
             source = λ from e. absurd (let z : _≡_ {A = ℕ} 0 1 = cc in omega arith);
           }
 
-  act-tells : (sum : Rule) (op : Op) → opAt (drop (t .place) bytes) ≡ done op → Tells bytes s t (act sum (s .registers) t op .event)
+  act-tells : (sum : Rule) (op : Op) → opAt (drop (t .place) bytes) ≡ done op → Tells bytes s t (act sum (tableIn s) t op .event)
   unfolding act perform
   act-tells sum (code.push n) o = silent refl
   act-tells sum code.add o = silent refl
@@ -127,11 +128,11 @@ pick-tells sum bytes count s i = by (pick-does sum bytes count s i)
     by (one op o) = act-tells sum op o
 
 -- a send-back tells the lowest stale register
-pub sent-back-first : (sum : Rule) (bytes : List ℕ) (count : ℕ) (s : State) (i v : ℕ) → pickAmong sum bytes count s i .event ≡ sentBack v → FirstStale (threadAt s i) (s .registers) v
+pub sent-back-first : (sum : Rule) (bytes : List ℕ) (count : ℕ) (s : State) (i v : ℕ) → pickAmong sum bytes count s i .event ≡ sentBack v → FirstStale (threadAt s i) (tableIn s) v
 sent-back-first sum bytes count s i v e = pick-tells sum bytes count s i .back v e
 
 -- a commit takes effect only if no register is stale
-pub committed-none : (sum : Rule) (bytes : List ℕ) (count : ℕ) (s : State) (i : ℕ) → pickAmong sum bytes count s i .event ≡ committed → (u : ℕ) → u < 64 → stale (threadAt s i) (s .registers) u ≡ false
+pub committed-none : (sum : Rule) (bytes : List ℕ) (count : ℕ) (s : State) (i : ℕ) → pickAmong sum bytes count s i .event ≡ committed → (u : ℕ) → u < 64 → stale (threadAt s i) (tableIn s) u ≡ false
 committed-none sum bytes count s i e = pick-tells sum bytes count s i .effect e
 
 -- READ tells where it found its value

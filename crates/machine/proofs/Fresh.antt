@@ -2,18 +2,21 @@
 use Prim.Native.Nat.{ℕ, zero, suc, _<_}
 use mathlib.Core.Bool.{false}
 use mathlib.Core.Path.{_≡_, refl, sym, ap, subst, _∙_}
-use mathlib.Core.List.{List, []}
+use mathlib.Core.List.{List, [], _∷_}
 use native.Mathlib.Omega.{arith}
 use lib.ListN.{length, getD, replicate}
+use lib.IntN.{pos}
+use Rattle.stm.specs.Counted.{Counted}
+use Rattle.machine.proofs.Stale.{low-none}
 use Rattle.code.specs.Compile.{ε, compileP}
 use Rattle.code.specs.Bytes.{IsCode}
 use Rattle.script.specs.Jobs.{Job}
 use Rattle.thread.specs.declared.Thread.{Thread}
 use Rattle.thread.specs.Threads.{blank, spawned, exists}
-use Rattle.machine.specs.Steps.{threadAt, fresh, Child}
+use Rattle.machine.specs.Steps.{threadAt, fresh, Child, tableIn}
 use Rattle.machine.specs.Fits.{Walked, unmoved, starts, In, here, there, Passed, Exists, Placed, BacksWithin, Fits, TypedThread, Typed}
 use Rattle.machine.proofs.Walking.{walks-once}
-use Rattle.machine.specs.InnerStands.{registerCells}
+use Rattle.machine.specs.InnerStands.{registerCells, cellsFrom}
 use Rattle.machine.specs.Stands.{stackFrom}
 use Rattle.machine.proofs.Codes.{code-ready}
 use Rattle.machine.proofs.Placings.{typed-spawned, placed-spawned}
@@ -33,11 +36,16 @@ no-record (suc n) (suc i) = no-record n i
 
 typed-blank : TypedThread blank
 unfolding blank
-typed-blank = record { cells = refl; readlog = refl; writelog = refl }
+typed-blank = record { cells = refl; readlog = refl; writelog = refl; readcounts = refl }
 
 no-child : (c : Child) (cs : List Child) → cs ≡ [] → In c cs → ⊥
 no-child c cs e here = absurd (let z : _≡_ {A = ℕ} 0 1 = cc in omega arith)
 no-child c cs e (there x) = absurd (let z : _≡_ {A = ℕ} 0 1 = cc in omega arith)
+
+cells-fresh : (n : ℕ) → cellsFrom (replicate n (pos 0)) (replicate n 0) ≡ replicate n (record { value = pos 0; count = 0 })
+unfolding cellsFrom
+cells-fresh zero = refl
+cells-fresh (suc n) = ap (λ (h : List Counted). record { value = pos 0; count = 0 } ∷ h) (cells-fresh n)
 
 module _ (bytes : List ℕ) where
   later : (i : ℕ) → threadAt (fresh bytes) (suc i) ≡ blank
@@ -68,6 +76,7 @@ module _ (bytes : List ℕ) where
       record {
         records = refl;
         registers = refl;
+        counts = refl;
         root = refl;
         child = λ i e. absent i e;
         one = λ c f. absurd (none-passed (f .parent) (f .there) c (f .passed));
@@ -77,14 +86,15 @@ module _ (bytes : List ℕ) where
         commits = 0;
         passed = passed-root 5 (length bytes) 15 (omega arith) refl;
         tallied = tallies;
+        counted = λ v. low-none v 0;
       }
     where
       places : (i : ℕ) → Exists (fresh bytes) i → Placed bytes (threadAt (fresh bytes) i)
       places zero e = placed-spawned bytes 5 (length bytes)
       places (suc i) e = absent i e
 
-      tallies : (i : ℕ) → Exists (fresh bytes) i → BacksWithin 0 (fresh bytes .registers) (threadAt (fresh bytes) i)
-      tallies zero e = tallied-spawned 0 (fresh bytes .registers) 5 (length bytes)
+      tallies : (i : ℕ) → Exists (fresh bytes) i → BacksWithin 0 (tableIn (fresh bytes)) (threadAt (fresh bytes) i)
+      tallies zero e = tallied-spawned 0 (tableIn (fresh bytes)) 5 (length bytes)
       tallies (suc i) e = absent i e
 
       blanks : (i : ℕ) → exists (threadAt (fresh bytes) i) ≡ false → threadAt (fresh bytes) i ≡ blank
@@ -97,7 +107,8 @@ module _ (bytes : List ℕ) where
   fresh-mirrors {j} c o =
       record {
         records = refl;
-        table = refl;
+        table = cells-fresh 64;
+        even = refl;
         number = number-is (fresh bytes .threads) 1 first (ap (λ (t : Thread). exists t) (later 0) ∙ blank-absent);
         shown = shown;
       }

@@ -7,24 +7,27 @@ use native.Mathlib.Decide.{decLt}
 use native.Mathlib.Omega.{arith}
 use borrow.Author.Tests.{eqb-true, eqb-false, ne-eqb}
 use lib.Dec.{eqb}
-use lib.IntN.{ℤ}
+use lib.IntN.{ℤ, pos}
 use lib.ListN.{length, getD, set, length-set}
 use lib.Seq.{getD-set-same, getD-set-other}
+use Rattle.stm.specs.Counted.{Table}
 use Rattle.code.specs.Compile.{Code, ε, compileP}
 use Rattle.code.specs.Bytes.{IsCode}
 use Rattle.script.specs.Jobs.{Job}
 use Rattle.thread.specs.declared.Thread.{Thread}
-use Rattle.thread.specs.Threads.{blank, withNotes, withRule, spawned, exists, stale}
-use Rattle.machine.specs.InnerStands.{registerCells}
-use Rattle.machine.specs.Steps.{State, Stepped, numberOf, threadAt, Child, movedBy}
+use Rattle.thread.specs.Threads.{blank, withNotes, withLogs, withRule, spawned, exists, stale}
+use Rattle.machine.specs.InnerStands.{registerCells, cellsFrom}
+use Rattle.machine.specs.Steps.{State, Stepped, numberOf, threadAt, Child, movedBy, tableIn}
+use Rattle.word.specs.Registers.{member}
 use Rattle.machine.specs.Fits.{Walked, Walks, starts, In, here, there, ownCode, Passed, Placed, Exists, ThreadOf, Forked, OneThread, CommitsPassed, BacksWithin, FitsBeside, TypedThread, Typed}
 use Rattle.machine.proofs.Numbers.{before-end, at-end, never, exists-below, in-table}
 use Rattle.machine.proofs.Walking.{walks-once}
 use Rattle.machine.proofs.Placings.{typed-spawned, placed-spawned, typed-moved, placed-moved}
 use Rattle.machine.proofs.Mirrors.{spawned-exists}
 use Rattle.machine.proofs.Passing.{passed-set, passed-new}
-use Rattle.machine.proofs.Stale.{stale-by, stale-none}
+use Rattle.machine.proofs.Stale.{stale-by, stale-none, Grown, low-none}
 use Rattle.machine.proofs.Regions.{link-low, link-once, none-in, FirstOr, first, other, first-or, LastOnce, last-once, LinkOf, passed-link, no-more}
+use Rattle.machine.proofs.Showings.{cells-length}
 use Rattle.machine.proofs.Simulates.{Born, nobody, child, WasStale, Simulated}
 use Rattle.stm.specs.Events.{Event, idle, pushed, summed, forked, begun, looked, wrote, committed, sentBack, isCommit, isBack, more as oneMore}
 use Rattle.stm.specs.Rules.{backsAfter}
@@ -33,9 +36,14 @@ use Rattle.stm.specs.InnerMeaning.{Outside}
 use Rattle.stm.proofs.Bound.{forks-proc}
 
 -- a new thread was never sent back
-pub tallied-spawned : (m : ℕ) (table : List ℤ) (a b : ℕ) → BacksWithin m table (spawned a b)
+pub tallied-spawned : (m : ℕ) (table : Table) (a b : ℕ) → BacksWithin m table (spawned a b)
 unfolding spawned
-tallied-spawned m table a b = record { not-above = omega arith; not-stale = λ q. stale-none (spawned a b) table refl }
+tallied-spawned m table a b = record { not-above = omega arith; not-stale = λ q. stale-none (spawned a b) table refl; not-ahead = λ v. low-none v (getD (table .counts) v 0) }
+
+-- a table of 64 registers and 64 counts
+pub record Sized (table : Table) : Type 0 where
+  pub registers : length (table .registers) ≡ 64
+  pub counts : length (table .counts) ≡ 64
 
 -- the threads of a state that fits are those with lower numbers
 below-number : {bytes : List ℕ} {beside : ℕ} (s : State) → FitsBeside beside bytes s → (k : ℕ) → Exists s k → k < numberOf (s .threads)
@@ -150,7 +158,7 @@ module _ {bytes : List ℕ} {j : Job} {beside : ℕ} (c : IsCode bytes j) (o : O
     typed′ : (k : ℕ) → k < n → TypedThread (threadAt s′ k)
     typed′ = each (λ (k : ℕ). TypedThread (threadAt s′ k)) (subst TypedThread (sym at-i) ty) (λ k l q. subst TypedThread (sym q) (y k))
 
-    tallied′ : (table : List ℤ) (m : ℕ) → ((k : ℕ) → Exists s k → BacksWithin m table (threadAt s k)) → BacksWithin m table t → (k : ℕ) → k < n → BacksWithin m table (threadAt s′ k)
+    tallied′ : (table : Table) (m : ℕ) → ((k : ℕ) → Exists s k → BacksWithin m table (threadAt s k)) → BacksWithin m table t → (k : ℕ) → k < n → BacksWithin m table (threadAt s′ k)
     tallied′ table m others its = each (λ (k : ℕ). BacksWithin m table (threadAt s′ k)) (subst (BacksWithin m table) (sym at-i) its) (λ k l q. subst (BacksWithin m table) (sym q) (others k (before-end (s .threads) k l)))
 
     in-right : (x : Child) (bs : List Child) → In x old → In x (bs ++ old)
@@ -204,9 +212,9 @@ module _ {bytes : List ℕ} {j : Job} {beside : ℕ} (c : IsCode bytes j) (o : O
   passed-on d q = passed-set i d t (f .passed) i-in e (f .placed i e .walks) (ap (λ (x : ℕ). not (eqb x 0)) st ∙ e) (p .walks) q
 
   -- ---- a step that is no FORK
-  module _ (table : List ℤ) (sized : length table ≡ 64) (kids : p .walked .children ≡ [] ++ old) (d : ℕ) (ahead : p .walked .commits ≡ d + f .placed i e .walked .commits) (tallies : (k : ℕ) → Exists s k → BacksWithin (beside + (d + f .commits)) table (threadAt s k)) (its : BacksWithin (beside + (d + f .commits)) table t) where
+  module _ (table : Table) (sized : Sized table) (kids : p .walked .children ≡ [] ++ old) (d : ℕ) (ahead : p .walked .commits ≡ d + f .placed i e .walked .commits) (tallies : (k : ℕ) → Exists s k → BacksWithin (beside + (d + f .commits)) table (threadAt s k)) (its : BacksWithin (beside + (d + f .commits)) table t) (most : (v : ℕ) → getD (table .counts) v 0 ≤ beside + (d + f .commits)) where
     abbrev quiet : State
-    quiet = record { registers = table; threads = set (s .threads) i t }
+    quiet = record { registers = table .registers; counts = table .counts; threads = set (s .threads) i t }
 
     quiet-i : threadAt quiet i ≡ t
     quiet-i = getD-set-same (s .threads) i t blank i-in
@@ -256,7 +264,8 @@ module _ {bytes : List ℕ} {j : Job} {beside : ℕ} (c : IsCode bytes j) (o : O
         let l = i-below in
         record {
           records = length-set (s .threads) i t ∙ f .records;
-          registers = sized;
+          registers = sized .registers;
+          counts = sized .counts;
           root = own′ quiet quiet-i quiet-other [] kids 0 (omega arith) ∙ f .root;
           child = λ k h. child′ quiet quiet-i quiet-other [] kids k (quiet-below (suc k) h);
           one = quiet-one;
@@ -266,15 +275,16 @@ module _ {bytes : List ℕ} {j : Job} {beside : ℕ} (c : IsCode bytes j) (o : O
           commits = d + f .commits;
           passed = passed-on d ahead;
           tallied = λ k h. tallied′ quiet quiet-i quiet-other [] kids table (beside + (d + f .commits)) tallies its k (quiet-below k h);
+          counted = most;
         }
 
   -- ---- a FORK
-  module _ (table : List ℤ) (sized : length table ≡ 64) (a b : ℕ) (some : 1 ≤ a) (kids : p .walked .children ≡ record { start = a; end = b } ∷ old) (d : ℕ) (ahead : p .walked .commits ≡ d + f .placed i e .walked .commits) (tallies : (k : ℕ) → Exists s k → BacksWithin (beside + (d + f .commits)) table (threadAt s k)) (its : BacksWithin (beside + (d + f .commits)) table t) where
+  module _ (table : Table) (sized : Sized table) (a b : ℕ) (some : 1 ≤ a) (kids : p .walked .children ≡ record { start = a; end = b } ∷ old) (d : ℕ) (ahead : p .walked .commits ≡ d + f .placed i e .walked .commits) (tallies : (k : ℕ) → Exists s k → BacksWithin (beside + (d + f .commits)) table (threadAt s k)) (its : BacksWithin (beside + (d + f .commits)) table t) (most : (v : ℕ) → getD (table .counts) v 0 ≤ beside + (d + f .commits)) where
     abbrev new : Child
     new = record { start = a; end = b }
 
     abbrev more : State
-    more = record { registers = table; threads = set (set (s .threads) i t) n (spawned a b) }
+    more = record { registers = table .registers; counts = table .counts; threads = set (set (s .threads) i t) n (spawned a b) }
 
     n-room : n < 16
     n-room = room new kids
@@ -429,7 +439,8 @@ module _ {bytes : List ℕ} {j : Job} {beside : ℕ} (c : IsCode bytes j) (o : O
         let l = i-below in
         record {
           records = length-set (set (s .threads) i t) n (spawned a b) ∙ (length-set (s .threads) i t ∙ f .records);
-          registers = sized;
+          registers = sized .registers;
+          counts = sized .counts;
           root = own′ more more-i more-other (new ∷ []) kids 0 (omega arith) ∙ f .root;
           child = more-child;
           one = more-one;
@@ -439,11 +450,12 @@ module _ {bytes : List ℕ} {j : Job} {beside : ℕ} (c : IsCode bytes j) (o : O
           commits = d + f .commits;
           passed = more-passed;
           tallied = more-tallied;
+          counted = most;
         }
 
-  born-keeps : (table : List ℤ) → length table ≡ 64 → (d : ℕ) → p .walked .commits ≡ d + f .placed i e .walked .commits → ((k : ℕ) → Exists s k → BacksWithin (beside + (d + f .commits)) table (threadAt s k)) → BacksWithin (beside + (d + f .commits)) table t → (ks : List Code) (born : List Child) (ts : List Thread) → p .walked .children ≡ born ++ old → Born bytes (set (s .threads) i t) n ks born ts → FitsBeside beside bytes (record { registers = table; threads = ts }) × Typed (record { registers = table; threads = ts })
-  born-keeps table sized d ahead tallies its ks born ts kids nobody = (quiet-fits table sized kids d ahead tallies its, quiet-typed table sized kids d ahead tallies its)
-  born-keeps table sized d ahead tallies its ks born ts kids (child a b r q l) = (more-fits table sized a b l kids d ahead tallies its, more-typed table sized a b l kids d ahead tallies its)
+  born-keeps : (table : Table) → Sized table → (d : ℕ) → p .walked .commits ≡ d + f .placed i e .walked .commits → ((k : ℕ) → Exists s k → BacksWithin (beside + (d + f .commits)) table (threadAt s k)) → BacksWithin (beside + (d + f .commits)) table t → ((v : ℕ) → getD (table .counts) v 0 ≤ beside + (d + f .commits)) → (ks : List Code) (born : List Child) (ts : List Thread) → p .walked .children ≡ born ++ old → Born bytes (set (s .threads) i t) n ks born ts → FitsBeside beside bytes (record { registers = table .registers; counts = table .counts; threads = ts }) × Typed (record { registers = table .registers; counts = table .counts; threads = ts })
+  born-keeps table sized d ahead tallies its most ks born ts kids nobody = (quiet-fits table sized kids d ahead tallies its most, quiet-typed table sized kids d ahead tallies its most)
+  born-keeps table sized d ahead tallies its most ks born ts kids (child a b r q l) = (more-fits table sized a b l kids d ahead tallies its most, more-typed table sized a b l kids d ahead tallies its most)
 
   -- so many more COMMITs are passed
   born-commits : (d : ℕ) → p .walked .commits ≡ d + f .placed i e .walked .commits → (ks : List Code) (born : List Child) (ts : List Thread) → Born bytes (set (s .threads) i t) n ks born ts → CommitsPassed bytes ts (d + f .commits)
@@ -453,14 +465,14 @@ module _ {bytes : List ℕ} {j : Job} {beside : ℕ} (c : IsCode bytes j) (o : O
 
 -- ---- the send-backs
 -- what an event makes of the COMMITs passed, the table, a thread's record and its own
-module _ (table table′ : List ℤ) (n : ℕ) where
+module _ (table table′ : Table) (n : ℕ) (grows : (v : ℕ) → getD (table .counts) v 0 ≤ getD (table′ .counts) v 0) where
   same-tally : (e : table′ ≡ table) (t : Thread) → BacksWithin n table t → BacksWithin (0 + n) table′ t
   same-tally e t y =
-      subst (λ (x : List ℤ). BacksWithin (0 + n) x t) (sym e)
-      (record { not-above = let a = y .not-above in omega arith; not-stale = λ q. y .not-stale (omega arith) })
+      subst (λ (x : Table). BacksWithin (0 + n) x t) (sym e)
+      (record { not-above = let a = y .not-above in omega arith; not-stale = λ q. y .not-stale (omega arith); not-ahead = y .not-ahead })
 
   more-tally : (t : Thread) → BacksWithin n table t → BacksWithin (1 + n) table′ t
-  more-tally t y = let a = y .not-above in record { not-above = omega arith; not-stale = λ q. absurd (omega arith) }
+  more-tally t y = let a = y .not-above in record { not-above = omega arith; not-stale = λ q. absurd (omega arith); not-ahead = λ v. let b = y .not-ahead v in let c = grows v in omega arith }
 
   abbrev Still : Event → Type 0
   Still e = isCommit e ≡ false → table′ ≡ table
@@ -476,21 +488,23 @@ module _ (table table′ : List ℤ) (n : ℕ) where
   others-tally committed s = more-tally
   others-tally (sentBack v) s = same-tally (s refl)
 
-  module _ (t u : Thread) (y : BacksWithin n table t) (same : u .backs ≡ t .backs) (calm : (v : ℕ) → stale t table v ≡ false → stale u table v ≡ false) where
+  module _ (t u : Thread) (y : BacksWithin n table t) (same : u .backs ≡ t .backs) (calm : (v : ℕ) → stale t table v ≡ false → stale u table v ≡ false) (low : (v : ℕ) → getD (u .readcounts) v 0 ≤ getD (table .counts) v 0) where
     calm-tally : table′ ≡ table → (rule : ℕ) → BacksWithin (0 + n) table′ (withRule rule (u .backs) u)
     calm-tally e rule =
-        subst (λ (x : List ℤ). BacksWithin (0 + n) x (withRule rule (u .backs) u)) (sym e)
+        subst (λ (x : Table). BacksWithin (0 + n) x (withRule rule (u .backs) u)) (sym e)
         (record {
           not-above = let a = y .not-above in omega arith;
           not-stale = λ q v. stale-by u (withRule rule (u .backs) u) table refl refl v (calm v (y .not-stale (omega arith) v));
+          not-ahead = low;
         })
 
     back-tally : table′ ≡ table → WasStale t u table → (rule : ℕ) → BacksWithin (0 + n) table′ (withRule rule (suc (u .backs)) u)
     back-tally e w rule =
-        subst (λ (x : List ℤ). BacksWithin (0 + n) x (withRule rule (suc (u .backs)) u)) (sym e)
+        subst (λ (x : Table). BacksWithin (0 + n) x (withRule rule (suc (u .backs)) u)) (sym e)
         (record {
-          not-above = low;
+          not-above = lower;
           not-stale = λ q v. stale-by u (withRule rule (suc (u .backs)) u) table refl refl v (w .none-now v);
+          not-ahead = low;
         })
       where
         below : t .backs < n
@@ -500,8 +514,8 @@ module _ (table table′ : List ℤ) (n : ℕ) where
             go (yes l) = l
             go (no m) = never (w .was) (y .not-stale (let a = y .not-above in omega arith) (w .register))
 
-        low : suc (u .backs) ≤ 0 + n
-        low = let l = below in omega arith
+        lower : suc (u .backs) ≤ 0 + n
+        lower = let l = below in omega arith
 
     its-tally : (e : Event) → Still e → (isBack e ≡ true → WasStale t u table) → BacksWithin (oneMore (isCommit e) 0 + n) table′ (movedBy e u)
     unfolding backsAfter
@@ -514,7 +528,7 @@ module _ (table table′ : List ℤ) (n : ℕ) where
     its-tally wrote s b = calm-tally (s refl) _
     its-tally committed s b =
         let a = y .not-above in
-        record { not-above = omega arith; not-stale = λ q. absurd (omega arith) }
+        record { not-above = omega arith; not-stale = λ q. absurd (omega arith); not-ahead = λ v. let b = low v in let c = grows v in omega arith }
     its-tally (sentBack v) s b = back-tally (s refl) (b refl) _
 
 more-plus : (b : Bool) (n : ℕ) → oneMore b n ≡ oneMore b 0 + n
@@ -522,7 +536,7 @@ more-plus true n = omega arith
 more-plus false n = omega arith
 
 -- so many more are passed beside the others' too
-past-others : (a b n : ℕ) {table : List ℤ} {t : Thread} → BacksWithin (a + (b + n)) table t → BacksWithin (b + (a + n)) table t
+past-others : (a b n : ℕ) {table : Table} {t : Thread} → BacksWithin (a + (b + n)) table t → BacksWithin (b + (a + n)) table t
 past-others a b n {table} {t} = subst (λ (m : ℕ). BacksWithin m table t) (let z : a + (b + n) ≡ b + (a + n) = omega arith in z)
 
 -- what an instruction of a thread leaves fits the code again
@@ -532,11 +546,31 @@ keeps {bytes} {j} {beside} c o s f y i e q r d sized x =
     let w : q .walked ≡ f .placed i e .walked = walks-once bytes (threadAt s i .start) (threadAt s i .end) (q .walks) (f .placed i e .walks) in
     let k : x .placed .walked .children ≡ x .born ++ f .placed i e .walked .children = subst (λ (v : Walked). x .placed .walked .children ≡ x .born ++ v .children) w (x .kids) in
     let a : x .placed .walked .commits ≡ oneMore (isCommit (r .event)) 0 + f .placed i e .walked .commits = x .commits ∙ (more-plus (isCommit (r .event)) (q .walked .commits) ∙ ap (λ (v : Walked). oneMore (isCommit (r .event)) 0 + v .commits) w) in
-    born-keeps c o s f y i e (movedBy (r .event) (x .thread)) (typed-moved _ _ (x .thread) (x .typed)) (placed-moved _ _ (x .thread) (x .placed)) (x .start) (x .end) (r .state .registers) (ap length (x .registers) ∙ sized)
+    born-keeps c o s f y i e (movedBy (r .event) (x .thread)) (typed-moved _ _ (x .thread) (x .typed)) (placed-moved _ _ (x .thread) (x .placed)) (x .start) (x .end) (tableIn (r .state)) long
     (oneMore (isCommit (r .event)) 0) a
-    (λ m h. past-others (oneMore (isCommit (r .event)) 0) beside (f .commits) (others-tally (s .registers) (r .state .registers) (beside + f .commits) (r .event) (x .still) (threadAt s m) (f .tallied m h)))
-    (past-others (oneMore (isCommit (r .event)) 0) beside (f .commits) (its-tally (s .registers) (r .state .registers) (beside + f .commits) (threadAt s i) (x .thread) (f .tallied i e) (x .backs) (x .calm) (r .event) (x .still) (x .sent-back)))
-    (d .children) (x .born) (r .state .threads) k (x .threads)
+    (λ m h. past-others (oneMore (isCommit (r .event)) 0) beside (f .commits) (others-tally (tableIn s) (tableIn (r .state)) (beside + f .commits) grows (r .event) (x .still) (threadAt s m) (f .tallied m h)))
+    (past-others (oneMore (isCommit (r .event)) 0) beside (f .commits) (its-tally (tableIn s) (tableIn (r .state)) (beside + f .commits) grows (threadAt s i) (x .thread) (f .tallied i e) (x .backs) (x .calm) (x .low (f .tallied i e .not-ahead)) (r .event) (x .still) (x .sent-back)))
+    most (d .children) (x .born) (r .state .threads) k (x .threads)
+  where
+    grows : (v : ℕ) → getD (s .counts) v 0 ≤ getD (r .state .counts) v 0
+    grows v = x .grown (f .counts) v .0
+
+    more-plus′ : (b : Bool) (m n k : ℕ) → m ≤ oneMore b n → n ≤ k → m ≤ oneMore b 0 + k
+    more-plus′ true m n k l q = omega arith
+    more-plus′ false m n k l q = omega arith
+
+    sum : (k : ℕ) → k + (beside + f .commits) ≡ beside + (k + f .commits)
+    sum k = omega arith
+
+    most : (v : ℕ) → getD (r .state .counts) v 0 ≤ beside + (oneMore (isCommit (r .event)) 0 + f .commits)
+    most v = subst (λ (n : ℕ). getD (r .state .counts) v 0 ≤ n) (sum (oneMore (isCommit (r .event)) 0)) (more-plus′ (isCommit (r .event)) (getD (r .state .counts) v 0) (getD (s .counts) v 0) (beside + f .commits) (x .grown (f .counts) v .1) (f .counted v))
+
+    long : Sized (tableIn (r .state))
+    long =
+        let a : length (cellsFrom (r .state .registers) (r .state .counts)) ≡ 64 = ap length (x .registers) ∙ sized in
+        let b = cells-length (r .state .registers) (r .state .counts) (x .even) in
+        let c = x .even in
+        record { registers = omega arith; counts = omega arith }
 
 -- and passes a COMMIT if that takes effect
 pub keeps-passed : {bytes : List ℕ} {j : Job} {beside : ℕ} → IsCode bytes j → Outside (compileP (j .tree) ε) 0 → (s : State) → (f : FitsBeside beside bytes s) → Typed s → (i : ℕ) → Exists s i → (q : Placed bytes (threadAt s i)) (r : Stepped) (d : Did registerCells) → Simulated bytes s i (threadAt s i) (q .walked) r d → CommitsPassed bytes (r .state .threads) (oneMore (isCommit (r .event)) (f .commits))
@@ -548,21 +582,21 @@ keeps-passed {bytes} c o s f y i e q r d x =
     (born-commits c o s f y i e (movedBy (r .event) (x .thread)) (typed-moved _ _ (x .thread) (x .typed)) (placed-moved _ _ (x .thread) (x .placed)) (x .start) (x .end) (oneMore (isCommit (r .event)) 0) a (d .children) (x .born) (r .state .threads) (x .threads))
 
 -- no COMMIT more is passed
-none-more : (beside n : ℕ) {table : List ℤ} {t : Thread} → BacksWithin (beside + n) table t → BacksWithin (beside + (0 + n)) table t
+none-more : (beside n : ℕ) {table : Table} {t : Thread} → BacksWithin (beside + n) table t → BacksWithin (beside + (0 + n)) table t
 none-more beside n {table} {t} = subst (λ (m : ℕ). BacksWithin m table t) (let z : beside + n ≡ beside + (0 + n) = omega arith in z)
 
 -- a thread's last rule is free, and its number of send-backs as far as the COMMITs passed allow
-pub numbers-free : {bytes : List ℕ} {j : Job} {beside : ℕ} → IsCode bytes j → Outside (compileP (j .tree) ε) 0 → (s : State) → (f : FitsBeside beside bytes s) → Typed s → (i : ℕ) → Exists s i → (rule backs : ℕ) → BacksWithin (beside + f .commits) (s .registers) (withRule rule backs (threadAt s i)) → FitsBeside beside bytes (record { registers = s .registers; threads = set (s .threads) i (withRule rule backs (threadAt s i)) })
+pub numbers-free : {bytes : List ℕ} {j : Job} {beside : ℕ} → IsCode bytes j → Outside (compileP (j .tree) ε) 0 → (s : State) → (f : FitsBeside beside bytes s) → Typed s → (i : ℕ) → Exists s i → (rule backs : ℕ) → BacksWithin (beside + f .commits) (tableIn s) (withRule rule backs (threadAt s i)) → FitsBeside beside bytes (record { registers = s .registers; counts = s .counts; threads = set (s .threads) i (withRule rule backs (threadAt s i)) })
 unfolding placed-moved
 numbers-free {bytes} {j} {beside} c o s f y i e rule backs x =
-    quiet-fits c o s f y i e (withRule rule backs (threadAt s i)) (typed-moved rule backs (threadAt s i) (y i)) (placed-moved rule backs (threadAt s i) (f .placed i e)) refl refl (s .registers) (f .registers) refl
-    0 (omega arith) (λ k h. none-more beside (f .commits) (f .tallied k h)) (none-more beside (f .commits) x)
+    quiet-fits c o s f y i e (withRule rule backs (threadAt s i)) (typed-moved rule backs (threadAt s i) (y i)) (placed-moved rule backs (threadAt s i) (f .placed i e)) refl refl (tableIn s) (record { registers = f .registers; counts = f .counts }) refl
+    0 (omega arith) (λ k h. none-more beside (f .commits) (f .tallied k h)) (none-more beside (f .commits) x) (λ v. let z = f .counted v in omega arith)
 
 -- document 02 No. 2: its count is free as far as the ADDs passed since its BEGIN allow
 pub note-free : {bytes : List ℕ} {j : Job} {beside : ℕ} → IsCode bytes j → Outside (compileP (j .tree) ε) 0 → (s : State) (f : FitsBeside beside bytes s) → Typed s → (i : ℕ) (e : Exists s i) (over : ℕ) → over ≤ f .placed i e .walked .adds
-    → FitsBeside beside bytes (record { registers = s .registers; threads = set (s .threads) i (withNotes (threadAt s i .begin) (threadAt s i .base) over (threadAt s i)) })
+    → FitsBeside beside bytes (record { registers = s .registers; counts = s .counts; threads = set (s .threads) i (withNotes (threadAt s i .begin) (threadAt s i .base) over (threadAt s i)) })
 note-free {bytes} {j} {beside} c o s f y i e over low =
-    quiet-fits c o s f y i e t (record { cells = y i .cells; readlog = y i .readlog; writelog = y i .writelog })
+    quiet-fits c o s f y i e t (record { cells = y i .cells; readlog = y i .readlog; readcounts = y i .readcounts; writelog = y i .writelog })
     (record {
       walked = p .walked;
       walks = p .walks;
@@ -573,14 +607,46 @@ note-free {bytes} {j} {beside} c o s f y i e over low =
       no-reads = p .no-reads;
       no-writes = p .no-writes;
       reads-free = p .reads-free;
+      counts-free = p .counts-free;
       writes-free = p .writes-free;
       cells-free = p .cells-free;
     })
-    refl refl (s .registers) (f .registers) refl 0 (omega arith) (λ k h. none-more beside (f .commits) (f .tallied k h))
-    (none-more beside (f .commits) (record { not-above = f .tallied i e .not-above; not-stale = λ q v. stale-by (threadAt s i) t (s .registers) refl refl v (f .tallied i e .not-stale q v) }))
+    refl refl (tableIn s) (record { registers = f .registers; counts = f .counts }) refl 0 (omega arith) (λ k h. none-more beside (f .commits) (f .tallied k h))
+    (none-more beside (f .commits) (record { not-above = f .tallied i e .not-above; not-stale = λ q v. stale-by (threadAt s i) t (tableIn s) refl refl v (f .tallied i e .not-stale q v); not-ahead = f .tallied i e .not-ahead }))
+    (λ v. let z = f .counted v in omega arith)
   where
     t : Thread
     t = withNotes (threadAt s i .begin) (threadAt s i .base) over (threadAt s i)
+
+    p : Placed bytes (threadAt s i)
+    p = f .placed i e
+
+-- document 02 No. 6: its read log is free, values and counts, as far as unmarked registers have 0 and the COMMITs passed and the table's counts allow
+pub log-free : {bytes : List ℕ} {j : Job} {beside : ℕ} → IsCode bytes j → Outside (compileP (j .tree) ε) 0 → (s : State) (f : FitsBeside beside bytes s) → Typed s → (i : ℕ) (e : Exists s i) (values : List ℤ) (ns : List ℕ) → length values ≡ 64 → length ns ≡ 64
+    → ((v : ℕ) → member (threadAt s i .reads) v ≡ false → (getD values v (pos 0) ≡ pos 0) × (getD ns v 0 ≡ 0))
+    → BacksWithin (beside + f .commits) (tableIn s) (withLogs (threadAt s i .reads) values ns (threadAt s i .writes) (threadAt s i .writelog) (threadAt s i))
+    → FitsBeside beside bytes (record { registers = s .registers; counts = s .counts; threads = set (s .threads) i (withLogs (threadAt s i .reads) values ns (threadAt s i .writes) (threadAt s i .writelog) (threadAt s i)) })
+log-free {bytes} {j} {beside} c o s f y i e values ns lv ln free x =
+    quiet-fits c o s f y i e t (record { cells = y i .cells; readlog = lv; readcounts = ln; writelog = y i .writelog })
+    (record {
+      walked = p .walked;
+      walks = p .walks;
+      height = p .height;
+      begin = p .begin;
+      base = p .base;
+      over = p .over;
+      no-reads = p .no-reads;
+      no-writes = p .no-writes;
+      reads-free = λ v m. free v m .0;
+      counts-free = λ v m. free v m .1;
+      writes-free = p .writes-free;
+      cells-free = p .cells-free;
+    })
+    refl refl (tableIn s) (record { registers = f .registers; counts = f .counts }) refl 0 (omega arith) (λ k h. none-more beside (f .commits) (f .tallied k h))
+    (none-more beside (f .commits) x) (λ v. let z = f .counted v in omega arith)
+  where
+    t : Thread
+    t = withLogs (threadAt s i .reads) values ns (threadAt s i .writes) (threadAt s i .writelog) (threadAt s i)
 
     p : Placed bytes (threadAt s i)
     p = f .placed i e

@@ -24,3 +24,5 @@ pub mod Actings
 pub mod Notes
 pub mod Ruled
 pub mod Cuts
+pub mod Beside
+pub mod Written

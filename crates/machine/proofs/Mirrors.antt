@@ -10,6 +10,7 @@ use lib.Dec.{eqb, ltb}
 use lib.IntN.{ℤ}
 use lib.ListN.{length, drop, getD, set, length-set, length-append, List·getD-eq-default}
 use lib.Seq.{getD-set-same, getD-set-other, set-getD, getD-append-seam}
+use Rattle.stm.specs.Counted.{Counted}
 use Rattle.code.specs.Compile.{Instruction, Code, ε, _⨾_}
 use Rattle.code.specs.Ops.{opAt}
 use Rattle.script.specs.Outcome.{done}
@@ -18,7 +19,7 @@ use Rattle.thread.specs.Threads.{blank, spawned, exists}
 use Rattle.machine.specs.Steps.{State, Stepped, numberOf, threadAt, instruction, pick, Child, movedBy, act, perform, settle}
 use Rattle.stm.specs.Events.{idle}
 use Rattle.machine.specs.Fits.{Walked, Exists}
-use Rattle.machine.specs.InnerStands.{registerCells, tableOf, opOf, Ready}
+use Rattle.machine.specs.InnerStands.{registerCells, tableOf, opOf, Ready, cellsFrom}
 use Rattle.machine.specs.Stands.{stackFrom}
 use Rattle.machine.proofs.Numbers.{next-absent, at-end, number-is, below-exists, exists-below, number-small}
 use Rattle.machine.proofs.Picks.{missing-idle, ended-idle, does}
@@ -37,6 +38,7 @@ no-inside k b x = x
 pub record Mirrors (bytes : List ℕ) (s : State) (sys : System registerCells) : Type 0 where
   pub records : length (s .threads) ≡ 16
   pub table : tableOf s ≡ sys .table
+  pub even : length (s .registers) ≡ length (s .counts)
   pub number : numberOf (s .threads) ≡ length (sys .tasks)
   pub shown : (i : ℕ) → i < length (sys .tasks) → Shows bytes (threadAt s i) (taskAt registerCells sys i)
 
@@ -73,7 +75,7 @@ module _ (bytes : List ℕ) (sum : Rule) where
           (does sum bytes (numberOf (s .threads)) s i (opOf ins) small e (λ z. absurd (omega arith)) o)
           e
           (subst (λ (y : Task registerCells). Simulated bytes s i (threadAt s i) (h .placed .walked) (instruction sum s i (threadAt s i) (opOf ins)) (stepTask registerCells sum (sys .table) y)) (sym q)
-          (subst (λ (y : List ℤ). Simulated bytes s i (threadAt s i) (h .placed .walked) (instruction sum s i (threadAt s i) (opOf ins)) (stepTask registerCells sum y t)) (m .table) x))
+          (subst (λ (y : List Counted). Simulated bytes s i (threadAt s i) (h .placed .walked) (instruction sum s i (threadAt s i) (opOf ins)) (stepTask registerCells sum y t)) (m .table) x))
 
       ended : (σ : List ℤ) → taskAt registerCells sys i ≡ outside ε σ → threadAt s i .place ≡ threadAt s i .end → Picked bytes sum s sys i (h .placed .walked)
       ended σ q z =
@@ -83,11 +85,11 @@ module _ (bytes : List ℕ) (sum : Rule) where
 
       go : (t : Task registerCells) → taskAt registerCells sys i ≡ t → Shows bytes (threadAt s i) t → Picked bytes sum s sys i (h .placed .walked)
       go t q (shut ε r o z) = ended (stackFrom (threadAt s i .cells) 0 (threadAt s i .height)) q (stands-end (r .stands))
-      go t q (shut (ins ⨾ c) r o z) = at-place ins t q (stands-inside (r .stands)) (ready-op r) (from-outside sum s i (threadAt s i) h ins c r o z)
+      go t q (shut (ins ⨾ c) r o z) = at-place ins t q (stands-inside (r .stands)) (ready-op r) (from-outside sum s i (threadAt s i) h (m .even) ins c r o z)
       go t q (open′ body ε k r o f w g x y) = absurd (no-inside k (threadAt s i .base) o)
       go t q (open′ body (ins ⨾ c) k r o f w g x y) =
           at-place ins t q (stands-inside (r .stands)) (ready-op r)
-          (from-inside sum s i (threadAt s i) h ins body c k (record { ready = r; goes-on = o; height = f; somewhere = w; again = g; outer = x; same = y }))
+          (from-inside sum s i (threadAt s i) h (m .even) ins body c k (record { ready = r; goes-on = o; height = f; somewhere = w; again = g; outer = x; same = y }))
 
 -- ---- what a step leaves
 pub same-start : (a b : Thread) → a .start ≡ b .start → exists b ≡ true → exists a ≡ true
@@ -107,11 +109,12 @@ less-than k l n z f w = go (decLt k l)
 
 module _ {bytes : List ℕ} where
   -- a thread's record and its task change
-  changed : (s : State) (sys : System registerCells) → Mirrors bytes s sys → (i : ℕ) → i < length (sys .tasks) → (rs : List ℤ) (t : Thread) (task : Task registerCells) → t .start ≡ threadAt s i .start → Shows bytes t task → Mirrors bytes (record { registers = rs; threads = set (s .threads) i t }) (record { table = rs; tasks = set (sys .tasks) i task })
-  changed s sys m i l rs t task e x =
+  changed : (s : State) (sys : System registerCells) → Mirrors bytes s sys → (i : ℕ) → i < length (sys .tasks) → (rs : List ℤ) (ns : List ℕ) → length rs ≡ length ns → (t : Thread) (task : Task registerCells) → t .start ≡ threadAt s i .start → Shows bytes t task → Mirrors bytes (record { registers = rs; counts = ns; threads = set (s .threads) i t }) (record { table = cellsFrom rs ns; tasks = set (sys .tasks) i task })
+  changed s sys m i l rs ns ev t task e x =
       record {
         records = length-set (s .threads) i t ∙ m .records;
         table = refl;
+        even = ev;
         number = number-is (set (s .threads) i t) (length (set (sys .tasks) i task)) each last;
         shown = each-shown;
       }
@@ -156,11 +159,12 @@ module _ {bytes : List ℕ} where
               subst (λ (y : Task registerCells). Shows bytes (getD (set (s .threads) i t) k blank) y) (sym b) (subst (λ (y : Thread). Shows bytes y (taskAt registerCells sys k)) (sym a) (m .shown k (omega (arith, long))))
 
   -- a child's record and its task come behind
-  grown : (s : State) (sys : System registerCells) → Mirrors bytes s sys → numberOf (s .threads) < 16 → exists (getD (s .threads) (suc (numberOf (s .threads))) blank) ≡ false → (t : Thread) (task : Task registerCells) → exists t ≡ true → Shows bytes t task → Mirrors bytes (record { registers = s .registers; threads = set (s .threads) (numberOf (s .threads)) t }) (record { table = sys .table; tasks = sys .tasks ++ (task ∷ []) })
+  grown : (s : State) (sys : System registerCells) → Mirrors bytes s sys → numberOf (s .threads) < 16 → exists (getD (s .threads) (suc (numberOf (s .threads))) blank) ≡ false → (t : Thread) (task : Task registerCells) → exists t ≡ true → Shows bytes t task → Mirrors bytes (record { registers = s .registers; counts = s .counts; threads = set (s .threads) (numberOf (s .threads)) t }) (record { table = sys .table; tasks = sys .tasks ++ (task ∷ []) })
   grown s sys m room none t task e x =
       record {
         records = length-set (s .threads) (numberOf (s .threads)) t ∙ m .records;
         table = m .table;
+        even = m .even;
         number = number-is (set (s .threads) n t) (length (sys .tasks ++ (task ∷ []))) each last;
         shown = each-shown;
       }
@@ -202,7 +206,7 @@ module _ {bytes : List ℕ} where
               subst (λ (y : Task registerCells). Shows bytes (getD (set (s .threads) n t) k blank) y) (sym (getD-front (sys .tasks) task k g)) (subst (λ (y : Thread). Shows bytes y (taskAt registerCells sys k)) (sym (getD-set-other (s .threads) n k t blank z)) (m .shown k g))
 
 -- ---- a pick
-over-idle : (sum : Rule) (table : List ℤ) (t : Task registerCells) → t ≡ ended registerCells → stepTask registerCells sum table t ≡ record { task = t; table = table; children = []; event = idle; over = 0 }
+over-idle : (sum : Rule) (table : List Counted) (t : Task registerCells) → t ≡ ended registerCells → stepTask registerCells sum table t ≡ record { task = t; table = table; children = []; event = idle; over = 0 }
 unfolding stepTask stepOutside
 over-idle sum table t e = ap (λ (x : Task registerCells). stepTask registerCells sum table x) e ∙ ap (λ (x : Task registerCells). record { task = x; table = table; children = []; event = idle; over = 0 }) (sym e)
 
@@ -231,11 +235,11 @@ module _ (bytes : List ℕ) (sum : Rule) where
   -- a step of thread i and of its task
   stepped : (s : State) (sys : System registerCells) → Mirrors bytes s sys → ((i : ℕ) → Exists s (suc i) → Exists s i) → (i : ℕ) → i < length (sys .tasks) → (old : Walked) (r : Stepped) (d : Did registerCells) → ((k : Code) → d .children ≡ k ∷ [] → numberOf (s .threads) < 16) → Simulated bytes s i (threadAt s i) old r d → Mirrors bytes (r .state) (put registerCells sys i d)
   stepped s sys m gap i l old r d room x =
-      subst (λ (rs : List ℤ). Mirrors bytes (r .state) (record { table = rs; tasks = set (sys .tasks) i (d .task) ++ started registerCells (d .children) })) (x .registers)
+      subst (λ (h : List Counted). Mirrors bytes (r .state) (record { table = h; tasks = set (sys .tasks) i (d .task) ++ started registerCells (d .children) })) (x .registers)
       (go (d .children) (x .born) (r .state .threads) (x .threads) room)
     where
-      one : Mirrors bytes (record { registers = r .state .registers; threads = set (s .threads) i (movedBy (r .event) (x .thread)) }) (record { table = r .state .registers; tasks = set (sys .tasks) i (d .task) })
-      one = changed s sys m i l (r .state .registers) (movedBy (r .event) (x .thread)) (d .task) (x .start) (shows-moved _ _ (x .shows))
+      one : Mirrors bytes (record { registers = r .state .registers; counts = r .state .counts; threads = set (s .threads) i (movedBy (r .event) (x .thread)) }) (record { table = tableOf (r .state); tasks = set (sys .tasks) i (d .task) })
+      one = changed s sys m i l (r .state .registers) (r .state .counts) (x .even) (movedBy (r .event) (x .thread)) (d .task) (x .start) (shows-moved _ _ (x .shows))
 
       number : numberOf (set (s .threads) i (movedBy (r .event) (x .thread))) ≡ numberOf (s .threads)
       number = one .number ∙ (length-set (sys .tasks) i (d .task) ∙ sym (m .number))
@@ -245,11 +249,11 @@ module _ (bytes : List ℕ) (sum : Rule) where
           ap (λ (y : ℕ). exists (getD (set (s .threads) i (movedBy (r .event) (x .thread))) (suc y) blank)) number
           ∙ (ap (λ (y : Thread). exists y) (getD-set-other (s .threads) i (suc (numberOf (s .threads))) (movedBy (r .event) (x .thread)) blank (λ q. absurd (let z = m .number in omega arith))) ∙ next-absent s gap)
 
-      go : (ks : List Code) (bs : List Child) (ts : List Thread) → Born bytes (set (s .threads) i (movedBy (r .event) (x .thread))) (numberOf (s .threads)) ks bs ts → ((k : Code) → ks ≡ k ∷ [] → numberOf (s .threads) < 16) → Mirrors bytes (record { registers = r .state .registers; threads = ts }) (record { table = r .state .registers; tasks = set (sys .tasks) i (d .task) ++ started registerCells ks })
-      go ks bs ts nobody f = subst (λ (y : List (Task registerCells)). Mirrors bytes (record { registers = r .state .registers; threads = set (s .threads) i (movedBy (r .event) (x .thread)) }) (record { table = r .state .registers; tasks = y })) (sym (append-nil (set (sys .tasks) i (d .task)))) one
+      go : (ks : List Code) (bs : List Child) (ts : List Thread) → Born bytes (set (s .threads) i (movedBy (r .event) (x .thread))) (numberOf (s .threads)) ks bs ts → ((k : Code) → ks ≡ k ∷ [] → numberOf (s .threads) < 16) → Mirrors bytes (record { registers = r .state .registers; counts = r .state .counts; threads = ts }) (record { table = tableOf (r .state); tasks = set (sys .tasks) i (d .task) ++ started registerCells ks })
+      go ks bs ts nobody f = subst (λ (y : List (Task registerCells)). Mirrors bytes (record { registers = r .state .registers; counts = r .state .counts; threads = set (s .threads) i (movedBy (r .event) (x .thread)) }) (record { table = tableOf (r .state); tasks = y })) (sym (append-nil (set (sys .tasks) i (d .task)))) one
       go ks bs ts (child {k} start end ready o there) f =
-          subst (λ (y : ℕ). Mirrors bytes (record { registers = r .state .registers; threads = set (set (s .threads) i (movedBy (r .event) (x .thread))) y (spawned start end) }) (record { table = r .state .registers; tasks = set (sys .tasks) i (d .task) ++ (outside k [] ∷ []) })) number
-          (grown (record { registers = r .state .registers; threads = set (s .threads) i (movedBy (r .event) (x .thread)) }) (record { table = r .state .registers; tasks = set (sys .tasks) i (d .task) }) one (subst (λ (y : ℕ). y < 16) (sym number) (f k refl)) behind (spawned start end) (outside k []) (spawned-exists start end there) (spawned-shows start end k ready o))
+          subst (λ (y : ℕ). Mirrors bytes (record { registers = r .state .registers; counts = r .state .counts; threads = set (set (s .threads) i (movedBy (r .event) (x .thread))) y (spawned start end) }) (record { table = tableOf (r .state); tasks = set (sys .tasks) i (d .task) ++ (outside k [] ∷ []) })) number
+          (grown (record { registers = r .state .registers; counts = r .state .counts; threads = set (s .threads) i (movedBy (r .event) (x .thread)) }) (record { table = tableOf (r .state); tasks = set (sys .tasks) i (d .task) }) one (subst (λ (y : ℕ). y < 16) (sym number) (f k refl)) behind (spawned start end) (outside k []) (spawned-exists start end there) (spawned-shows start end k ready o))
 
   -- a number with no thread is idle in both
   pub idle-missing : (s : State) (sys : System registerCells) → Mirrors bytes s sys → ((i : ℕ) → Exists s (suc i) → Exists s i) → (i : ℕ) → length (sys .tasks) ≤ i → (pick sum bytes s i ≡ record { state = s; event = idle; over = 0 }) × (did registerCells sum sys i ≡ record { task = taskAt registerCells sys i; table = sys .table; children = []; event = idle; over = 0 })

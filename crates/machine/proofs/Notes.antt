@@ -9,11 +9,12 @@ use lib.Dec.{eqb, ltb}
 use lib.IntN.{ℤ}
 use lib.ListN.{length, drop, getD, set}
 use lib.Seq.{getD-set-same, getD-set-other}
+use Rattle.stm.specs.Counted.{Table}
 use Rattle.code.specs.Bytes.{IsCode}
 use Rattle.code.specs.Ops.{Op, opAt}
 use Rattle.code.specs.Ops as code
 use Rattle.machine.specs.Fits.{Placed, Exists, Fits, Typed}
-use Rattle.machine.specs.Steps.{State, Stepped, Acted, Child, threadAt, numberOf, committing, commit, act, perform, seated, settle, doing, pickAmong, pick, instruction, toldBy, notedBy}
+use Rattle.machine.specs.Steps.{State, Stepped, Acted, Child, threadAt, numberOf, committing, commit, act, perform, seated, settle, doing, pickAmong, pick, instruction, toldBy, notedBy, tableIn}
 use Rattle.machine.proofs.Agrees.{does-one}
 use Rattle.machine.proofs.Numbers.{exists-below, in-table}
 use Rattle.machine.proofs.Picks.{no-record, missing-idle, ended-idle, busy}
@@ -26,7 +27,7 @@ use Rattle.thread.specs.Threads.{exists, blank, spawned, below, push, add, begi
 use Rattle.word.specs.Sum.{Rule, overOf}
 
 -- ---- one instruction
-module _ (sum : Rule) (table : List ℤ) (t : Thread) where
+module _ (sum : Rule) (table : Table) (t : Thread) where
   act-told : (op : Op) → act sum table t op .over ≡ toldBy (act sum table t op .event) t
   unfolding act perform commit
   act-told (code.push n) = refl
@@ -55,12 +56,12 @@ module _ (sum : Rule) (table : List ℤ) (t : Thread) where
       go false = refl
   act-noted (code.fork size) = refl
   act-noted code.begin = refl
-  act-noted (code.read v) = go (sourceOf t v) (readFrom (sourceOf t v) table t v)
+  act-noted (code.read v) = go (sourceOf t v) (readFrom (sourceOf t v) (table .registers) t v) (getD (table .counts) v 0)
     where
-      go : (from : Source) (n : ℤ) → noted from v n t .over ≡ t .over
-      go fromWrites n = refl
-      go fromReads n = refl
-      go fromTable n = refl
+      go : (from : Source) (n : ℤ) (k : ℕ) → noted from v n k t .over ≡ t .over
+      go fromWrites n k = refl
+      go fromReads n k = refl
+      go fromTable n k = refl
   act-noted (code.write v) = refl
   act-noted code.commit = go (ltb (firstStale 64 0 t table) 64)
     where
@@ -78,7 +79,7 @@ pick-told sum bytes count s i = go (ltb i (length (s .threads))) refl (exists (t
 
     at-place : (o : Outcome Op) → Told (doing sum count s i (threadAt s i) o)
     at-place (refused n p) = refl
-    at-place (done op) = act-told sum (s .registers) (threadAt s i) op
+    at-place (done op) = act-told sum (tableIn s) (threadAt s i) op
 
     go : (a : Bool) → ltb i (length (s .threads)) ≡ a → (b : Bool) → exists (threadAt s i) ≡ b → (c : Bool) → eqb (threadAt s i .place) (threadAt s i .end) ≡ c → Told (pickAmong sum bytes count s i)
     go false l b e c z = subst Told (sym (no-record sum bytes count s i l)) refl
@@ -108,10 +109,10 @@ module _ {bytes : List ℕ} {j : Job} (c : IsCode bytes j) (sum : Rule) where
       go true z = subst Noted (sym (ended-idle sum bytes (numberOf (s .threads)) s i (eqb-true (threadAt s i .place) (threadAt s i .end) z))) refl
       go false z =
           let d = does-one c sum s f y i e (eqb-false (threadAt s i .place) (threadAt s i .end) z) in
-          let a : Acted = act sum (s .registers) (threadAt s i) (d .op) in
+          let a : Acted = act sum (tableIn s) (threadAt s i) (d .op) in
           subst Noted (sym (d .does))
           (ap (λ (t : Thread). t .over) (put-back (s .threads) (numberOf (s .threads)) i (a .thread) (a .children) (in-table s i e) (exists-below s (f .no-gap) i e))
-          ∙ act-noted sum (s .registers) (threadAt s i) (d .op))
+          ∙ act-noted sum (tableIn s) (threadAt s i) (d .op))
 
 -- ---- where no transaction is open
 pub none-noted : {bytes : List ℕ} {t : Thread} → Placed bytes t → t .begin ≡ 0 → t .over ≡ 0

@@ -7,11 +7,11 @@ use mathlib.Core.List.{List, [], _∷_, _++_}
 use native.Mathlib.Omega.{arith}
 use borrow.Author.Tests.{eqb-true, eqb-false, eq-eqb, ne-eqb}
 use lib.Dec.{eqb, ltb}
-use lib.IntN.{ℤ}
 use lib.ListN.{length, drop}
+use Rattle.stm.specs.Counted.{Table}
 use Rattle.thread.specs.declared.Thread.{Thread}
 use Rattle.thread.specs.Threads.{exists}
-use Rattle.machine.specs.Steps.{State, Acted, committing, commit, act, perform, ruled, Stepped, numberOf, threadAt, settle, doing, pickAmong, pick, Ran, run}
+use Rattle.machine.specs.Steps.{State, Acted, committing, commit, act, perform, ruled, Stepped, numberOf, threadAt, settle, doing, pickAmong, pick, Ran, run, tableIn}
 use Rattle.stm.specs.Events.{idle, isIdle, isCommit, Counts, more, tally, countsOf}
 use Rattle.code.specs.Ops.{Op, opAt}
 use Rattle.code.specs.Ops as code
@@ -25,11 +25,11 @@ never′ : {A : Type 0} {x y : A} → _≡_ {A = Bool} true false → x ≡ y
 never′ e = absurd (let z : _≡_ {A = ℕ} 0 1 = cc in omega arith)
 
 -- an instruction is never idle, and only a COMMIT that takes effect changes the table
-record ActLawful (h : List ℤ) (a : Acted) : Type 0 where
+record ActLawful (h : Table) (a : Acted) : Type 0 where
   busy : isIdle (a .event) ≡ false
   table : isCommit (a .event) ≡ false → a .table ≡ h
 
-commit-lawful : (table : List ℤ) (t : Thread) (v : ℕ) → ActLawful table (commit table t v)
+commit-lawful : (table : Table) (t : Thread) (v : ℕ) → ActLawful table (commit table t v)
 unfolding commit
 commit-lawful table t v = go (ltb v 64)
   where
@@ -37,10 +37,10 @@ commit-lawful table t v = go (ltb v 64)
     go true = record { busy = refl; table = λ e. refl }
     go false = record { busy = refl; table = never′ }
 
-ruled-lawful : {table : List ℤ} {a : Acted} → ActLawful table a → ActLawful table (ruled a)
+ruled-lawful : {table : Table} {a : Acted} → ActLawful table a → ActLawful table (ruled a)
 ruled-lawful l = record { busy = l .busy; table = l .table }
 
-act-lawful : (sum : Rule) (table : List ℤ) (t : Thread) (op : Op) → ActLawful table (act sum table t op)
+act-lawful : (sum : Rule) (table : Table) (t : Thread) (op : Op) → ActLawful table (act sum table t op)
 unfolding act perform
 act-lawful sum table t (code.push n) = record { busy = refl; table = λ e. refl }
 act-lawful sum table t code.add = record { busy = refl; table = λ e. refl }
@@ -50,19 +50,19 @@ act-lawful sum table t code.begin = record { busy = refl; table = λ e. refl }
 act-lawful sum table t code.commit = ruled-lawful (commit-lawful table t _)
 act-lawful sum table t (code.fork size) = record { busy = refl; table = λ e. refl }
 
-pub never-idle : (sum : Rule) (table : List ℤ) (t : Thread) (op : Op) → isIdle (act sum table t op .event) ≡ false
+pub never-idle : (sum : Rule) (table : Table) (t : Thread) (op : Op) → isIdle (act sum table t op .event) ≡ false
 never-idle sum table t op = act-lawful sum table t op .busy
 
 -- what holds of a pick that is no commit, and of one that is idle
 record PickLawful (s : State) (r : Stepped) : Type 0 where
   still : isIdle (r .event) ≡ true → r .state ≡ s
-  table : isCommit (r .event) ≡ false → r .state .registers ≡ s .registers
+  table : isCommit (r .event) ≡ false → tableIn (r .state) ≡ tableIn s
 
 doing-lawful : (sum : Rule) (count : ℕ) (s : State) (i : ℕ) (t : Thread) (o : Outcome Op) → PickLawful s (doing sum count s i t o)
 unfolding settle
 doing-lawful sum count s i t (refused number place) = record { still = λ e. refl; table = λ e. refl }
 doing-lawful sum count s i t (done op) =
-    let a = act-lawful sum (s .registers) t op in
+    let a = act-lawful sum (tableIn s) t op in
     record { still = λ e. never (sym (a .busy) ∙ e); table = a .table }
 
 or-true : (b : Bool) → (b || true) ≡ true
@@ -94,7 +94,7 @@ module _ (sum : Rule) (bytes : List ℕ) (count : ℕ) (s : State) (i : ℕ) whe
   unfolding pickAmong
   busy l e z = rw (pickAmong, l, e, ne-eqb (threadAt s i .place) (threadAt s i .end) z)
 
-  pub does : (op : Op) → ltb i (length (s .threads)) ≡ true → exists (threadAt s i) ≡ true → (threadAt s i .place ≡ threadAt s i .end → ⊥) → opAt (drop (threadAt s i .place) bytes) ≡ done op → pickAmong sum bytes count s i ≡ settle count s i (act sum (s .registers) (threadAt s i) op)
+  pub does : (op : Op) → ltb i (length (s .threads)) ≡ true → exists (threadAt s i) ≡ true → (threadAt s i .place ≡ threadAt s i .end → ⊥) → opAt (drop (threadAt s i .place) bytes) ≡ done op → pickAmong sum bytes count s i ≡ settle count s i (act sum (tableIn s) (threadAt s i) op)
   does op l e z f = busy l e z ∙ ap (λ (o : Outcome Op). doing sum count s i (threadAt s i) o) f
 
   idle-lawful : pickAmong sum bytes count s i ≡ record { state = s; event = idle; over = 0 } → PickLawful s (pickAmong sum bytes count s i)
@@ -116,7 +116,7 @@ pub idle-keeps : (sum : Rule) (bytes : List ℕ) (s : State) (i : ℕ) → isIdl
 idle-keeps sum bytes s i = pick-lawful sum bytes (numberOf (s .threads)) s i .still
 
 -- no pick but a COMMIT that takes effect changes a register
-pub only-commit-writes : (sum : Rule) (bytes : List ℕ) (s : State) (i : ℕ) → isCommit (pick sum bytes s i .event) ≡ false → pick sum bytes s i .state .registers ≡ s .registers
+pub only-commit-writes : (sum : Rule) (bytes : List ℕ) (s : State) (i : ℕ) → isCommit (pick sum bytes s i .event) ≡ false → tableIn (pick sum bytes s i .state) ≡ tableIn s
 only-commit-writes sum bytes s i = pick-lawful sum bytes (numberOf (s .threads)) s i .table
 
 -- ---- runs

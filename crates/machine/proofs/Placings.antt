@@ -10,6 +10,7 @@ use lib.Dec.{eqb}
 use lib.IntN.{ℤ, pos}
 use lib.ListN.{length, drop, getD, set, take, replicate, length-set, length-append, length-replicate}
 use lib.Seq.{getD-set-same, getD-set-other, length-take-le}
+use Rattle.stm.specs.Counted.{Table}
 use Rattle.thread.specs.declared.Thread.{Thread}
 use Rattle.thread.specs.Threads.{withRule, sumNoted, zeros, spawned, push, add, begin, below, sourceOf, readFrom, noted, read, write, closed}
 use Rattle.stm.specs.Events.{Source, fromWrites, fromReads, fromTable}
@@ -42,13 +43,18 @@ closed-above (suc h) [] n i l = getD-zeros n i
 closed-above (suc h) (c ∷ cs) n zero l = absurd (omega arith)
 closed-above (suc h) (c ∷ cs) n (suc i) l = closed-above h cs n i (omega arith)
 
+pub getD-unwritten : (k n : ℕ) → _≡_ {A = ℕ} (getD (replicate k 0) n 0) 0
+getD-unwritten zero n = refl
+getD-unwritten (suc k) zero = refl
+getD-unwritten (suc k) (suc n) = getD-unwritten k n
+
 zeros-long : length zeros ≡ 64
 zeros-long = refl
 
 -- ---- types
 pub typed-push : (n : ℤ) (next : ℕ) (t : Thread) → TypedThread t → TypedThread (push n next t)
 unfolding push
-typed-push n next t y = record { cells = length-set (t .cells) (t .height) n ∙ y .cells; readlog = y .readlog; writelog = y .writelog }
+typed-push n next t y = record { cells = length-set (t .cells) (t .height) n ∙ y .cells; readlog = y .readlog; writelog = y .writelog; readcounts = y .readcounts }
 
 pub typed-add : (sum : Rule) (t : Thread) → TypedThread t → TypedThread (add sum t)
 unfolding add
@@ -56,28 +62,26 @@ typed-add sum t y =
     record {
       cells = length-set (set (t .cells) (t .height - 2) _) (t .height - 1) _ ∙ (length-set (t .cells) (t .height - 2) _ ∙ y .cells);
       readlog = y .readlog;
+      readcounts = y .readcounts;
       writelog = y .writelog;
     }
 
 pub typed-begin : (t : Thread) → TypedThread t → TypedThread (begin t)
 unfolding begin
-typed-begin t y = record { cells = y .cells; readlog = zeros-long; writelog = zeros-long }
+typed-begin t y = record { cells = y .cells; readlog = zeros-long; writelog = zeros-long; readcounts = refl }
 
-typed-noted : (from : Source) (v : ℕ) (n : ℤ) (t : Thread) → TypedThread t → TypedThread (noted from v n t)
-typed-noted fromWrites v n t y =
-    let a = y .readlog in
-    let b = length-set (t .readlog) v n in
-    record { cells = y .cells; readlog = omega arith; writelog = y .writelog }
-typed-noted fromReads v n t y = y
-typed-noted fromTable v n t y = record { cells = y .cells; readlog = length-set (t .readlog) v _ ∙ y .readlog; writelog = y .writelog }
+typed-noted : (from : Source) (v : ℕ) (n : ℤ) (k : ℕ) (t : Thread) → TypedThread t → TypedThread (noted from v n k t)
+typed-noted fromWrites v n k t y = y
+typed-noted fromReads v n k t y = y
+typed-noted fromTable v n k t y = record { cells = y .cells; readlog = length-set (t .readlog) v _ ∙ y .readlog; writelog = y .writelog; readcounts = length-set (t .readcounts) v k ∙ y .readcounts }
 
-pub typed-read : (table : List ℤ) (v : ℕ) (t : Thread) → TypedThread t → TypedThread (read table v t)
+pub typed-read : (table : Table) (v : ℕ) (t : Thread) → TypedThread t → TypedThread (read table v t)
 unfolding read
-typed-read table v t y = typed-push _ _ _ (typed-noted (sourceOf t v) v (readFrom (sourceOf t v) table t v) t y)
+typed-read table v t y = typed-push _ _ _ (typed-noted (sourceOf t v) v (readFrom (sourceOf t v) (table .registers) t v) (getD (table .counts) v 0) t y)
 
 pub typed-write : (v : ℕ) (t : Thread) → TypedThread t → TypedThread (write v t)
 unfolding write
-typed-write v t y = record { cells = y .cells; readlog = y .readlog; writelog = length-set (t .writelog) v (below t 1) ∙ y .writelog }
+typed-write v t y = record { cells = y .cells; readlog = y .readlog; writelog = length-set (t .writelog) v (below t 1) ∙ y .writelog; readcounts = y .readcounts }
 
 pub typed-closed : (place height : ℕ) (t : Thread) → height ≤ 64 → TypedThread t → TypedThread (closed place height t)
 unfolding closed
@@ -87,6 +91,7 @@ typed-closed place height t l y =
     record {
       cells = filled (take height (t .cells)) (64 - height) _ (omega arith);
       readlog = zeros-long;
+      readcounts = refl;
       writelog = zeros-long;
     }
   where
@@ -95,11 +100,11 @@ typed-closed place height t l y =
 
 pub typed-spawned : (start end : ℕ) → TypedThread (spawned start end)
 unfolding spawned
-typed-spawned start end = record { cells = zeros-long; readlog = zeros-long; writelog = zeros-long }
+typed-spawned start end = record { cells = zeros-long; readlog = zeros-long; writelog = zeros-long; readcounts = refl }
 
 -- another last rule and number of send-backs
 pub typed-moved : (rule backs : ℕ) (t : Thread) → TypedThread t → TypedThread (withRule rule backs t)
-typed-moved rule backs t y = record { cells = y .cells; readlog = y .readlog; writelog = y .writelog }
+typed-moved rule backs t y = record { cells = y .cells; readlog = y .readlog; writelog = y .writelog; readcounts = y .readcounts }
 
 unfoldable pub placed-moved : {bytes : List ℕ} (rule backs : ℕ) (t : Thread) → Placed bytes t → Placed bytes (withRule rule backs t)
 placed-moved rule backs t p =
@@ -115,6 +120,7 @@ placed-moved rule backs t p =
       reads-free = p .reads-free;
       writes-free = p .writes-free;
       cells-free = p .cells-free;
+      counts-free = p .counts-free;
     }
 
 -- ---- places
@@ -139,6 +145,7 @@ module _ {bytes : List ℕ} (t : Thread) (p : Placed bytes t) (inside : t .place
         reads-free = p .reads-free;
         writes-free = p .writes-free;
         cells-free = λ i l. pushed-free n i (omega arith) (p .cells-free i (omega arith));
+        counts-free = p .counts-free;
       }
 
   unfoldable pub placed-add : (sum : Rule) → opAt (drop (t .place) bytes) ≡ done code.add → 2 ≤ t .height → t .height ≤ length (t .cells) → Placed bytes (add sum t)
@@ -156,6 +163,7 @@ module _ {bytes : List ℕ} (t : Thread) (p : Placed bytes t) (inside : t .place
         reads-free = p .reads-free;
         writes-free = p .writes-free;
         cells-free = above;
+        counts-free = p .counts-free;
       }
     where
       most-one : (b : Bool) → cond b 1 0 ≤ 1
@@ -192,42 +200,15 @@ module _ {bytes : List ℕ} (t : Thread) (p : Placed bytes t) (inside : t .place
       let ne : u ≡ v → ⊥ = λ x. let f : member (with (t .reads) v) v ≡ false = subst (λ (k : ℕ). member (with (t .reads) v) k ≡ false) x m in absurd (let g = member-same (t .reads) v small in let z : _≡_ {A = ℕ} 0 1 = cc in omega arith) in
       getD-set-other (t .readlog) v u n (pos 0) ne ∙ p .reads-free u (sym (member-other (t .reads) v u ne) ∙ m)
 
+  counted-free : (v : ℕ) → v < 64 → (k : ℕ) (u : ℕ) → member (with (t .reads) v) u ≡ false → getD (set (t .readcounts) v k) u 0 ≡ 0
+  counted-free v small k u m =
+      let ne : u ≡ v → ⊥ = λ x. let f : member (with (t .reads) v) v ≡ false = subst (λ (k : ℕ). member (with (t .reads) v) k ≡ false) x m in absurd (let g = member-same (t .reads) v small in let z : _≡_ {A = ℕ} 0 1 = cc in omega arith) in
+      getD-set-other (t .readcounts) v u k 0 ne ∙ p .counts-free u (sym (member-other (t .reads) v u ne) ∙ m)
+
   -- READ, a transaction being open
-  placed-noted : (v : ℕ) → v < 64 → opAt (drop (t .place) bytes) ≡ done (code.read v) → 1 ≤ t .begin → (from : Source) (n : ℤ) → Placed bytes (push n (t .place + 2) (noted from v n t))
+  placed-noted : (v : ℕ) → v < 64 → opAt (drop (t .place) bytes) ≡ done (code.read v) → 1 ≤ t .begin → (from : Source) (n : ℤ) (k : ℕ) → Placed bytes (push n (t .place + 2) (noted from v n k t))
   unfolding push walkOp nextPlace
-  placed-noted v small e open′ fromWrites n =
-      record {
-        walked = walkOp (code.read v) (t .place) (p .walked);
-        walks = passes (p .walks) inside e;
-        height = ap suc (p .height);
-        begin = p .begin;
-        base = p .base;
-        over = p .over;
-        no-reads = not-closed open′;
-        no-writes = not-closed open′;
-        reads-free = λ u m. free u m (eqb u v) refl (member (t .reads) u) refl;
-        writes-free = p .writes-free;
-        cells-free = λ i l. pushed-free n i (omega arith) (p .cells-free i (omega arith));
-      }
-    where
-      free : (u : ℕ) → member (noted fromWrites v n t .reads) u ≡ false → (same : Bool) → eqb u v ≡ same → (marked : Bool) → member (t .reads) u ≡ marked → getD (noted fromWrites v n t .readlog) u (pos 0) ≡ pos 0
-      free u m true q marked r =
-          let x : u ≡ v = eqb-true u v q in
-          let g : member (with (t .reads) v) u ≡ true = subst (λ (k : ℕ). member (with (t .reads) v) k ≡ true) (sym x) (member-same (t .reads) v small) in
-          known u m marked r g
-        where
-          known : (u : ℕ) → member (noted fromWrites v n t .reads) u ≡ false → (marked : Bool) → member (t .reads) u ≡ marked → member (with (t .reads) v) u ≡ true → getD (noted fromWrites v n t .readlog) u (pos 0) ≡ pos 0
-          known u m true r g = cc
-          known u m false r g = let s = p .reads-free u r in cc
-      free u m false q marked r =
-          let g = member-other (t .reads) v u (eqb-false u v q) in
-          let h = getD-set-other (t .readlog) v u n (pos 0) (eqb-false u v q) in
-          known u m marked r g h
-        where
-          known : (u : ℕ) → member (noted fromWrites v n t .reads) u ≡ false → (marked : Bool) → member (t .reads) u ≡ marked → member (with (t .reads) v) u ≡ member (t .reads) u → getD (set (t .readlog) v n) u (pos 0) ≡ getD (t .readlog) u (pos 0) → getD (noted fromWrites v n t .readlog) u (pos 0) ≡ pos 0
-          known u m true r g h = cc
-          known u m false r g h = let s = p .reads-free u r in cc
-  placed-noted v small e open′ fromReads n =
+  placed-noted v small e open′ fromWrites n k =
       record {
         walked = walkOp (code.read v) (t .place) (p .walked);
         walks = passes (p .walks) inside e;
@@ -240,8 +221,24 @@ module _ {bytes : List ℕ} (t : Thread) (p : Placed bytes t) (inside : t .place
         reads-free = p .reads-free;
         writes-free = p .writes-free;
         cells-free = λ i l. pushed-free n i (omega arith) (p .cells-free i (omega arith));
+        counts-free = p .counts-free;
       }
-  placed-noted v small e open′ fromTable n =
+  placed-noted v small e open′ fromReads n k =
+      record {
+        walked = walkOp (code.read v) (t .place) (p .walked);
+        walks = passes (p .walks) inside e;
+        height = ap suc (p .height);
+        begin = p .begin;
+        base = p .base;
+        over = p .over;
+        no-reads = not-closed open′;
+        no-writes = not-closed open′;
+        reads-free = p .reads-free;
+        writes-free = p .writes-free;
+        cells-free = λ i l. pushed-free n i (omega arith) (p .cells-free i (omega arith));
+        counts-free = p .counts-free;
+      }
+  placed-noted v small e open′ fromTable n k =
       record {
         walked = walkOp (code.read v) (t .place) (p .walked);
         walks = passes (p .walks) inside e;
@@ -254,30 +251,31 @@ module _ {bytes : List ℕ} (t : Thread) (p : Placed bytes t) (inside : t .place
         reads-free = noted-free v small _;
         writes-free = p .writes-free;
         cells-free = λ i l. pushed-free n i (omega arith) (p .cells-free i (omega arith));
+        counts-free = counted-free v small _;
       }
 
-  pub placed-read : (table : List ℤ) (v : ℕ) → v < 64 → opAt (drop (t .place) bytes) ≡ done (code.read v) → 1 ≤ t .begin → Placed bytes (read table v t)
+  pub placed-read : (table : Table) (v : ℕ) → v < 64 → opAt (drop (t .place) bytes) ≡ done (code.read v) → 1 ≤ t .begin → Placed bytes (read table v t)
   unfolding read
-  placed-read table v small e open′ = placed-noted v small e open′ (sourceOf t v) (readFrom (sourceOf t v) table t v)
+  placed-read table v small e open′ = placed-noted v small e open′ (sourceOf t v) (readFrom (sourceOf t v) (table .registers) t v) (getD (table .counts) v 0)
 
   -- READ, COMMIT and a send-back pass no FORK, and of these only COMMIT passes a COMMIT
-  pub read-kids : (table : List ℤ) (v : ℕ) (small : v < 64) (e : opAt (drop (t .place) bytes) ≡ done (code.read v)) (open′ : 1 ≤ t .begin) → placed-read table v small e open′ .walked .children ≡ p .walked .children
+  pub read-kids : (table : Table) (v : ℕ) (small : v < 64) (e : opAt (drop (t .place) bytes) ≡ done (code.read v)) (open′ : 1 ≤ t .begin) → placed-read table v small e open′ .walked .children ≡ p .walked .children
   unfolding placed-read read placed-noted walkOp
-  read-kids table v small e open′ = go (sourceOf t v) (readFrom (sourceOf t v) table t v)
+  read-kids table v small e open′ = go (sourceOf t v) (readFrom (sourceOf t v) (table .registers) t v) (getD (table .counts) v 0)
     where
-      go : (from : Source) (n : ℤ) → placed-noted v small e open′ from n .walked .children ≡ p .walked .children
-      go fromWrites n = refl
-      go fromReads n = refl
-      go fromTable n = refl
+      go : (from : Source) (n : ℤ) (k : ℕ) → placed-noted v small e open′ from n k .walked .children ≡ p .walked .children
+      go fromWrites n k = refl
+      go fromReads n k = refl
+      go fromTable n k = refl
 
-  pub read-commits : (table : List ℤ) (v : ℕ) (small : v < 64) (e : opAt (drop (t .place) bytes) ≡ done (code.read v)) (open′ : 1 ≤ t .begin) → placed-read table v small e open′ .walked .commits ≡ p .walked .commits
+  pub read-commits : (table : Table) (v : ℕ) (small : v < 64) (e : opAt (drop (t .place) bytes) ≡ done (code.read v)) (open′ : 1 ≤ t .begin) → placed-read table v small e open′ .walked .commits ≡ p .walked .commits
   unfolding placed-read read placed-noted walkOp
-  read-commits table v small e open′ = go (sourceOf t v) (readFrom (sourceOf t v) table t v)
+  read-commits table v small e open′ = go (sourceOf t v) (readFrom (sourceOf t v) (table .registers) t v) (getD (table .counts) v 0)
     where
-      go : (from : Source) (n : ℤ) → placed-noted v small e open′ from n .walked .commits ≡ p .walked .commits
-      go fromWrites n = refl
-      go fromReads n = refl
-      go fromTable n = refl
+      go : (from : Source) (n : ℤ) (k : ℕ) → placed-noted v small e open′ from n k .walked .commits ≡ p .walked .commits
+      go fromWrites n k = refl
+      go fromReads n k = refl
+      go fromTable n k = refl
 
   unfoldable pub placed-write : (v : ℕ) → v < 64 → opAt (drop (t .place) bytes) ≡ done (code.write v) → 1 ≤ t .begin → Placed bytes (write v t)
   unfolding write walkOp nextPlace
@@ -294,6 +292,7 @@ module _ {bytes : List ℕ} (t : Thread) (p : Placed bytes t) (inside : t .place
         reads-free = p .reads-free;
         writes-free = written-free;
         cells-free = p .cells-free;
+        counts-free = p .counts-free;
       }
     where
       not-closed : {A : Type 0} → p .walked .begin ≡ 0 → A
@@ -319,6 +318,7 @@ module _ {bytes : List ℕ} (t : Thread) (p : Placed bytes t) (inside : t .place
         reads-free = λ v m. getD-zeros 64 v;
         writes-free = λ v m. getD-zeros 64 v;
         cells-free = p .cells-free;
+        counts-free = λ v m. getD-unwritten 64 v;
       }
 
   -- a COMMIT that takes effect
@@ -337,6 +337,7 @@ module _ {bytes : List ℕ} (t : Thread) (p : Placed bytes t) (inside : t .place
         reads-free = λ v m. getD-zeros 64 v;
         writes-free = λ v m. getD-zeros 64 v;
         cells-free = λ n l. closed-above (t .height) (t .cells) (64 - t .height) n (omega arith);
+        counts-free = λ v m. getD-unwritten 64 v;
       }
 
   pub commit-kids : (e : opAt (drop (t .place) bytes) ≡ done code.commit) → placed-commit e .walked .children ≡ p .walked .children
@@ -363,6 +364,7 @@ placed-back t w e ws =
       reads-free = λ v m. getD-zeros 64 v;
       writes-free = λ v m. getD-zeros 64 v;
       cells-free = λ n l. closed-above (t .base) (t .cells) (64 - t .base) n (omega arith);
+      counts-free = λ v m. getD-unwritten 64 v;
     }
 
 pub back-kids : {bytes : List ℕ} (t : Thread) (w : Walked) (e : t .base ≡ w .base) (ws : Walks bytes (t .start) (t .end) (t .begin) (undone w)) → placed-back t w e ws .walked .children ≡ w .children
@@ -389,4 +391,5 @@ placed-spawned bytes start end =
       reads-free = λ v m. getD-zeros 64 v;
       writes-free = λ v m. getD-zeros 64 v;
       cells-free = λ n l. getD-zeros 64 n;
+      counts-free = λ v m. getD-unwritten 64 v;
     }

@@ -8,6 +8,7 @@ use borrow.Author.Tests.{lt-ltb, ltb-true}
 use lib.Dec.{ltb}
 use lib.IntN.{ℤ, pos}
 use lib.ListN.{length, getD, set, take, replicate, length-append}
+use Rattle.stm.specs.Counted.{Table}
 use Rattle.code.specs.Compile.{Instruction, Code, PUSH, ADD, READ, WRITE, BEGIN, COMMIT, FORK, ε, _⨾_}
 use Rattle.code.specs.Bytes.{instructionsBytes, IsCode}
 use Rattle.code.proofs.Flat.{code-length}
@@ -16,7 +17,7 @@ use Rattle.script.specs.Count.{codeLength}
 use Rattle.script.specs.Jobs.{Job}
 use Rattle.thread.specs.declared.Thread.{Thread}
 use Rattle.thread.specs.Threads.{blank, spawned, push, add, begin, below, sourceOf, readFrom, noted, read, write, closed, firstStale, overlaid, exists}
-use Rattle.machine.specs.Steps.{State, Stepped, numberOf, threadAt, instruction, pick, fresh, run, ruled, act, perform, settle, committing, commit, seated, Acted, Child}
+use Rattle.machine.specs.Steps.{State, Stepped, numberOf, threadAt, instruction, pick, fresh, run, ruled, act, perform, settle, committing, commit, seated, Acted, Child, tableIn}
 use Rattle.machine.specs.Fits.{Walked, Exists, Fits, Typed, RangedThread, Ranged}
 use Rattle.machine.specs.InnerStands.{opOf, Ready, InRangeRule}
 use Rattle.machine.specs.Stands.{Stands, ValuedI, ValuedC}
@@ -27,6 +28,7 @@ use Rattle.machine.proofs.Codes.{stands-end, stands-inside, ready-op}
 use Rattle.machine.proofs.Shapes.{Shape, out, open′ as shape-open, shape}
 use Rattle.machine.proofs.Placings.{getD-zeros}
 use Rattle.machine.proofs.Simulates.{Held}
+use Rattle.machine.proofs.Stale.{low-none}
 use Rattle.machine.proofs.Picks.{missing-idle, ended-idle, does}
 use Rattle.machine.proofs.Regions.{held}
 use Rattle.machine.proofs.Fresh.{no-record, fresh-typed, fresh-fits}
@@ -129,17 +131,17 @@ read-in-range fromWrites table t r f v = v .writelog r
 read-in-range fromReads table t r f v = v .readlog r
 read-in-range fromTable table t r f v = f r
 
-values-noted : (from : Source) (r : ℕ) (n : ℤ) (t : Thread) → InRange n → Values t → Values (noted from r n t)
-values-noted fromWrites r n t i v = v
-values-noted fromReads r n t i v = v
-values-noted fromTable r n t i v = record { cells = v .cells; readlog = set-in-range (t .readlog) r n i (v .readlog); writelog = v .writelog; reads = with-small (t .reads) r (v .reads); writes = v .writes; rule = v .rule }
+values-noted : (from : Source) (r : ℕ) (n : ℤ) (k : ℕ) (t : Thread) → InRange n → Values t → Values (noted from r n k t)
+values-noted fromWrites r n k t i v = v
+values-noted fromReads r n k t i v = v
+values-noted fromTable r n k t i v = record { cells = v .cells; readlog = set-in-range (t .readlog) r n i (v .readlog); writelog = v .writelog; reads = with-small (t .reads) r (v .reads); writes = v .writes; rule = v .rule }
 
-values-read : (table : List ℤ) (r : ℕ) (t : Thread) → AllInRange table → Values t → Values (read table r t)
+values-read : (table : Table) (r : ℕ) (t : Thread) → AllInRange (table .registers) → Values t → Values (read table r t)
 unfolding read
 values-read table r t f v =
     let from = sourceOf t r in
-    let i : InRange (readFrom (sourceOf t r) table t r) = read-in-range (sourceOf t r) table t r f v in
-    values-push (readFrom from table t r) (t .place + 2) (noted from r (readFrom from table t r) t) i (values-noted from r (readFrom from table t r) t i v)
+    let i : InRange (readFrom (sourceOf t r) (table .registers) t r) = read-in-range (sourceOf t r) (table .registers) t r f v in
+    values-push (readFrom from (table .registers) t r) (t .place + 2) (noted from r (readFrom from (table .registers) t r) (getD (table .counts) r 0) t) i (values-noted from r (readFrom from (table .registers) t r) (getD (table .counts) r 0) t i v)
 
 values-write : (r : ℕ) (t : Thread) → Values t → Values (write r t)
 unfolding write
@@ -152,21 +154,21 @@ values-closed place height t v = record { cells = closed-in-range height (t .cel
 -- ---- the numbers and the sets of a state
 record ActedValues (a : Acted) : Type 0 where
   thread : Values (a .thread)
-  table : AllInRange (a .table)
+  table : AllInRange (a .table .registers)
   register : (v : ℕ) → a .event ≡ sentBack v → v < 64
 
 not-back : {A : Type 0} {e : Event} {v : ℕ} → isBack e ≡ false → e ≡ sentBack v → A
 not-back f q = never (ap isBack q) f
 
-values-commit : (table : List ℤ) (t : Thread) (r : ℕ) → Values t → AllInRange table → ActedValues (commit table t r)
+values-commit : (table : Table) (t : Thread) (r : ℕ) → Values t → AllInRange (table .registers) → ActedValues (commit table t r)
 unfolding commit
 values-commit table t r v a = go (ltb r 64) refl
   where
     go : (b : Bool) → ltb r 64 ≡ b → ActedValues (committing b table t r)
     go true e = record { thread = values-closed (t .begin) (t .base) t v; table = a; register = λ u q. let x : r ≡ u = cc in subst (λ (n : ℕ). n < 64) x (ltb-true r 64 e) }
-    go false e = record { thread = values-closed (t .place + 1) (t .height) t v; table = overlaid-in-range 64 0 t table (v .writelog) a; register = λ u q. not-back refl q }
+    go false e = record { thread = values-closed (t .place + 1) (t .height) t v; table = overlaid-in-range 64 0 t (table .registers) (v .writelog) a; register = λ u q. not-back refl q }
 
-values-perform : (sum : Rule) → InRangeRule sum → (table : List ℤ) (t : Thread) (ins : Instruction) → ValuedI ins → Values t → AllInRange table → ActedValues (perform sum table t (opOf ins))
+values-perform : (sum : Rule) → InRangeRule sum → (table : Table) (t : Thread) (ins : Instruction) → ValuedI ins → Values t → AllInRange (table .registers) → ActedValues (perform sum table t (opOf ins))
 unfolding perform ValuedI
 values-perform sum f table t (PUSH n) o v a = record { thread = values-push n (t .place + 5) t o v; table = a; register = λ u q. not-back refl q }
 values-perform sum f table t ADD o v a = record { thread = values-add sum f t v; table = a; register = λ u q. not-back refl q }
@@ -200,7 +202,7 @@ values-ruled a x =
       register = x .register;
     }
 
-values-act : (sum : Rule) → InRangeRule sum → (table : List ℤ) (t : Thread) (ins : Instruction) → ValuedI ins → Values t → AllInRange table → ActedValues (act sum table t (opOf ins))
+values-act : (sum : Rule) → InRangeRule sum → (table : Table) (t : Thread) (ins : Instruction) → ValuedI ins → Values t → AllInRange (table .registers) → ActedValues (act sum table t (opOf ins))
 unfolding act
 values-act sum f table t ins o v a = values-ruled (perform sum table t (opOf ins)) (values-perform sum f table t ins o v a)
 
@@ -217,7 +219,7 @@ values-settle count s i a v w =
     }
 
 values-instruction : (sum : Rule) → InRangeRule sum → (s : State) (i : ℕ) (t : Thread) (ins : Instruction) → ValuedI ins → Values t → AllValues s → AllValues (instruction sum s i t (opOf ins) .state)
-values-instruction sum f s i t ins o v a = values-settle (numberOf (s .threads)) s i (act sum (s .registers) t (opOf ins)) (values-act sum f (s .registers) t ins o v (a .registers)) a
+values-instruction sum f s i t ins o v a = values-settle (numberOf (s .threads)) s i (act sum (tableIn s) t (opOf ins)) (values-act sum f (tableIn s) t ins o v (a .registers)) a
 
 -- ---- the places, the heights and the notes of a record, and its send-backs
 -- all far below 2 ^ 64
@@ -230,6 +232,7 @@ pub record Low (t : Thread) : Type 0 where
   pub base : t .base < 6000
   pub over : t .over < 6000
   pub backs : t .backs < 96000
+  pub readcounts : (v : ℕ) → getD (t .readcounts) v 0 < 96000
 
 fits-64 : (n : ℕ) → n < 6000 → n < 2 ^ 64
 fits-64 n l = omega arith
@@ -239,6 +242,7 @@ both t l v =
     record {
       cells = v .cells;
       readlog = v .readlog;
+      readcounts = λ v. let b = l .readcounts v in omega arith;
       writelog = v .writelog;
       reads = v .reads;
       writes = v .writes;
@@ -262,7 +266,7 @@ values-of s r =
 
 low-blank : Low blank
 unfolding blank
-low-blank = record { start = omega arith; end = omega arith; place = omega arith; height = omega arith; begin = omega arith; base = omega arith; over = omega arith; backs = omega arith }
+low-blank = record { start = omega arith; end = omega arith; place = omega arith; height = omega arith; begin = omega arith; base = omega arith; over = omega arith; backs = omega arith; readcounts = λ v. let z = low-none v 0 in omega arith }
 
 -- code that stands in the bytes is within them
 stands-within : {bytes : List ℕ} {place end : ℕ} {c : Code} → Stands bytes place end c → (place ≤ end) × (end ≤ length bytes)
@@ -274,8 +278,8 @@ stands-within {bytes} {place} {end} {c} s =
     (omega arith, omega arith)
 
 -- the places of a thread that fits are within its code, and its heights at most 64
-low-held : {bytes : List ℕ} {t : Thread} → length bytes < 6000 → t .backs < 96000 → Held bytes t → Low t
-low-held {bytes} {t} short few h = go (shape (h .region) (h .outer) (h .somewhere) (h .placed .walks))
+low-held : {bytes : List ℕ} {t : Thread} → length bytes < 6000 → t .backs < 96000 → ((v : ℕ) → getD (t .readcounts) v 0 < 96000) → Held bytes t → Low t
+low-held {bytes} {t} short few counts h = go (shape (h .region) (h .outer) (h .somewhere) (h .placed .walks))
   where
     height : t .height ≡ h .placed .walked .height
     height = h .placed .height
@@ -301,7 +305,7 @@ low-held {bytes} {t} short few h = go (shape (h .region) (h .outer) (h .somewher
         let eq′ = base in
         let a = adds-low bytes (t .start) (t .end) (h .placed .walks) in
         let o = h .placed .over in
-        record { start = omega arith; end = omega arith; place = omega arith; height = omega arith; begin = omega arith; base = omega arith; over = omega arith; backs = omega arith }
+        record { start = omega arith; end = omega arith; place = omega arith; height = omega arith; begin = omega arith; base = omega arith; over = omega arith; backs = omega arith; readcounts = counts }
 
     go : Shape bytes (t .start) (t .end) (t .place) (h .placed .walked) → Low t
     go (out c r o b z) = here 0 0 b (omega arith) z (omega arith) r
@@ -334,12 +338,22 @@ module _ {code : List ℕ} {j : Job} (c : IsCode code j) where
       let d = c .within .sized .few in
       omega arith
 
+  pub counts-low : (s : State) → Fits code s → (v : ℕ) → getD (s .counts) v 0 < 96000
+  counts-low s f v =
+      let a = f .counted v in
+      let b : f .commits ≤ 16 * length code = subst (λ (n : ℕ). f .commits ≤ n * length code) (f .records) (passed-low (f .passed)) in
+      let d = code-short in
+      omega arith
+
   pub low-fits : (s : State) → Fits code s → Typed s → (i : ℕ) → Low (threadAt s i)
   low-fits s f y i = go (exists (threadAt s i)) refl
     where
       go : (b : Bool) → exists (threadAt s i) ≡ b → Low (threadAt s i)
-      go true e = low-held code-short few (held c (outer c) s f y i e)
+      go true e = low-held code-short few counts (held c (outer c) s f y i e)
         where
+          counts : (v : ℕ) → getD (threadAt s i .readcounts) v 0 < 96000
+          counts v = let a = f .tallied i e .not-ahead v in let b = counts-low s f v in omega arith
+
           few : threadAt s i .backs < 96000
           few =
               let a = f .tallied i e .not-above in
@@ -349,7 +363,7 @@ module _ {code : List ℕ} {j : Job} (c : IsCode code j) where
       go false e = subst Low (sym (f .no-thread i e)) low-blank
 
   ranged : (s : State) → Fits code s → Typed s → AllValues s → Ranged s
-  ranged s f y a = record { registers = a .registers; threads = λ i. both (threadAt s i) (low-fits s f y i) (a .threads i) }
+  ranged s f y a = record { registers = a .registers; counts = λ v. (let b = counts-low s f v in omega arith); threads = λ i. both (threadAt s i) (low-fits s f y i) (a .threads i) }
 
   -- the numbers of a fresh state are such as their fields can hold
   pub fresh-ranged : Ranged (fresh code)

@@ -11,12 +11,13 @@ use lib.Dec.{eqb, ltb}
 use lib.IntN.{ℤ}
 use lib.ListN.{length, getD, set, length-set, List·getD-eq-default}
 use lib.Seq.{getD-set-same, getD-set-other}
+use Rattle.stm.specs.Counted.{Table}
 use Rattle.code.specs.Bytes.{IsCode}
 use Rattle.code.specs.Ops.{Op}
 use Rattle.code.specs.Ops as code
 use Rattle.machine.specs.Answers.{backsOf}
 use Rattle.machine.specs.Fits.{CommitsPassed, Exists, Fits, Typed}
-use Rattle.machine.specs.Steps.{State, Stepped, Acted, Child, threadAt, numberOf, committing, commit, ruled, perform, act, seated, settle, instruction, pick, run}
+use Rattle.machine.specs.Steps.{State, Stepped, Acted, Child, threadAt, numberOf, committing, commit, ruled, perform, act, seated, settle, instruction, pick, run, tableIn}
 use Rattle.machine.proofs.Agrees.{outer, does-one, step-fits}
 use Rattle.machine.proofs.Runs.{mirror, pick-keeps}
 use Rattle.machine.proofs.Numbers.{at-end, exists-below, in-table}
@@ -91,18 +92,18 @@ record Leaves (t u : Thread) : Type 0 where
   rule : u .rule ≡ t .rule
   backs : u .backs ≡ t .backs
 
-perform-leaves : (sum : Rule) (table : List ℤ) (t : Thread) (op : Op) → Leaves t (perform sum table t op .thread)
+perform-leaves : (sum : Rule) (table : Table) (t : Thread) (op : Op) → Leaves t (perform sum table t op .thread)
 unfolding perform commit push add begin read write closed
 perform-leaves sum table t (code.push n) = record { rule = refl; backs = refl }
 perform-leaves sum table t code.add = record { rule = refl; backs = refl }
 perform-leaves sum table t (code.fork size) = record { rule = refl; backs = refl }
 perform-leaves sum table t code.begin = record { rule = refl; backs = refl }
-perform-leaves sum table t (code.read v) = go (sourceOf t v) (readFrom (sourceOf t v) table t v)
+perform-leaves sum table t (code.read v) = go (sourceOf t v) (readFrom (sourceOf t v) (table .registers) t v) (getD (table .counts) v 0)
   where
-    go : (from : Source) (n : ℤ) → Leaves t (push n (t .place + 2) (noted from v n t))
-    go fromWrites n = record { rule = refl; backs = refl }
-    go fromReads n = record { rule = refl; backs = refl }
-    go fromTable n = record { rule = refl; backs = refl }
+    go : (from : Source) (n : ℤ) (k : ℕ) → Leaves t (push n (t .place + 2) (noted from v n k t))
+    go fromWrites n k = record { rule = refl; backs = refl }
+    go fromReads n k = record { rule = refl; backs = refl }
+    go fromTable n k = record { rule = refl; backs = refl }
 perform-leaves sum table t (code.write v) = record { rule = refl; backs = refl }
 perform-leaves sum table t code.commit = go (ltb (firstStale 64 0 t table) 64)
   where
@@ -115,7 +116,7 @@ record Marked (e : Event) (t u : Thread) : Type 0 where
   rule : u .rule ≡ ruleAfter e (t .rule)
   backs : u .backs ≡ backsAfter e (t .backs)
 
-act-marks : (sum : Rule) (table : List ℤ) (t : Thread) (op : Op) → Marked (act sum table t op .event) t (act sum table t op .thread)
+act-marks : (sum : Rule) (table : Table) (t : Thread) (op : Op) → Marked (act sum table t op .event) t (act sum table t op .thread)
 unfolding act
 act-marks sum table t op =
     let l = perform-leaves sum table t op in
@@ -224,7 +225,7 @@ module _ {bytes : List ℕ} {j : Job} (c : IsCode bytes j) (sum : Rule) where
         }
       where
         a : Acted
-        a = act sum (s .registers) (threadAt s i) op
+        a = act sum (tableIn s) (threadAt s i) op
 
         ts : List Thread
         ts = set (s .threads) i (a .thread)
@@ -246,7 +247,7 @@ module _ {bytes : List ℕ} {j : Job} (c : IsCode bytes j) (sum : Rule) where
         seat k = seated-same n (a .children) ts free k
 
         marks : Marked (a .event) (threadAt s i) (a .thread)
-        marks = act-marks sum (s .registers) (threadAt s i) op
+        marks = act-marks sum (tableIn s) (threadAt s i) op
 
         mine : (k : ℕ) → eqb i k ≡ true → getD ts k blank ≡ a .thread
         mine k q = ap (λ (m : ℕ). getD ts m blank) (sym (eqb-true i k q)) ∙ getD-set-same (s .threads) i (a .thread) blank (in-table s i e)

@@ -13,10 +13,10 @@ use Rattle.thread.specs.Threads.{readLog, writeLog}
 use Rattle.machine.specs.Steps.{State, Stepped, numberOf, threadAt, pick, run}
 use Rattle.stm.specs.Events.{Event, idle, isCommit, more, Happened}
 use Rattle.machine.specs.Fits.{CommitsPassed, Exists, Placed, FitsBeside, Typed}
-use Rattle.machine.specs.InnerStands.{registerCells, Ready}
+use Rattle.machine.specs.InnerStands.{registerCells, Ready, tableOf}
 use Rattle.machine.specs.Stands.{stackFrom}
 use Rattle.machine.proofs.Shapes.{Shape, out, open′ as shape-open, shape}
-use Rattle.machine.proofs.Showings.{Shows, shut, open′}
+use Rattle.machine.proofs.Showings.{Shows, shut, open′, cells-length}
 use Rattle.machine.proofs.Simulates.{Held}
 use Rattle.machine.proofs.Mirrors.{Mirrors, Picked, stood, went, works, pick-mirrors, idle-missing}
 use Rattle.machine.proofs.Numbers.{below-exists}
@@ -72,8 +72,8 @@ module _ {bytes : List ℕ} {j : Job} (c : IsCode bytes j) (o : Outside (compile
   pub mirror : {beside : ℕ} (s : State) → FitsBeside beside bytes s → Typed s → (sys : System registerCells) × Mirrors bytes s sys
   mirror s f y =
       let r = row (λ i t. Shows bytes (threadAt s i) t) (numberOf (s .threads)) (λ i l. shows-of (held c o s f y i (below-exists s i l))) in (
-        record { table = s .registers; tasks = r .tasks },
-        record { records = f .records; table = refl; number = sym (r .long); shown = λ i l. r .each i (subst (λ (n : ℕ). i < n) (r .long) l) },
+        record { table = tableOf s; tasks = r .tasks },
+        record { records = f .records; table = refl; even = f .registers ∙ sym (f .counts); number = sym (r .long); shown = λ i l. r .each i (subst (λ (n : ℕ). i < n) (r .long) l) },
       )
 
   childless : (sum : Rule) (s : State) (sys : System registerCells) (i : ℕ) → did registerCells sum sys i ≡ record { task = taskAt registerCells sys i; table = sys .table; children = []; event = idle; over = 0 } → (k : Code) → did registerCells sum sys i .children ≡ k ∷ [] → numberOf (s .threads) < 16
@@ -106,7 +106,7 @@ module _ {bytes : List ℕ} {j : Job} (c : IsCode bytes j) (o : Outside (compile
   pick-keeps {beside} sum s sys f y m i = go (decLt i (length (sys .tasks)))
     where
       long : length (sys .table) ≡ 64
-      long = ap length (sym (m .table)) ∙ f .registers
+      long = ap length (sym (m .table)) ∙ (cells-length (s .registers) (s .counts) (m .even) ∙ f .registers)
 
       holds : (k : ℕ) → Exists s k → Held bytes (threadAt s k)
       holds k e = held c o s f y k e

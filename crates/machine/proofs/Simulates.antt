@@ -10,14 +10,15 @@ use borrow.Author.Tests.{eq-eqb, ne-eqb, ltb-true}
 use lib.Dec.{ltb}
 use lib.IntN.{ℤ, pos}
 use lib.ListN.{length, getD, set}
+use Rattle.stm.specs.Counted.{Table, Counted}
 use Rattle.code.specs.Compile.{Instruction, Code, PUSH, ADD, READ, WRITE, BEGIN, COMMIT, FORK, _⨾_}
 use Rattle.code.specs.Bytes.{instructionsBytes}
 use Rattle.code.specs.InnerHeights.{Takes}
 use Rattle.code.specs.Ops as code
 use Rattle.thread.specs.declared.Thread.{Thread}
-use Rattle.thread.specs.Threads.{zeros, spawned, push, add, begin, below, sumTold, sumNoted, sourceOf, readFrom, noted, read, write, closed, stale, firstStale, overlaid, logOf, readLog, writeLog}
+use Rattle.thread.specs.Threads.{zeros, unwritten, spawned, push, add, begin, below, sumTold, sumNoted, sourceOf, readFrom, noted, read, write, closed, stale, firstStale, logOf, countedLog, readLog, writeLog}
 use Rattle.stm.specs.Events.{Source, fromWrites, fromReads, fromTable, summed, looked, sentBack, committed, isCommit, isBack, more}
-use Rattle.machine.specs.Steps.{State, Stepped, numberOf, committing, commit, instruction, Child, movedBy, ruled, act, perform, settle}
+use Rattle.machine.specs.Steps.{State, Stepped, numberOf, committing, commit, instruction, Child, movedBy, ruled, act, perform, settle, tableIn}
 use Rattle.machine.specs.Fits.{Walked, walkOp, nextPlace, Walks, Placed, TypedThread}
 use Rattle.machine.proofs.Walking.{not-before}
 use Rattle.machine.specs.InnerStands.{registerCells, tableOf, opOf, Ready, undone}
@@ -25,8 +26,8 @@ use Rattle.machine.specs.Stands.{stackFrom}
 use Rattle.machine.proofs.Codes.{stands-inside, ready-op, ready-next, ready-child, ready-takes}
 use Rattle.machine.proofs.Shapes.{taking-two, taking-less, Shape, out, open′ as shape-open, shape}
 use Rattle.machine.proofs.Placings.{typed-push, typed-add, typed-begin, typed-read, typed-write, typed-closed, placed-push, placed-add, placed-read, read-kids, read-commits, placed-write, placed-begin, placed-commit, commit-kids, commit-commits, placed-back, back-kids, back-commits}
-use Rattle.machine.proofs.Stale.{found-stale, stale-by, stale-none, stale-read, never-back}
-use Rattle.machine.proofs.Showings.{Shows, shut, open′, stack-suc, stack-set, stack-push, stack-add, stack-closed, log-none, log-with, first-same, overlaid-same}
+use Rattle.machine.proofs.Stale.{found-stale, stale-by, stale-none, stale-read, never-back, Grown, same-grown, recounted-grown, recounted-length, overlaid-length, low-none, low-read}
+use Rattle.machine.proofs.Showings.{Shows, shut, open′, stack-suc, stack-set, stack-push, stack-add, stack-closed, log-none, log-with, counted-none, counted-with, cell-at, first-same, writes-same}
 use Rattle.stm.specs.InnerTasks.{Log, outside, inside, Did, Found, logged, goes, found, foundIn, overwritten, commits, stepOutside, stepInside}
 use Rattle.stm.specs.InnerMeaning.{TakesOutside, TakesInside, Outside, Inside, behind}
 use Rattle.word.specs.Registers.{member}
@@ -47,7 +48,7 @@ pub data Born (bytes : List ℕ) (ts : List Thread) (n : ℕ) : List Code → Li
   child : {k : Code} (start end : ℕ) → Ready bytes start end k 0 → Outside k 0 → 1 ≤ start → Born bytes ts n (k ∷ []) (record { start = start; end = end } ∷ []) (set ts n (spawned start end))
 
 -- a thread that is sent back had a stale read, and has none
-pub record WasStale (t thread : Thread) (table : List ℤ) : Type 0 where
+pub record WasStale (t thread : Thread) (table : Table) : Type 0 where
   pub register : ℕ
   pub was : stale t table register ≡ true
   pub none-now : (v : ℕ) → stale thread table v ≡ false
@@ -66,9 +67,12 @@ pub record Simulated (bytes : List ℕ) (s : State) (i : ℕ) (t : Thread) (old 
   pub kids : placed .walked .children ≡ born ++ old .children
   pub commits : placed .walked .commits ≡ more (isCommit (r .event)) (old .commits)
   pub backs : thread .backs ≡ t .backs
-  pub calm : (v : ℕ) → stale t (s .registers) v ≡ false → stale thread (s .registers) v ≡ false
-  pub sent-back : isBack (r .event) ≡ true → WasStale t thread (s .registers)
-  pub still : isCommit (r .event) ≡ false → r .state .registers ≡ s .registers
+  pub calm : (v : ℕ) → stale t (tableIn s) v ≡ false → stale thread (tableIn s) v ≡ false
+  pub low : ((v : ℕ) → getD (t .readcounts) v 0 ≤ getD (s .counts) v 0) → (v : ℕ) → getD (thread .readcounts) v 0 ≤ getD (s .counts) v 0
+  pub even : length (r .state .registers) ≡ length (r .state .counts)
+  pub grown : length (s .counts) ≡ 64 → (v : ℕ) → Grown (isCommit (r .event)) (getD (s .counts) v 0) (getD (r .state .counts) v 0)
+  pub sent-back : isBack (r .event) ≡ true → WasStale t thread (tableIn s)
+  pub still : isCommit (r .event) ≡ false → tableIn (r .state) ≡ tableIn s
   pub shows : Shows bytes thread (d .task)
   pub start : thread .start ≡ t .start
   pub end : thread .end ≡ t .end
@@ -93,7 +97,7 @@ back-walks {bytes} {t} h l = go (shape (h .region) (h .outer) (h .somewhere) (h 
     go (shape-open body c k r o e g) =
         subst (λ (n : ℕ). Walks bytes (t .start) (t .end) n (undone (h .placed .walked))) (sym (h .placed .begin)) (g .walks)
 
-module _ {bytes : List ℕ} (sum : Rule) (s : State) (j : ℕ) (t : Thread) (h : Held bytes t) where
+module _ {bytes : List ℕ} (sum : Rule) (s : State) (j : ℕ) (t : Thread) (h : Held bytes t) (even : length (s .registers) ≡ length (s .counts)) where
   abbrev pub Sim : Stepped → Did registerCells → Type 0
   Sim r d = Simulated bytes s j t (h .placed .walked) r d
 
@@ -117,6 +121,9 @@ module _ {bytes : List ℕ} (sum : Rule) (s : State) (j : ℕ) (t : Thread) (h :
         commits = refl;
         backs = refl;
         calm = stale-by _ _ _ refl refl;
+        low = λ f. f;
+        even = even;
+        grown = λ z v. same-grown (getD (s .counts) v 0);
         sent-back = λ q. never-back q;
         still = λ q. refl;
         shows = shown-outside (shut c (ready-next r) o z) (stack-push (t .cells) 0 (t .height) (t .height) n (omega arith) (omega arith));
@@ -140,6 +147,9 @@ module _ {bytes : List ℕ} (sum : Rule) (s : State) (j : ℕ) (t : Thread) (h :
         commits = refl;
         backs = refl;
         calm = stale-by _ _ _ refl refl;
+        low = λ f. f;
+        even = even;
+        grown = λ z v. same-grown (getD (s .counts) v 0);
         sent-back = λ q. never-back q;
         still = λ q. refl;
         shows = shown-outside (shut c (ready-next r) (o .1) z) (stack-push (t .cells) 0 (t .height) (t .height) (pos 0) (omega arith) (omega arith));
@@ -166,9 +176,12 @@ module _ {bytes : List ℕ} (sum : Rule) (s : State) (j : ℕ) (t : Thread) (h :
         commits = refl;
         backs = refl;
         calm = λ v z. stale-none _ _ refl v;
+        low = λ f v. low-none v (getD (s .counts) v 0);
+        even = even;
+        grown = λ z v. same-grown (getD (s .counts) v 0);
         sent-back = λ q. never-back q;
         still = λ q. refl;
-        shows = shown-inside (open′ c c 0 (ready-next r) o (omega arith) (omega arith) r o refl) refl nothing-above (log-none zeros) (log-none zeros) refl;
+        shows = shown-inside (open′ c c 0 (ready-next r) o (omega arith) (omega arith) r o refl) refl nothing-above (counted-none zeros unwritten) (log-none zeros) refl;
         start = refl;
         end = refl;
       }
@@ -195,6 +208,9 @@ module _ {bytes : List ℕ} (sum : Rule) (s : State) (j : ℕ) (t : Thread) (h :
             commits = refl;
             backs = refl;
             calm = stale-by _ _ _ refl refl;
+            low = λ f. f;
+            even = even;
+            grown = λ z v. same-grown (getD (s .counts) v 0);
             sent-back = λ q. never-back q;
             still = λ q. refl;
             shows = shown-outside (shut c (ready-next r) (taking-less (λ (x : ℕ). Outside c x) (t .height) o) z) (added k e room);
@@ -258,6 +274,9 @@ module _ {bytes : List ℕ} (sum : Rule) (s : State) (j : ℕ) (t : Thread) (h :
         commits = refl;
         backs = refl;
         calm = stale-by _ _ _ refl refl;
+        low = λ f. f;
+        even = even;
+        grown = λ z v. same-grown (getD (s .counts) v 0);
         sent-back = λ q. never-back q;
         still = λ q. refl;
         shows = shown-inside (open′ body c (suc k) (ready-next (x .ready)) (x .goes-on) (omega arith) (x .somewhere) (x .again) (x .outer) (x .same)) (stack-set (t .cells) 0 (t .base) (t .height) n (omega arith)) (stack-push (t .cells) (t .base) k (t .height) n e (omega arith)) refl refl refl;
@@ -285,6 +304,9 @@ module _ {bytes : List ℕ} (sum : Rule) (s : State) (j : ℕ) (t : Thread) (h :
         commits = refl;
         backs = refl;
         calm = stale-by _ _ _ refl refl;
+        low = λ f. f;
+        even = even;
+        grown = λ z v. same-grown (getD (s .counts) v 0);
         sent-back = λ q. never-back q;
         still = λ q. refl;
         shows = shown-inside (open′ body c (suc k) (ready-next (x .ready)) (x .goes-on) (omega arith) (x .somewhere) (x .again) (x .outer) (x .same)) lower upper refl refl counted;
@@ -317,36 +339,50 @@ module _ {bytes : List ℕ} (sum : Rule) (s : State) (j : ℕ) (t : Thread) (h :
           stack-add (t .cells) (t .base) k (t .height) (sum (below t 2) (below t 1)) (pos 0) e (omega arith) ∙ ap (λ (n : ℤ). n ∷ stackFrom (t .cells) (t .base) k) (ap (λ (p : ℕ). sum (getD (t .cells) p (pos 0)) (below t 1)) a ∙ ap (λ (p : ℕ). sum (getD (t .cells) (k + t .base) (pos 0)) (getD (t .cells) p (pos 0))) b)
 
   -- READ finds in the logs and the table what it finds in the record's
-  found-same : (v : ℕ) → v < 64 → (a b : Bool) → foundIn registerCells (cond a (some (getD (t .writelog) v (pos 0))) none) (cond b (some (getD (t .readlog) v (pos 0))) none) (getD (s .registers) v (pos 0)) reads v ≡ record {
-    value = readFrom (cond a fromWrites (cond b fromReads fromTable)) (s .registers) t v;
-    source = cond a fromWrites (cond b fromReads fromTable);
-    reads = logOf (noted (cond a fromWrites (cond b fromReads fromTable)) v (readFrom (cond a fromWrites (cond b fromReads fromTable)) (s .registers) t v) t .reads) (noted (cond a fromWrites (cond b fromReads fromTable)) v (readFrom (cond a fromWrites (cond b fromReads fromTable)) (s .registers) t v) t .readlog);
+  abbrev from : Bool → Bool → Source
+  from a b = cond a fromWrites (cond b fromReads fromTable)
+
+  found-same : (v : ℕ) → v < 64 → (a b : Bool) → foundIn registerCells (cond a (some (getD (t .writelog) v (pos 0))) none) (cond b (some (record { value = getD (t .readlog) v (pos 0); count = getD (t .readcounts) v 0 })) none) (record { value = getD (s .registers) v (pos 0); count = getD (s .counts) v 0 }) reads v ≡ record {
+    value = readFrom (from a b) (s .registers) t v;
+    source = from a b;
+    reads = readLog (noted (from a b) v (readFrom (from a b) (s .registers) t v) (getD (s .counts) v 0) t);
   }
   found-same v l true b = refl
   found-same v l false true = refl
-  found-same v l false false = ap (λ (r : Log ℤ). record { value = getD (s .registers) v (pos 0); source = fromTable; reads = r }) (sym (log-with (t .reads) (t .readlog) v (getD (s .registers) v (pos 0)) l (h .typed .readlog)))
+  found-same v l false false = ap (λ (r : Log Counted). record { value = getD (s .registers) v (pos 0); source = fromTable; reads = r }) (sym (counted-with (t .reads) (t .readlog) (t .readcounts) v (getD (s .registers) v (pos 0)) (getD (s .counts) v 0) l (h .typed .readlog) (h .typed .readcounts)))
+
+  found-cell : (v : ℕ) → v < 64 → found registerCells (tableOf s) reads writes v ≡ record {
+    value = readFrom (sourceOf t v) (s .registers) t v;
+    source = sourceOf t v;
+    reads = readLog (noted (sourceOf t v) v (readFrom (sourceOf t v) (s .registers) t v) (getD (s .counts) v 0) t);
+  }
+  unfolding found sourceOf logOf countedLog
+  found-cell v l = rw (cell-at (s .registers) (s .counts) v) (found-same v l (member (t .writes) v) (member (t .reads) v))
 
   inner-read : (v : ℕ) (body c : Code) (k : ℕ) → Inner (READ v) body c k → Sim (instruction sum s j t (code.read v)) (stepInside registerCells sum (tableOf s) body below-base (READ v ⨾ c) (stackFrom (t .cells) (t .base) k) reads writes (t .over))
-  unfolding act perform settle stepInside Inside TakesInside Takes nextPlace walkOp behind found read sourceOf logOf push
+  unfolding act perform settle stepInside Inside TakesInside Takes nextPlace walkOp behind read push
   inner-read v body c k x =
-      subst (λ (f : Found registerCells). Sim (instruction sum s j t (code.read v)) (goes registerCells (inside body below-base c (f .value ∷ stackFrom (t .cells) (t .base) k) (f .reads) writes (t .over)) (s .registers) (looked (f .source))))
-      (sym (found-same v (x .goes-on .0) (member (t .writes) v) (member (t .reads) v)))
+      subst (λ (f : Found registerCells). Sim (instruction sum s j t (code.read v)) (goes registerCells (inside body below-base c (f .value ∷ stackFrom (t .cells) (t .base) k) (f .reads) writes (t .over)) (tableOf s) (looked (f .source))))
+      (sym (found-cell v (x .goes-on .0)))
       (record {
         event = refl;
         over = refl;
         registers = refl;
-        thread = read (s .registers) v t;
+        thread = read (tableIn s) v t;
         born = [];
         threads = nobody;
-        typed = typed-read (s .registers) v t (h .typed);
-        placed = placed-read t (h .placed) l (s .registers) v (x .goes-on .0) (ready-op (x .ready)) (x .somewhere);
+        typed = typed-read (tableIn s) v t (h .typed);
+        placed = placed-read t (h .placed) l (tableIn s) v (x .goes-on .0) (ready-op (x .ready)) (x .somewhere);
         kids = placed-read-kids;
         commits = placed-read-commits;
         backs = backs′ (sourceOf t v);
         calm = read-calm;
+        low = low-read (tableIn s) v t;
+        even = even;
+        grown = λ z v. same-grown (getD (s .counts) v 0);
         sent-back = λ q. never-back q;
         still = λ q. refl;
-        shows = shown (sourceOf t v) (readFrom (sourceOf t v) (s .registers) t v);
+        shows = shown (sourceOf t v) (readFrom (sourceOf t v) (s .registers) t v) (getD (s .counts) v 0);
         start = start′ (sourceOf t v);
         end = end′ (sourceOf t v);
       })
@@ -354,43 +390,43 @@ module _ {bytes : List ℕ} (sum : Rule) (s : State) (j : ℕ) (t : Thread) (h :
       l : t .place < t .end
       l = stands-inside (x .ready .stands)
 
-      placed-read-kids : placed-read t (h .placed) l (s .registers) v (x .goes-on .0) (ready-op (x .ready)) (x .somewhere) .walked .children ≡ h .placed .walked .children
-      placed-read-kids = read-kids t (h .placed) l (s .registers) v (x .goes-on .0) (ready-op (x .ready)) (x .somewhere)
+      placed-read-kids : placed-read t (h .placed) l (tableIn s) v (x .goes-on .0) (ready-op (x .ready)) (x .somewhere) .walked .children ≡ h .placed .walked .children
+      placed-read-kids = read-kids t (h .placed) l (tableIn s) v (x .goes-on .0) (ready-op (x .ready)) (x .somewhere)
 
-      placed-read-commits : placed-read t (h .placed) l (s .registers) v (x .goes-on .0) (ready-op (x .ready)) (x .somewhere) .walked .commits ≡ h .placed .walked .commits
-      placed-read-commits = read-commits t (h .placed) l (s .registers) v (x .goes-on .0) (ready-op (x .ready)) (x .somewhere)
+      placed-read-commits : placed-read t (h .placed) l (tableIn s) v (x .goes-on .0) (ready-op (x .ready)) (x .somewhere) .walked .commits ≡ h .placed .walked .commits
+      placed-read-commits = read-commits t (h .placed) l (tableIn s) v (x .goes-on .0) (ready-op (x .ready)) (x .somewhere)
 
-      backs′ : (from : Source) → noted from v (readFrom from (s .registers) t v) t .backs ≡ t .backs
+      backs′ : (from : Source) → noted from v (readFrom from (s .registers) t v) (getD (s .counts) v 0) t .backs ≡ t .backs
       backs′ fromWrites = refl
       backs′ fromReads = refl
       backs′ fromTable = refl
 
-      read-calm : (u : ℕ) → stale t (s .registers) u ≡ false → stale (read (s .registers) v t) (s .registers) u ≡ false
-      read-calm = stale-read (s .registers) v t (x .goes-on .0) (h .typed .readlog)
+      read-calm : (u : ℕ) → stale t (tableIn s) u ≡ false → stale (read (tableIn s) v t) (tableIn s) u ≡ false
+      read-calm = stale-read (tableIn s) v t (x .goes-on .0) (h .typed .readcounts)
 
-      shown : (from : Source) (n : ℤ) → Shows bytes (push n (t .place + 2) (noted from v n t)) (inside body below-base c (n ∷ stackFrom (t .cells) (t .base) k) (logOf (noted from v n t .reads) (noted from v n t .readlog)) writes (t .over))
-      shown fromWrites n =
+      shown : (from : Source) (n : ℤ) (count : ℕ) → Shows bytes (push n (t .place + 2) (noted from v n count t)) (inside body below-base c (n ∷ stackFrom (t .cells) (t .base) k) (readLog (noted from v n count t)) writes (t .over))
+      shown fromWrites n count =
           let y = h .typed .cells in
           let e = x .height in
           let m : suc (t .height) ≤ 64 = ready-takes (x .ready) in
           shown-inside (open′ body c (suc k) (ready-next (x .ready)) (x .goes-on .1) (omega arith) (x .somewhere) (x .again) (x .outer) (x .same)) (stack-set (t .cells) 0 (t .base) (t .height) n (omega arith)) (stack-push (t .cells) (t .base) k (t .height) n e (omega arith)) refl refl refl
-      shown fromReads n =
+      shown fromReads n count =
           let y = h .typed .cells in
           let e = x .height in
           let m : suc (t .height) ≤ 64 = ready-takes (x .ready) in
           shown-inside (open′ body c (suc k) (ready-next (x .ready)) (x .goes-on .1) (omega arith) (x .somewhere) (x .again) (x .outer) (x .same)) (stack-set (t .cells) 0 (t .base) (t .height) n (omega arith)) (stack-push (t .cells) (t .base) k (t .height) n e (omega arith)) refl refl refl
-      shown fromTable n =
+      shown fromTable n count =
           let y = h .typed .cells in
           let e = x .height in
           let m : suc (t .height) ≤ 64 = ready-takes (x .ready) in
           shown-inside (open′ body c (suc k) (ready-next (x .ready)) (x .goes-on .1) (omega arith) (x .somewhere) (x .again) (x .outer) (x .same)) (stack-set (t .cells) 0 (t .base) (t .height) n (omega arith)) (stack-push (t .cells) (t .base) k (t .height) n e (omega arith)) refl refl refl
 
-      start′ : (from : Source) → noted from v (readFrom from (s .registers) t v) t .start ≡ t .start
+      start′ : (from : Source) → noted from v (readFrom from (s .registers) t v) (getD (s .counts) v 0) t .start ≡ t .start
       start′ fromWrites = refl
       start′ fromReads = refl
       start′ fromTable = refl
 
-      end′ : (from : Source) → noted from v (readFrom from (s .registers) t v) t .end ≡ t .end
+      end′ : (from : Source) → noted from v (readFrom from (s .registers) t v) (getD (s .counts) v 0) t .end ≡ t .end
       end′ fromWrites = refl
       end′ fromReads = refl
       end′ fromTable = refl
@@ -414,6 +450,9 @@ module _ {bytes : List ℕ} (sum : Rule) (s : State) (j : ℕ) (t : Thread) (h :
         commits = refl;
         backs = refl;
         calm = stale-by _ _ _ refl refl;
+        low = λ f. f;
+        even = even;
+        grown = λ z v. same-grown (getD (s .counts) v 0);
         sent-back = λ q. never-back q;
         still = λ q. refl;
         shows = shown-inside (open′ body c (suc k) (ready-next (x .ready)) (x .goes-on .1) e (x .somewhere) (x .again) (x .outer) (x .same)) refl refl refl (log-with (t .writes) (t .writelog) v (below t 1) (x .goes-on .0) (h .typed .writelog) ∙ ap (λ (p : ℕ). logged writes v (getD (t .cells) p (pos 0))) a) refl;
@@ -422,15 +461,15 @@ module _ {bytes : List ℕ} (sum : Rule) (s : State) (j : ℕ) (t : Thread) (h :
       }
 
   -- COMMIT: both find the same first stale register
-  inner-commit : (body c : Code) → Inner COMMIT body c 1 → (v : ℕ) → (ltb v 64 ≡ true → stale t (s .registers) v ≡ true) → Sim (settle (numberOf (s .threads)) s j (ruled (commit (s .registers) t v))) (commits registerCells (tableOf s) body below-base c (getD (t .cells) (0 + t .base) (pos 0)) writes (t .over) v)
+  inner-commit : (body c : Code) → Inner COMMIT body c 1 → (v : ℕ) → (ltb v 64 ≡ true → stale t (tableIn s) v ≡ true) → Sim (settle (numberOf (s .threads)) s j (ruled (commit (tableIn s) t v))) (commits registerCells (tableOf s) body below-base c (getD (t .cells) (0 + t .base) (pos 0)) writes (t .over) v)
   unfolding commit settle Inside TakesInside behind closed nextPlace
   inner-commit body c x v found = go (ltb v 64) found
     where
       l : t .place < t .end
       l = stands-inside (x .ready .stands)
 
-      go : (b : Bool) → (b ≡ true → stale t (s .registers) v ≡ true) → Sim (settle (numberOf (s .threads)) s j (ruled (committing b (s .registers) t v))) (elim b [
-        | true ↦ record { task = outside (BEGIN ⨾ body) below-base; table = s .registers; children = []; event = sentBack v; over = 0 }
+      go : (b : Bool) → (b ≡ true → stale t (tableIn s) v ≡ true) → Sim (settle (numberOf (s .threads)) s j (ruled (committing b (tableIn s) t v))) (elim b [
+        | true ↦ record { task = outside (BEGIN ⨾ body) below-base; table = tableOf s; children = []; event = sentBack v; over = 0 }
         | false ↦ record { task = outside c (getD (t .cells) (0 + t .base) (pos 0) ∷ below-base); table = overwritten registerCells 64 0 writes (tableOf s); children = []; event = committed; over = t .over }
       ])
       go true sv =
@@ -449,6 +488,9 @@ module _ {bytes : List ℕ} (sum : Rule) (s : State) (j : ℕ) (t : Thread) (h :
             commits = back-commits t (h .placed .walked) (h .placed .base) (back-walks h (x .somewhere));
             backs = refl;
             calm = λ v z. stale-none _ _ refl v;
+            low = λ f v. low-none v (getD (s .counts) v 0);
+            even = even;
+            grown = λ z v. same-grown (getD (s .counts) v 0);
             sent-back = λ q. record { register = v; was = sv refl; none-now = stale-none _ _ refl };
             still = λ q. refl;
             shows = shown-outside (shut (BEGIN ⨾ body) (x .again) (x .outer) refl) (stack-closed (t .cells) 0 (t .base) (t .base) _ (omega arith) (omega arith));
@@ -463,7 +505,7 @@ module _ {bytes : List ℕ} (sum : Rule) (s : State) (j : ℕ) (t : Thread) (h :
           record {
             event = refl;
             over = refl;
-            registers = overlaid-same 64 0 t (s .registers);
+            registers = writes-same t (tableIn s) even;
             thread = closed (t .place + 1) (t .height) t;
             born = [];
             threads = nobody;
@@ -473,6 +515,9 @@ module _ {bytes : List ℕ} (sum : Rule) (s : State) (j : ℕ) (t : Thread) (h :
             commits = commit-commits t (h .placed) l (ready-op (x .ready));
             backs = refl;
             calm = λ v z. stale-none _ _ refl v;
+            low = λ f v. low-none v (getD (s .counts) v 0);
+            even = overlaid-length 64 0 t (s .registers) ∙ (even ∙ sym (recounted-length 64 0 t (s .counts)));
+            grown = recounted-grown t (s .counts);
             sent-back = λ q. never-back q;
             still = λ q. never-back (sym q);
             shows = shown-outside (shut c (ready-next (x .ready)) (subst (λ (n : ℕ). Outside c n) f (x .goes-on .1)) refl) (stack-closed (t .cells) 0 (t .height) (t .height) _ (omega arith) (omega arith) ∙ (ap (λ (n : ℕ). stackFrom (t .cells) 0 n) (sym f) ∙ one-above));
@@ -486,7 +531,7 @@ module _ {bytes : List ℕ} (sum : Rule) (s : State) (j : ℕ) (t : Thread) (h :
   commit-found : (body c : Code) → Inner COMMIT body c 1 → Sim (instruction sum s j t code.commit) (stepInside registerCells sum (tableOf s) body below-base (COMMIT ⨾ c) (stackFrom (t .cells) (t .base) 1) reads writes (t .over))
   unfolding act perform settle stepInside stackFrom
   commit-found body c x =
-      subst (λ (v : ℕ). Sim (instruction sum s j t code.commit) (commits registerCells (tableOf s) body below-base c (getD (t .cells) (0 + t .base) (pos 0)) writes (t .over) v)) (first-same 64 0 t (s .registers)) (inner-commit body c x (firstStale 64 0 t (s .registers)) (λ q. found-stale t (s .registers) (ltb-true (firstStale 64 0 t (s .registers)) 64 q) .its))
+      subst (λ (v : ℕ). Sim (instruction sum s j t code.commit) (commits registerCells (tableOf s) body below-base c (getD (t .cells) (0 + t .base) (pos 0)) writes (t .over) v)) (first-same 64 0 t (tableIn s)) (inner-commit body c x (firstStale 64 0 t (tableIn s)) (λ q. found-stale t (tableIn s) (ltb-true (firstStale 64 0 t (tableIn s)) 64 q) .its))
 
   -- any instruction inside
   pub from-inside : (i : Instruction) (body c : Code) (k : ℕ) → Inner i body c k → Sim (instruction sum s j t (opOf i)) (stepInside registerCells sum (tableOf s) body below-base (i ⨾ c) (stackFrom (t .cells) (t .base) k) reads writes (t .over))

@@ -26,9 +26,10 @@ use Rattle.word.specs.Sum.{Rule, wrapping}
 abbrev pub sumOf : Job → Rule
 sumOf j = wrapping
 
--- "A run of other than 16 records, or a table of other than 64 registers, is a foreign state, also where a fresh state is to be laid down"
+-- "A run of other than 16 records, or a table of other than 64 registers, is a foreign state, also where a fresh state is to be laid down"; the
+-- table has as many counts (document 02 No. 6)
 abbrev pub rightLengths : State → Outcome State → Outcome State
-rightLengths s behind = refuse (not (eqb (length (s .threads)) 16 && eqb (length (s .registers)) 64)) 12 0 behind
+rightLengths s behind = refuse (not (eqb (length (s .threads)) 16 && (eqb (length (s .registers)) 64 && eqb (length (s .counts)) 64))) 12 0 behind
 
 -- 12, "does not fit the code"
 abbrev pub fitting : {A : Type 0} → (code : List ℕ) → State → Outcome A → Outcome A
@@ -98,14 +99,14 @@ ruleNamed r = mapped (λ (t : Told). usedBy (t .event)) (stepSays r)
 abbrev pub runSays : RunReply → Outcome Counts
 runSays r = saying (r .refusal) (r .place) (record { steps = r .steps; idle = r .idle; commits = r .commits; back = r .back; over = r .over })
 
--- ---- what a call returns: the registers and the records that it leaves, and its answer
+-- ---- what a call returns: the registers, counts and records that it leaves, and its answer
 pub record Returned (Reply : Type 0) : Type 0 where
   pub state : State
   pub reply : Reply
 
--- these registers, these records and this answer
-abbrev pub answered : {Reply : Type 0} → List ℤ → List Thread → Reply → Returned Reply
-answered rs ts reply = record { state = stateFrom rs ts; reply = reply }
+-- these registers, these counts, these records and this answer
+abbrev pub answered : {Reply : Type 0} → List ℤ → List ℕ → List Thread → Reply → Returned Reply
+answered rs ns ts reply = record { state = stateFrom rs ns ts; reply = reply }
 
 -- "A refusal .. alters no lent memory"
 abbrev pub returned : {A Reply : Type 0} → (A → State) → (Outcome A → Reply) → State → Outcome A → Returned Reply
@@ -129,10 +130,10 @@ runCall code s is = returned (λ (r : Ran). r .state) runReply s (runOf code s i
 pub data FreshAnswer (code : List ℕ) (s : State) : Returned FreshReply → Type 0 where
   foreign-code : Foreign code → FreshAnswer code s (record { state = s; reply = freshReply (refused 11 0) })
   foreign-state :
-      {j : Job} → IsCode code j → ((length (s .threads) ≡ 16) × (length (s .registers) ≡ 64) → ⊥) →
+      {j : Job} → IsCode code j → ((length (s .threads) ≡ 16) × (length (s .registers) ≡ 64) × (length (s .counts) ≡ 64) → ⊥) →
       FreshAnswer code s (record { state = s; reply = freshReply (refused 12 0) })
   laid-down :
-      {j : Job} → IsCode code j → length (s .threads) ≡ 16 → length (s .registers) ≡ 64 →
+      {j : Job} → IsCode code j → length (s .threads) ≡ 16 → length (s .registers) ≡ 64 → length (s .counts) ≡ 64 →
       FreshAnswer code s (record { state = fresh code; reply = freshReply (done (fresh code)) })
 
 -- of a step: 11, then 12, else one pick

@@ -10,8 +10,9 @@ use lib.ListN.{length, drop, getD}
 use lib.Signed.{ltZ}
 use Rattle.thread.specs.declared.Thread.{Thread}
 use Rattle.thread.specs.Threads.{exists, firstStale}
-use Rattle.machine.specs.Steps.{State, threadAt, Child}
+use Rattle.machine.specs.Steps.{State, tableIn, threadAt, Child}
 use Rattle.machine.specs.Fits.{Walked, unmoved, walkOp, nextPlace, ownCode}
+use Rattle.stm.specs.Counted.{Table}
 use Rattle.code.specs.Ops.{Op, opAt}
 use Rattle.script.specs.Outcome.{Outcome, refused, done}
 use Rattle.word.specs.Registers.{member}
@@ -51,6 +52,25 @@ freeFrom (suc left) v marked ns = (marked v || isZero (getD ns v (pos 0))) && fr
 abbrev pub free : (ℕ → Bool) → List ℤ → Bool
 free marked ns = freeFrom 64 0 marked ns
 
+-- a count that is not marked is 0, from v on, `left` of them being left
+unfoldable pub uncountedFrom : (left v : ℕ) → (ℕ → Bool) → List ℕ → Bool
+uncountedFrom zero v marked ns = true
+uncountedFrom (suc left) v marked ns = (marked v || eqb (getD ns v 0) 0) && uncountedFrom left (suc v) marked ns
+
+-- the same of all 64 counts
+abbrev pub uncounted : (ℕ → Bool) → List ℕ → Bool
+uncounted marked ns = uncountedFrom 64 0 marked ns
+
+-- no count is above the other list's, from v on, `left` of them being left
+unfoldable pub withinFrom : (left v : ℕ) → List ℕ → List ℕ → Bool
+withinFrom zero v ns ms = true
+withinFrom (suc left) v ns ms = leb (getD ns v 0) (getD ms v 0) && withinFrom left (suc v) ns ms
+
+-- no count is above a number, from v on, `left` of them being left
+unfoldable pub atMostFrom : (left v : ℕ) → List ℕ → (most : ℕ) → Bool
+atMostFrom zero v ns most = true
+atMostFrom (suc left) v ns most = leb (getD ns v 0) most && atMostFrom left (suc v) ns most
+
 -- whether height, notes and logs are such as the walk leaves
 abbrev pub agreesWith : Thread → Option Walked → Bool
 agreesWith t none = false
@@ -62,7 +82,10 @@ agreesWith t (some w) =
 -- a thread's record
 unfoldable pub placed : List ℕ → Thread → Bool
 placed bytes t =
-    agreesWith t (walkTo bytes t) && (free (member (t .reads)) (t .readlog) && (free (member (t .writes)) (t .writelog) && free (λ n. ltb n (t .height)) (t .cells)))
+    agreesWith t (walkTo bytes t)
+    && (free (member (t .reads)) (t .readlog)
+    && (free (member (t .writes)) (t .writelog)
+    && (free (λ n. ltb n (t .height)) (t .cells) && uncounted (member (t .reads)) (t .readcounts))))
 
 -- a record of no thread
 unfoldable pub allZero : Thread → Bool
@@ -78,7 +101,9 @@ allZero t =
     && (eqb (t .writes) 0
     && (eqb (t .rule) 0
     && (eqb (t .backs) 0
-    && (free (λ n. false) (t .cells) && (free (λ n. false) (t .readlog) && free (λ n. false) (t .writelog)))))))))))))
+    && (free (λ n. false) (t .cells)
+    && (free (λ n. false) (t .readlog)
+    && (free (λ n. false) (t .writelog) && uncounted (λ v. false) (t .readcounts))))))))))))))
 
 -- threads first, each placed; then records of no thread only
 unfoldable pub noneBehind : List Thread → Bool
@@ -135,24 +160,26 @@ commitsPassed bytes [] = 0
 commitsPassed bytes (t ∷ ts) = cond (exists t) (commitsOf (walkTo bytes t)) 0 + commitsPassed bytes ts
 
 -- the fewest COMMITs passed with which a record fits: its number of send-backs, and one more if it has a stale read
-unfoldable pub needs : List ℤ → Thread → ℕ
+unfoldable pub needs : Table → Thread → ℕ
 needs table t = cond (ltb (firstStale 64 0 t table) 64) (suc (t .backs)) (t .backs)
 
 -- so many COMMITs passed are enough for every record
-unfoldable pub allTallied : (passed : ℕ) → List ℤ → List Thread → Bool
+unfoldable pub allTallied : (passed : ℕ) → Table → List Thread → Bool
 allTallied passed table [] = true
-allTallied passed table (t ∷ ts) = leb (needs table t) passed && allTallied passed table ts
+allTallied passed table (t ∷ ts) = (leb (needs table t) passed && withinFrom 64 0 (t .readcounts) (table .counts)) && allTallied passed table ts
 
 -- beside so many COMMITs passed by another job's threads
 unfoldable pub fitsBeside : (others : ℕ) → List ℕ → State → Bool
 fitsBeside others bytes s =
     eqb (length (s .threads)) 16
     && (eqb (length (s .registers)) 64
+    && (eqb (length (s .counts)) 64
     && (same (ownCode (threadAt s 0)) (record { start = 5; end = length bytes })
     && (inFront bytes (s .threads)
     && (allAmong (passedBy bytes (s .threads)) (drop 1 (s .threads))
     && (oneEach (passedBy bytes (s .threads)) (s .threads)
-    && allTallied (others + commitsPassed bytes (s .threads)) (s .registers) (s .threads))))))
+    && (allTallied (others + commitsPassed bytes (s .threads)) (tableIn s) (s .threads)
+    && atMostFrom 64 0 (s .counts) (others + commitsPassed bytes (s .threads)))))))))
 
 -- alone
 unfoldable pub fits : List ℕ → State → Bool

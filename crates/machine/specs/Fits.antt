@@ -8,7 +8,8 @@ use lib.IntN.{ℤ, pos}
 use lib.ListN.{length, drop, getD}
 use Rattle.thread.specs.declared.Thread.{Thread}
 use Rattle.thread.specs.Threads.{blank, exists, stale}
-use Rattle.machine.specs.Steps.{State, threadAt, Child}
+use Rattle.machine.specs.Steps.{State, tableIn, threadAt, Child}
+use Rattle.stm.specs.Counted.{Table}
 use Rattle.code.specs.Ops.{Op, opAt}
 use Rattle.code.specs.Ops as code
 use Rattle.script.specs.Outcome.{done}
@@ -126,6 +127,8 @@ pub record Placed (bytes : List ℕ) (t : Thread) : Type 0 where
   pub reads-free : (v : ℕ) → member (t .reads) v ≡ false → getD (t .readlog) v (pos 0) ≡ pos 0
   pub writes-free : (v : ℕ) → member (t .writes) v ≡ false → getD (t .writelog) v (pos 0) ≡ pos 0
   pub cells-free : (n : ℕ) → t .height ≤ n → getD (t .cells) n (pos 0) ≡ pos 0
+  -- document 02 No. 6: "A state is foreign if .. a read log's count .., its register unmarked, is not 0"
+  pub counts-free : (v : ℕ) → member (t .reads) v ≡ false → getD (t .readcounts) v 0 ≡ 0
 
 -- document 02 No. 4: "the COMMITs passed by all threads", ended ones too
 pub data CommitsPassed (bytes : List ℕ) : List Thread → ℕ → Type 0 where
@@ -137,9 +140,11 @@ pub data CommitsPassed (bytes : List ℕ) : List Thread → ℕ → Type 0 where
 
 -- "A state is foreign if such a number is above the COMMITs passed by all threads, or equal to it while that thread's open transaction has a
 -- stale read": of a thread's record, so many COMMITs being passed
-pub record BacksWithin (passed : ℕ) (table : List ℤ) (t : Thread) : Type 0 where
+pub record BacksWithin (passed : ℕ) (table : Table) (t : Thread) : Type 0 where
   pub not-above : t .backs ≤ passed
   pub not-stale : t .backs ≡ passed → (v : ℕ) → stale t table v ≡ false
+  -- document 02 No. 6: "or a read log's count is above the table's"
+  pub not-ahead : (v : ℕ) → getD (t .readcounts) v 0 ≤ getD (table .counts) v 0
 
 -- thread i exists
 abbrev pub Exists : State → ℕ → Type 0
@@ -167,6 +172,8 @@ pub record FitsBeside (others : ℕ) (bytes : List ℕ) (s : State) : Type 0 whe
   -- "A run of other than 16 records, or a table of other than 64 registers, is a foreign state"
   pub records : length (s .threads) ≡ 16
   pub registers : length (s .registers) ≡ 64
+  -- document 02 No. 6: the counts are part of the table
+  pub counts : length (s .counts) ≡ 64
   -- "thread 0 owns the whole code"
   pub root : ownCode (threadAt s 0) ≡ record { start = 5; end = length bytes }
   -- "and each child its FORK's child code"; "every FORK that its thread has passed has .. one thread, and no other thread exists"
@@ -181,23 +188,26 @@ pub record FitsBeside (others : ℕ) (bytes : List ℕ) (s : State) : Type 0 whe
   -- document 02 No. 4: each thread's number of send-backs against the COMMITs passed by all threads
   pub commits : ℕ
   pub passed : CommitsPassed bytes (s .threads) commits
-  pub tallied : (i : ℕ) → Exists s i → BacksWithin (others + commits) (s .registers) (threadAt s i)
+  pub tallied : (i : ℕ) → Exists s i → BacksWithin (others + commits) (tableIn s) (threadAt s i)
+  -- document 02 No. 6: "A state is foreign if that count is above the COMMITs passed"
+  pub counted : (v : ℕ) → getD (s .counts) v 0 ≤ others + commits
 
 -- alone
 abbrev pub Fits : List ℕ → State → Type 0
 Fits bytes s = FitsBeside 0 bytes s
 
--- ---- what every state that can be lent has by its type alone: 64 cells, 64 values in each log
+-- ---- what every state that can be lent has by its type alone: 64 cells, 64 values in each log, 64 counts in the read log
 pub record TypedThread (t : Thread) : Type 0 where
   pub cells : length (t .cells) ≡ 64
   pub readlog : length (t .readlog) ≡ 64
   pub writelog : length (t .writelog) ≡ 64
+  pub readcounts : length (t .readcounts) ≡ 64
 
 -- every record of a state has them
 abbrev pub Typed : State → Type 0
 Typed s = (i : ℕ) → TypedThread (threadAt s i)
 
--- and numbers of 32 bits, sets of 64 bits, places, heights and counts of 64 bits
+-- and numbers of 32 bits, a read log's counts too; sets, places, heights, notes and the other numbers of 64 bits
 pub record RangedThread (t : Thread) : Type 0 where
   pub cells : (n : ℕ) → InRange (getD (t .cells) n (pos 0))
   pub readlog : (v : ℕ) → InRange (getD (t .readlog) v (pos 0))
@@ -213,8 +223,10 @@ pub record RangedThread (t : Thread) : Type 0 where
   pub over : t .over < 2 ^ 64
   pub rule : t .rule < 2 ^ 64
   pub backs : t .backs < 2 ^ 64
+  pub readcounts : (v : ℕ) → getD (t .readcounts) v 0 < 2 ^ 32
 
--- the same of a state: its registers, and each of its records
+-- the same of a state: its registers, their counts, and each of its records
 pub record Ranged (s : State) : Type 0 where
   pub registers : (v : ℕ) → InRange (getD (s .registers) v (pos 0))
+  pub counts : (v : ℕ) → getD (s .counts) v 0 < 2 ^ 32
   pub threads : (i : ℕ) → RangedThread (threadAt s i)

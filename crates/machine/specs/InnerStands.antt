@@ -1,8 +1,8 @@
 -- For the proofs, nobody has to believe it: the cells of the table, an instruction as it stands in the bytes, code that is there to be run,
 -- a walk before its BEGIN, a rule that stays in range.
 use Prim.Native.Nat.{ℕ, _≤_}
-use mathlib.Core.List.{List}
-use lib.IntN.{ℤ}
+use mathlib.Core.List.{List, [], _∷_}
+use lib.IntN.{ℤ, pos}
 use lib.ListN.{length}
 use Rattle.code.specs.Compile.{Instruction, Code, PUSH, ADD, READ, WRITE, BEGIN, COMMIT, FORK}
 use Rattle.code.specs.Bytes.{instructionsBytes}
@@ -11,17 +11,29 @@ use Rattle.code.specs.Ops.{Op}
 use Rattle.code.specs.Ops as code
 use Rattle.machine.specs.Fits.{Walked, risen, shut}
 use Rattle.machine.specs.Stands.{Stands, ValuedC}
-use Rattle.machine.specs.Steps.{State}
-use Rattle.stm.specs.InnerCells.{Cells, byValue}
+use Rattle.machine.specs.Steps.{State, tableIn}
+use Rattle.stm.specs.InnerCells.{Cells, byCount}
+use Rattle.stm.specs.Counted.{Counted, Table}
 use Rattle.word.specs.Sum.{InRange, Rule}
 
--- a register's cell, and when a logged one is stale: document 01's, by value
+-- a register's cell, and when a logged one is stale: document 02 No. 6, by count
 abbrev pub registerCells : Cells
-registerCells = byValue
+registerCells = byCount
 
--- the table of a state, as such cells
+-- values and counts as such cells, one for each register
+unfoldable pub cellsFrom : List ℤ → List ℕ → List Counted
+cellsFrom [] [] = []
+cellsFrom [] (n ∷ ns) = record { value = pos 0; count = n } ∷ cellsFrom [] ns
+cellsFrom (r ∷ rs) [] = record { value = r; count = 0 } ∷ cellsFrom rs []
+cellsFrom (r ∷ rs) (n ∷ ns) = record { value = r; count = n } ∷ cellsFrom rs ns
+
+-- the table's cells
+abbrev pub cellsOf : Table → List (registerCells .Cell)
+cellsOf table = cellsFrom (table .registers) (table .counts)
+
+-- the table of a state
 abbrev pub tableOf : State → List (registerCells .Cell)
-tableOf s = s .registers
+tableOf s = cellsOf (tableIn s)
 
 -- an instruction as it stands in the bytes
 abbrev pub opOf : Instruction → Op

@@ -5,5 +5,6 @@ pub mod InnerTurn
 pub mod Fits
 pub mod FitTest
 pub mod Answers
+pub mod Written
 pub mod Stands
 pub mod InnerStands

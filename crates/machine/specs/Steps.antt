@@ -7,23 +7,31 @@ use lib.Dec.{eqb, ltb}
 use lib.IntN.{ℤ, pos}
 use lib.ListN.{length, drop, getD, set, replicate}
 use Rattle.thread.specs.declared.Thread.{Thread}
-use Rattle.thread.specs.Threads.{exists, blank, withRule, spawned, below, push, sumTold, add, begin, sourceOf, read, write, closed, stale, firstStale, overlaid}
+use Rattle.thread.specs.Threads.{exists, blank, withRule, spawned, below, push, sumTold, add, begin, sourceOf, read, write, closed, stale, firstStale}
+use Rattle.thread.specs.Threads.{withWrites}
+use Rattle.stm.specs.Counted.{Table}
 use Rattle.stm.specs.Rules.{ruleAfter, backsAfter}
-use Rattle.stm.specs.Events.{Source, fromWrites, fromReads, fromTable, Event, idle, pushed, summed, forked, begun, looked, wrote, committed, sentBack, Happened, isIdle}
+use Rattle.stm.specs.Events.{Source, fromWrites, fromReads, fromTable, Event, idle, pushed, summed, forked, begun, looked, wrote, committed, sentBack}
+use Rattle.stm.specs.Events.{Happened, isIdle}
 use Rattle.code.specs.Ops.{Op, opAt}
 use Rattle.code.specs.Ops as code
 use Rattle.script.specs.Outcome.{Outcome, refused, done}
 use Rattle.word.specs.Registers.{member}
 use Rattle.word.specs.Sum.{Rule, overOf}
 
--- the register table and the thread table
+-- the register table, "beside each value, how often commits have written it" (document 02 No. 6), and the thread table
 pub record State : Type 0 where
   pub registers : List ℤ
+  pub counts : List ℕ
   pub threads : List Thread
 
--- a register table and a run of records, as they are lent
-abbrev pub stateFrom : List ℤ → List Thread → State
-stateFrom rs ts = record { registers = rs; threads = ts }
+-- a register table, its counts and a run of records, as they are lent
+abbrev pub stateFrom : List ℤ → List ℕ → List Thread → State
+stateFrom rs ns ts = record { registers = rs; counts = ns; threads = ts }
+
+-- the register table of a state, with its counts
+abbrev pub tableIn : State → Table
+tableIn s = record { registers = s .registers; counts = s .counts }
 
 -- "Threads are numbered without gaps": the number of threads is the next thread's number
 unfoldable pub numberOf : List Thread → ℕ
@@ -44,28 +52,28 @@ pub record Child : Type 0 where
 -- that fell outside the range it tells of
 pub record Acted : Type 0 where
   pub thread : Thread
-  pub table : List ℤ
+  pub table : Table
   pub children : List Child
   pub event : Event
   pub over : ℕ
 
 -- an instruction that forks nothing
-abbrev pub alters : Thread → (table : List ℤ) → Event → (over : ℕ) → Acted
+abbrev pub alters : Thread → Table → Event → (over : ℕ) → Acted
 alters t table event over = record { thread = t; table = table; children = []; event = event; over = over }
 
 -- COMMIT: "With a stale one the thread is sent back: to its BEGIN, stack height as noted, logs and notes emptied. Otherwise the write log
 -- goes into the table and the commit has taken effect"; v is the first stale register, or 64. Document 02 No. 2: sums count "as noted, in
 -- attempts that took effect"
-abbrev pub committing : (stale : Bool) → (table : List ℤ) → Thread → (v : ℕ) → Acted
+abbrev pub committing : (stale : Bool) → Table → Thread → (v : ℕ) → Acted
 committing true table t v = alters (closed (t .begin) (t .base) t) table (sentBack v) 0
-committing false table t v = alters (closed (t .place + 1) (t .height) t) (overlaid 64 0 t table) committed (t .over)
+committing false table t v = alters (closed (t .place + 1) (t .height) t) (withWrites t table) committed (t .over)
 
 -- COMMIT, v being the first stale register, or 64
-unfoldable pub commit : (table : List ℤ) → Thread → (v : ℕ) → Acted
+unfoldable pub commit : Table → Thread → (v : ℕ) → Acted
 commit table t v = committing (ltb v 64) table t v
 
 -- each instruction, in document 01's order
-unfoldable pub perform : Rule → (table : List ℤ) → Thread → Op → Acted
+unfoldable pub perform : Rule → Table → Thread → Op → Acted
 perform sum table t (code.push n) = alters (push n (t .place + 5) t) table pushed 0
 perform sum table t code.add = alters (add sum t) table (summed (not (eqb (t .begin) 0))) (sumTold t)
 perform sum table t (code.fork size) =
@@ -90,7 +98,7 @@ abbrev pub ruled : Acted → Acted
 ruled a = record { thread = movedBy (a .event) (a .thread); table = a .table; children = a .children; event = a .event; over = a .over }
 
 -- an instruction, the rule that it used being held in the thread's record
-unfoldable pub act : Rule → (table : List ℤ) → Thread → Op → Acted
+unfoldable pub act : Rule → Table → Thread → Op → Acted
 act sum table t op = ruled (perform sum table t op)
 
 -- ---- one pick
@@ -109,7 +117,7 @@ seated count (c ∷ cs) ts = seated (suc count) cs (set ts count (spawned (c .st
 unfoldable pub settle : (count : ℕ) → State → ℕ → Acted → Stepped
 settle count s i a =
     record {
-      state = record { registers = a .table; threads = seated count (a .children) (set (s .threads) i (a .thread)) };
+      state = record { registers = a .table .registers; counts = a .table .counts; threads = seated count (a .children) (set (s .threads) i (a .thread)) };
       event = a .event;
       over = a .over;
     }
@@ -117,7 +125,7 @@ settle count s i a =
 -- the instruction at the thread's place is done; where there is none the pick is idle
 abbrev pub doing : Rule → (count : ℕ) → State → ℕ → Thread → Outcome Op → Stepped
 doing sum count s i t (refused number place) = record { state = s; event = idle; over = 0 }
-doing sum count s i t (done op) = settle count s i (act sum (s .registers) t op)
+doing sum count s i t (done op) = settle count s i (act sum (tableIn s) t op)
 
 -- "A pick of a thread that does not exist or has ended is idle and changes nothing": the picked thread's record is taken out, does the
 -- instruction at its place, and is put back
@@ -134,7 +142,7 @@ pick sum bytes s i = pickAmong sum bytes (numberOf (s .threads)) s i
 
 -- one instruction of thread i, which is t
 abbrev pub instruction : Rule → State → ℕ → Thread → Op → Stepped
-instruction sum s i t op = settle (numberOf (s .threads)) s i (act sum (s .registers) t op)
+instruction sum s i t op = settle (numberOf (s .threads)) s i (act sum (tableIn s) t op)
 
 -- ---- document 02 No. 2, by a pick's event and its thread's record before the pick
 -- the sums that it tells of: "such sums outside transactions and, as noted, in attempts that took effect"
@@ -171,7 +179,7 @@ pub record DoesOne (sum : Rule) (code : List ℕ) (s : State) (i : ℕ) : Type 0
   pub not-idle : isIdle (pick sum code s i .event) ≡ false
 
 -- "the first stale one": the lowest stale register
-pub record FirstStale (t : Thread) (table : List ℤ) (v : ℕ) : Type 0 where
+pub record FirstStale (t : Thread) (table : Table) (v : ℕ) : Type 0 where
   pub small : v < 64
   pub its : stale t table v ≡ true
   pub before : (u : ℕ) → u < v → stale t table u ≡ false
@@ -183,10 +191,10 @@ pub data FoundIn (t : Thread) (v : ℕ) : Source → Type 0 where
   in-table : member (t .writes) v ≡ false → member (t .reads) v ≡ false → FoundIn t v fromTable
 
 -- ---- runs
--- a fresh state: "thread 0 alone, at the start of the whole code, and every register 0"
+-- a fresh state: "thread 0 alone, at the start of the whole code, and every register 0"; no commit has written any
 unfoldable pub fresh : (code : List ℕ) → State
 fresh bytes =
-    record { registers = replicate 64 (pos 0); threads = spawned 5 (length bytes) ∷ replicate 15 blank }
+    record { registers = replicate 64 (pos 0); counts = replicate 64 0; threads = spawned 5 (length bytes) ∷ replicate 15 blank }
 
 -- what picks leave: the state, and what each of them did
 pub record Ran : Type 0 where

@@ -1,13 +1,15 @@
-// The memory that the test program lends to the calls: registers and records by value, and how many of them are lent.
+// The memory that the test program lends to the calls: registers, counts and records by value, and how many of them are lent.
 ghost use mathlib.Core.Bool.{false};
 ghost use mathlib.Core.Path.{_≡_};
 ghost use Rattle.memory.specs.Memories.{leaving, provided, sevens, untouched};
 
 pub struct Memory {
     pub registers: [i32; 65],
+    pub counts: [u32; 65],
     pub threads: [thread::Thread; 17],
-    // how many registers and records a call is lent
+    // how many registers, counts and records a call is lent
     pub cells: usize,
+    pub counters: usize,
     pub records: usize,
     // no change asked for was malformed
     pub good: bool,
@@ -34,6 +36,7 @@ fn filler() -> thread::Thread
         over: 7,
         reads: 7,
         readlog: [7; 64],
+        readcounts: [7; 64],
         writes: 7,
         writelog: [7; 64],
         rule: 7,
@@ -41,7 +44,7 @@ fn filler() -> thread::Thread
     }
 }
 
-// Every register -7, every number of a record 7; 64 registers and 16 records are lent.
+// Every register -7, every count and every number of a record 7; 64 registers, 64 counts and 16 records are lent.
 pub fn filled() -> Memory
     ensures { λ r. ⌜ r ≡ untouched ⌝ }
 {
@@ -49,8 +52,10 @@ pub fn filled() -> Memory
     let threads = [t; 17];
     Memory {
         registers: [-7; 65],
+        counts: [7; 65],
         threads,
         cells: 64,
+        counters: 64,
         records: 16,
         good: true,
     }
@@ -62,6 +67,10 @@ fn bits(n: i32) -> u64 {
         return 18446744073709551615 - text::natural(!n);
     }
     text::natural(n)
+}
+
+fn wide(n: u32) -> u64 {
+    n as u64
 }
 
 // The fields of a record that are no arrays, by their numbers.
@@ -82,7 +91,7 @@ fn field(t: thread::Thread, k: usize) -> u64 {
 }
 
 // Number k of a record: 0 to 10 start, end, place, height, begin, base, over, reads, writes, rule, backs; from 11 the stack cells, from 75 the
-// read log's values, from 139 the write log's.
+// read log's values, from 139 its counts, from 203 the write log's values.
 fn number(t: thread::Thread, k: usize) -> u64 {
     if k < 11 {
         return field(t, k);
@@ -94,7 +103,10 @@ fn number(t: thread::Thread, k: usize) -> u64 {
         return bits(t.readlog[k - 75]);
     }
     if k < 203 {
-        return bits(t.writelog[k - 139]);
+        return wide(t.readcounts[k - 139]);
+    }
+    if k < 267 {
+        return bits(t.writelog[k - 203]);
     }
     0
 }
@@ -118,10 +130,20 @@ fn sum_registers(registers: [i32; 65]) -> Running {
     s
 }
 
+fn sum_counts(sum: Running, counts: [u32; 65]) -> Running {
+    let mut s = sum;
+    let mut i: usize = 0;
+    while i < 65 {
+        s = and(s, wide(counts[i]));
+        i += 1;
+    }
+    s
+}
+
 fn sum_thread(sum: Running, t: thread::Thread) -> Running {
     let mut s = sum;
     let mut k: usize = 0;
-    while k < 203 {
+    while k < 267 {
         s = and(s, number(t, k));
         k += 1;
     }
@@ -139,11 +161,12 @@ fn sum_threads(sum: Running, threads: [thread::Thread; 17]) -> Running {
     s
 }
 
-// A checksum over all registers and all records.
+// A checksum over all registers, all counts and all records.
 fn sum(m: Memory) -> u64 {
     let registers = m.registers;
+    let counts = m.counts;
     let threads = m.threads;
-    sum_threads(sum_registers(registers), threads).total
+    sum_threads(sum_counts(sum_registers(registers), counts), threads).total
 }
 
 fn same_registers(a: [i32; 65], b: [i32; 65]) -> bool {
@@ -157,9 +180,20 @@ fn same_registers(a: [i32; 65], b: [i32; 65]) -> bool {
     true
 }
 
+fn same_counts(a: [u32; 65], b: [u32; 65]) -> bool {
+    let mut i: usize = 0;
+    while i < 65 {
+        if a[i] != b[i] {
+            return false;
+        }
+        i += 1;
+    }
+    true
+}
+
 fn same_thread(a: thread::Thread, b: thread::Thread) -> bool {
     let mut k: usize = 0;
-    while k < 203 {
+    while k < 267 {
         if number(a, k) != number(b, k) {
             return false;
         }
@@ -181,11 +215,16 @@ fn same_threads(a: [thread::Thread; 17], b: [thread::Thread; 17]) -> bool {
     true
 }
 
-// Whether all registers and all records have the same numbers.
+// Whether all registers, all counts and all records have the same numbers.
 pub fn same(a: Memory, b: Memory) -> bool {
     let r = a.registers;
     let s = b.registers;
     if !same_registers(r, s) {
+        return false;
+    }
+    let n = a.counts;
+    let k = b.counts;
+    if !same_counts(n, k) {
         return false;
     }
     let t = a.threads;
@@ -195,7 +234,7 @@ pub fn same(a: Memory, b: Memory) -> bool {
 
 // ---- changes that a text asks for. Names are numbers by `text::word_number`
 
-// The number, as in `number`, that a field's name stands for, or that its first entry has; 203 for any other name.
+// The number, as in `number`, that a field's name stands for, or that its first entry has; 267 for any other name.
 fn field_number(name: u64) -> usize {
     match name {
         20579924 => 0, // start
@@ -211,8 +250,9 @@ fn field_number(name: u64) -> usize {
         2133363 => 10, // backs
         103820 => 11, // cell
         19496317415 => 75, // readlog
-        809924473319 => 139, // writelog
-        _ => 203,
+        19964219610580 => 139, // readcount
+        809924473319 => 203, // writelog
+        _ => 267,
     }
 }
 
@@ -282,7 +322,11 @@ fn put(mut t: thread::Thread, k: usize, n: text::Number) -> thread::Thread {
         return t;
     }
     if k < 203 {
-        t.writelog[k - 139] = v;
+        t.readcounts[k - 139] = text::unsigned(n);
+        return t;
+    }
+    if k < 267 {
+        t.writelog[k - 203] = v;
         return t;
     }
     t
@@ -290,10 +334,16 @@ fn put(mut t: thread::Thread, k: usize, n: text::Number) -> thread::Thread {
 
 impl Memory {
     // The memory that a call leaves.
-    pub fn left(mut self, registers: [i32; 65], threads: [thread::Thread; 17]) -> Memory
-        ensures { λ r. ⌜ r ≡ leaving self registers threads ⌝ }
+    pub fn left(
+        mut self,
+        registers: [i32; 65],
+        counts: [u32; 65],
+        threads: [thread::Thread; 17],
+    ) -> Memory
+        ensures { λ r. ⌜ r ≡ leaving self registers counts threads ⌝ }
     {
         self.registers = registers;
+        self.counts = counts;
         self.threads = threads;
         self
     }
@@ -332,6 +382,14 @@ impl Memory {
         self
     }
 
+    fn with_counts(mut self, n: usize) -> Memory {
+        if n > 65 {
+            return self.bad();
+        }
+        self.counters = n;
+        self
+    }
+
     fn with_register(mut self, i: usize, n: text::Number) -> Memory {
         if i > 64 {
             return self.bad();
@@ -344,11 +402,23 @@ impl Memory {
         self
     }
 
+    fn with_count(mut self, i: usize, n: text::Number) -> Memory {
+        if i > 64 {
+            return self.bad();
+        }
+        if !n.good {
+            return self.bad();
+        }
+        let v = text::unsigned(n);
+        self.counts[i] = v;
+        self
+    }
+
     fn with_number(mut self, i: usize, k: usize, n: text::Number) -> Memory {
         if i > 16 {
             return self.bad();
         }
-        if k > 202 {
+        if k > 266 {
             return self.bad();
         }
         if !n.good {
@@ -378,8 +448,8 @@ impl Memory {
         )
     }
 
-    // One change, its words standing behind a space: `records N`, `registers N`, `register R V`, or of a thread. A change of the code leaves the
-    // memory as it is, and so does none.
+    // One change, its words standing behind a space: `records N`, `registers N`, `counts N`, `register R V`, `count R N`, or of a thread. A change of
+    // the code leaves the memory as it is, and so does none.
     fn with(self, words: &[u8]) -> Memory {
         let name = text::word_number(text::part(words, b' ', 1));
         match name {
@@ -388,6 +458,11 @@ impl Memory {
             19498780819 => self.with_records(text::size(text::part(words, b' ', 2), 17)),
             19970846758483 => self.with_registers(text::size(text::part(words, b' ', 2), 65)),
             624088961202 => self.with_register(
+                text::size(text::part(words, b' ', 2), 64),
+                text::parse_number(text::part(words, b' ', 3)),
+            ),
+            117095059 => self.with_counts(text::size(text::part(words, b' ', 2), 65)),
+            3659220 => self.with_count(
                 text::size(text::part(words, b' ', 2), 64),
                 text::parse_number(text::part(words, b' ', 3)),
             ),
@@ -462,12 +537,32 @@ fn write_registers(registers: [i32; 65]) {
     }
 }
 
-// Writes the threads and registers of a state, and the checksum of all the memory.
+// Writes a count that is not 0.
+fn write_count(n: u32, i: usize) {
+    if n == 0 {
+        return;
+    }
+    text::write_number(b", count ", i);
+    text::write_number(b" ", n as usize);
+}
+
+// Writes how often commits have written each register, as the table says it.
+pub fn write_table_counts(counts: [u32; 65]) {
+    let mut i: usize = 0;
+    while i < 64 {
+        write_count(counts[i], i);
+        i += 1;
+    }
+}
+
+// Writes the threads, registers and counts of a state, and the checksum of all the memory.
 pub fn write_state(m: Memory) {
     let threads = m.threads;
     let registers = m.registers;
+    let counts = m.counts;
     write_threads(threads);
     write_registers(registers);
+    write_table_counts(counts);
     text::write_number(b", sum ", sum(m) as usize);
 }
 

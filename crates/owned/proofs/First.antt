@@ -44,11 +44,12 @@ module _ {A : Type 0} where
       by-test true e = refl
       by-test false e = let h : N ≤ n = ltb-false n N e in drop-of-length-le xs {i = N} (omega (arith, len)) ∙ sym (drop-of-length-le xs {i = n} (omega (arith, len, h)))
 
--- a call that is lent the first of N registers and the first of K records, as far as there are so many, comes to what `onFirst` says
-pub on-first : {Reply : Type 0} (call : State → Returned Reply) (cells records N K : ℕ) (rs : List ℤ) (ts : List Thread) → length rs ≡ N → length ts ≡ K → (rs′ : List ℤ) (zs : List Thread) (reply : Reply)
-    → answered rs′ zs reply ≡ call (stateFrom (take (leastOf cells N) rs) (take (leastOf records K) ts))
-    → answered (rs′ ++ drop (leastOf cells N) rs) (zs ++ drop (leastOf records K) ts) reply ≡ onFirst cells records call rs ts
-on-first {Reply} call cells records N K rs ts er et rs′ zs reply f =
-    ap (λ (r : Returned Reply). answered (r .state .registers ++ drop (leastOf cells N) rs) (r .state .threads ++ drop (leastOf records K) ts) (r .reply)) f ∙
-    (λ i. let r = call (stateFrom (first-least cells N rs er i) (first-least records K ts et i)) in
-    answered (r .state .registers ++ rest-least cells N rs er i) (r .state .threads ++ rest-least records K ts et i) (r .reply))
+-- a call that is lent the first of N registers, of C counts and of K records, as far as there are so many, comes to what `onFirst` says
+pub on-first : {Reply : Type 0} (call : State → Returned Reply) (cells counters records N C K : ℕ) (rs : List ℤ) (ns : List ℕ) (ts : List Thread)
+    → length rs ≡ N → length ns ≡ C → length ts ≡ K → (rs′ : List ℤ) (ns′ : List ℕ) (ts′ : List Thread) (reply : Reply)
+    → answered rs′ ns′ ts′ reply ≡ call (stateFrom (take (leastOf cells N) rs) (take (leastOf counters C) ns) (take (leastOf records K) ts))
+    → answered (rs′ ++ drop (leastOf cells N) rs) (ns′ ++ drop (leastOf counters C) ns) (ts′ ++ drop (leastOf records K) ts) reply ≡ onFirst cells counters records call rs ns ts
+on-first {Reply} call cells counters records N C K rs ns ts er en et rs′ ns′ ts′ reply f =
+    ap (λ (r : Returned Reply). answered (r .state .registers ++ drop (leastOf cells N) rs) (r .state .counts ++ drop (leastOf counters C) ns) (r .state .threads ++ drop (leastOf records K) ts) (r .reply)) f ∙
+    (λ i. let r = call (stateFrom (first-least cells N rs er i) (first-least counters C ns en i) (first-least records K ts et i)) in
+    answered (r .state .registers ++ rest-least cells N rs er i) (r .state .counts ++ rest-least counters C ns en i) (r .state .threads ++ rest-least records K ts et i) (r .reply))

@@ -57,7 +57,7 @@ pub record Tells (text : List ℕ) (c : Counts) (s : State) : Type 0 where
   -- nothing was refused
   pub taken : (number place : ℕ) → HasLine text (refusalLine number place) → ⊥
 
--- Two runs have the same counts, registers, threads and results.
+-- Two runs have the same counts of what their picks did, registers, threads and results. The registers' own counts are not printed.
 pub record SameResults (c : Counts) (s : State) (c′ : Counts) (s′ : State) : Type 0 where
   pub counts : c ≡ c′
   pub registers : s .registers ≡ s′ .registers

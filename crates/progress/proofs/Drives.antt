@@ -17,7 +17,7 @@ use Rattle.machine.specs.Answers.{sumOf, fitting, runOf, stepOf}
 use Rattle.machine.specs.Fits.{Fits, Typed}
 use Rattle.machine.specs.FitTest.{fits}
 use Rattle.machine.specs.InnerTally as tally
-use Rattle.machine.specs.Steps.{State, numberOf, threadAt, pick, pickAmong, run}
+use Rattle.machine.specs.Steps.{State, tableIn, numberOf, threadAt, pick, pickAmong, run}
 use Rattle.machine.proofs.Agrees.{step-fits}
 use Rattle.machine.proofs.Tallies.{pick-number, tallied-run}
 use Rattle.script.specs.Jobs.{Job}
@@ -50,11 +50,11 @@ room-after event register turn over n p few r =
       over = plus-low (p .over) over n few (r .over);
     }
 
-room-picked : (bytes : List ℕ) (s : State) (i : ℕ) (t : Thread) (n : ℕ) (p : Progress) → stepped wrapping bytes (s .registers) t .acted .over < 6000 → Room (suc n) p → Room n (pickedBy bytes (s .registers) i t p .picked .progress)
+room-picked : (bytes : List ℕ) (s : State) (i : ℕ) (t : Thread) (n : ℕ) (p : Progress) → stepped wrapping bytes (tableIn s) t .acted .over < 6000 → Room (suc n) p → Room n (pickedBy bytes (tableIn s) i t p .picked .progress)
 unfolding pickedBy
 room-picked bytes s i t n p few r = go (ltb i 16)
   where
-    go : (b : Bool) → Room n (cond b (pickedOf (stepped wrapping bytes (s .registers) t) p) (pickedOf (handed (unacted t) (s .registers)) p) .picked .progress)
+    go : (b : Bool) → Room n (cond b (pickedOf (stepped wrapping bytes (tableIn s) t) p) (pickedOf (handed (unacted t) (tableIn s)) p) .picked .progress)
     go true = room-after _ _ _ _ n p few r
     go false = room-after _ _ _ _ n p (omega arith) r
 
@@ -87,7 +87,7 @@ module _ {bytes : List ℕ} {j : Job} (c : IsCode bytes j) where
       ∙ ap (λ (x : tally.Tallied). tally.tallied wrapping bytes (x .state) (x .progress) is) t
     where
       g : Given
-      g = pickedBy bytes (s .registers) i (threadAt s (whichOf i)) p
+      g = pickedBy bytes (tableIn s) i (threadAt s (whichOf i)) p
 
       t : settledBy s (whichOf i) g ≡ tally.turned wrapping bytes s (shown p) i
       t = perform-turns c s f y i p (room-low (suc (length is)) p r)

@@ -5,7 +5,7 @@ use mathlib.Core.Path.{_≡_, refl, sym, ap, _∙_}
 use mathlib.Core.List.{List, []}
 use native.Mathlib.Omega.{arith}
 use lib.Dec.{eqb, ltb}
-use lib.IntN.{ℤ}
+use Rattle.stm.specs.Counted.{Table}
 use lib.ListN.{length, drop, take}
 use lib.Seq.{length-take-le, take-length}
 use Rattle.code.specs.Ops.{opAt}
@@ -22,7 +22,7 @@ use Rattle.thread.proofs.Attempts.{plain-taken}
 use Rattle.word.specs.Sum.{wrapping}
 
 -- with no code a step is idle
-pub no-code : (table : List ℤ) (t : Thread) → stepped wrapping [] table t ≡ handed (unacted t) table
+pub no-code : (table : Table) (t : Thread) → stepped wrapping [] table t ≡ handed (unacted t) table
 unfolding stepped attempted takesOp opAt
 no-code table t = go (eqb (t .start) 0 || eqb (t .place) (t .end))
   where
@@ -47,7 +47,7 @@ reach-length bytes pick reach e = sym (length-take-le reach bytes (low (ltb pick
     low false e = omega arith
 
 -- the step of a pick
-reached : (bytes : List ℕ) (table : List ℤ) (pick reach : ℕ) (t : Thread) (p : Progress) → reach ≡ reachOf pick (length bytes) → pickedOf (stepped wrapping (take reach bytes) table t) p ≡ pickedBy bytes table pick t p
+reached : (bytes : List ℕ) (table : Table) (pick reach : ℕ) (t : Thread) (p : Progress) → reach ≡ reachOf pick (length bytes) → pickedOf (stepped wrapping (take reach bytes) table t) p ≡ pickedBy bytes table pick t p
 unfolding reachOf pickedBy
 reached bytes table pick reach t p e = go (ltb pick 16) e
   where
@@ -55,7 +55,7 @@ reached bytes table pick reach t p e = go (ltb pick 16) e
     go true e = ap (λ (l : List ℕ). pickedOf (stepped wrapping l table t) p) (ap (λ (k : ℕ). take k bytes) e ∙ take-length bytes)
     go false e = ap (λ (l : List ℕ). pickedOf (stepped wrapping l table t) p) (ap (λ (k : ℕ). take k bytes) e) ∙ ap (λ (h : Handed). pickedOf h p) (no-code table t)
 
-pub a-pick : (bytes : List ℕ) (table : List ℤ) (pick reach : ℕ) (t : Thread) (p : Progress) → reach ≡ reachOf pick (length bytes) → (a : Action) (after : List ℤ) → handed a after ≡ stepped wrapping (take reach bytes) table t → (seat : ℕ) → seat ≡ seatOf (a .event) (p .threads) → (q : Progress) → q ≡ advancedTo (a .event) (a .register) (a .turn) (a .over) p → given (record { thread = a .thread; seat = seat; start = a .start; end = a .end; progress = q }) after ≡ pickedBy bytes table pick t p
+pub a-pick : (bytes : List ℕ) (table : Table) (pick reach : ℕ) (t : Thread) (p : Progress) → reach ≡ reachOf pick (length bytes) → (a : Action) (after : Table) → handed a after ≡ stepped wrapping (take reach bytes) table t → (seat : ℕ) → seat ≡ seatOf (a .event) (p .threads) → (q : Progress) → q ≡ advancedTo (a .event) (a .register) (a .turn) (a .over) p → given (record { thread = a .thread; seat = seat; start = a .start; end = a .end; progress = q }) after ≡ pickedBy bytes table pick t p
 a-pick bytes table pick reach t p k a after h seat s q e =
     let x : given (record { thread = a .thread; seat = seat; start = a .start; end = a .end; progress = q }) after ≡ pickedOf (handed a after) p = rw (s, e) in
     x ∙ (ap (λ (i : Handed). pickedOf i p) h ∙ reached bytes table pick reach t p k)
@@ -66,14 +66,14 @@ unfolding plainPick
 plain-reach bytes pick reach t e = ap (λ (k : ℕ). plainIn (take k bytes) t) e
 
 -- a pick by what does not change the logs
-pub a-plain : (bytes : List ℕ) (table : List ℤ) (pick reach : ℕ) (t : Thread) (p : Progress) → reach ≡ reachOf pick (length bytes) → (a : Action) → handed a table ≡ performed wrapping table t (plainOp (take reach bytes) t) → (seat : ℕ) → seat ≡ seatOf (a .event) (p .threads) → (q : Progress) → q ≡ advancedTo (a .event) (a .register) (a .turn) (a .over) p → given (record { thread = a .thread; seat = seat; start = a .start; end = a .end; progress = q }) table ≡ plainedBy bytes table pick t p
+pub a-plain : (bytes : List ℕ) (table : Table) (pick reach : ℕ) (t : Thread) (p : Progress) → reach ≡ reachOf pick (length bytes) → (a : Action) → handed a table ≡ performed wrapping table t (plainOp (take reach bytes) t) → (seat : ℕ) → seat ≡ seatOf (a .event) (p .threads) → (q : Progress) → q ≡ advancedTo (a .event) (a .register) (a .turn) (a .over) p → given (record { thread = a .thread; seat = seat; start = a .start; end = a .end; progress = q }) table ≡ plainedBy bytes table pick t p
 unfolding plainedBy
 a-plain bytes table pick reach t p k a h seat s q e =
     let x : given (record { thread = a .thread; seat = seat; start = a .start; end = a .end; progress = q }) table ≡ pickedOf (handed a table) p = rw (s, e) in
     x ∙ (ap (λ (i : Handed). pickedOf i p) h ∙ ap (λ (i : ℕ). pickedOf (performed wrapping table t (plainOp (take i bytes) t)) p) k)
 
 -- which is the pick where it is plain
-pub plained : (bytes : List ℕ) (table : List ℤ) (pick : ℕ) (t : Thread) (p : Progress) → plainPick bytes pick t ≡ true → plainedBy bytes table pick t p ≡ pickedBy bytes table pick t p
+pub plained : (bytes : List ℕ) (table : Table) (pick : ℕ) (t : Thread) (p : Progress) → plainPick bytes pick t ≡ true → plainedBy bytes table pick t p ≡ pickedBy bytes table pick t p
 unfolding plainedBy plainPick
 plained bytes table pick t p e =
     ap (λ (h : Handed). pickedOf h p) (plain-taken (take (reachOf pick (length bytes)) bytes) t table e) ∙ reached bytes table pick (reachOf pick (length bytes)) t p refl

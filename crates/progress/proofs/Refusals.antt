@@ -17,10 +17,10 @@ unfolding refusalOf
 foreign (refused n′ p′) fit picks n p s a b = refl
 foreign (done j) fit picks n p s a b = absurd (let z : _≡_ {A = ℕ} 0 1 = cc in omega arith)
 
-pub fresh-foreign : (o : Outcome Job) (registers records n p : ℕ) (s : Scanned) → s ≡ told o → s ≡ scanned.Refused n p → 11 ≡ freshRefusalOf o registers records
+pub fresh-foreign : (o : Outcome Job) (registers counts records n p : ℕ) (s : Scanned) → s ≡ told o → s ≡ scanned.Refused n p → 11 ≡ freshRefusalOf o registers counts records
 unfolding freshRefusalOf
-fresh-foreign (refused n′ p′) registers records n p s a b = refl
-fresh-foreign (done j) registers records n p s a b = absurd (let z : _≡_ {A = ℕ} 0 1 = cc in omega arith)
+fresh-foreign (refused n′ p′) registers counts records n p s a b = refl
+fresh-foreign (done j) registers counts records n p s a b = absurd (let z : _≡_ {A = ℕ} 0 1 = cc in omega arith)
 
 module _ (o : Outcome Job) (v n l : ℕ) (s : Scanned) (a : s ≡ told o) (b : s ≡ scanned.Job v n l) where
   job-first : (x : Outcome Job) → s ≡ told x → (fit : Bool) (picks : ℕ) → fit ≡ false → 12 ≡ refusalOf x fit picks
@@ -47,13 +47,13 @@ module _ (o : Outcome Job) (v n l : ℕ) (s : Scanned) (a : s ≡ told o) (b : s
   pub none : (fit : Bool) (picks : ℕ) → fit ≡ true → ltb 32768 picks ≡ false → 0 ≡ refusalOf o fit picks
   none fit picks e f = job-none o a fit picks e f
 
-  job-fresh : (x : Outcome Job) → s ≡ told x → (registers records k : ℕ) → cond (eqb records 16) (cond (eqb registers 64) 0 12) 12 ≡ k → k ≡ freshRefusalOf x registers records
+  job-fresh : (x : Outcome Job) → s ≡ told x → (registers counts records k : ℕ) → cond (eqb records 16) (cond (eqb registers 64) (cond (eqb counts 64) 0 12) 12) 12 ≡ k → k ≡ freshRefusalOf x registers counts records
   unfolding freshRefusalOf
-  job-fresh (refused n′ p′) a registers records k e = absurd (let z : _≡_ {A = ℕ} 0 1 = cc in omega arith)
-  job-fresh (done j) a registers records k e = sym e
+  job-fresh (refused n′ p′) a registers counts records k e = absurd (let z : _≡_ {A = ℕ} 0 1 = cc in omega arith)
+  job-fresh (done j) a registers counts records k e = sym e
 
-  pub fresh-job : (registers records k : ℕ) → cond (eqb records 16) (cond (eqb registers 64) 0 12) 12 ≡ k → k ≡ freshRefusalOf o registers records
-  fresh-job registers records k e = job-fresh o a registers records k e
+  pub fresh-job : (registers counts records k : ℕ) → cond (eqb records 16) (cond (eqb registers 64) (cond (eqb counts 64) 0 12) 12) 12 ≡ k → k ≡ freshRefusalOf o registers counts records
+  fresh-job registers counts records k e = job-fresh o a registers counts records k e
 
 -- the progress with which a call begins
 pub begins : (refusal threads picks x limit : ℕ) → refusal ≡ x → limit ≡ unlessOf refusal picks → _≡_ {A = Progress} (record { threads = threads; limit = limit; refusal = refusal; steps = 0; idle = 0; commits = 0; back = 0; over = 0; event = 0; register = 0; turn = 0 }) (beginning x threads picks)

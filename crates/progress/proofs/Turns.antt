@@ -8,13 +8,14 @@ use native.Mathlib.Omega.{arith}
 use borrow.Author.Tests.{lt-ltb, le-ltb, eqb-true, eqb-false, ltb-true, ltb-false}
 use lib.Dec.{eqb, ltb}
 use lib.IntN.{ℤ}
+use Rattle.stm.specs.Counted.{Table}
 use lib.ListN.{length, set, length-set}
 use lib.Seq.{set-getD, set-out}
 use Rattle.code.specs.Bytes.{IsCode}
 use Rattle.progress.specs.InnerProgress.{moreTo, seatOf, advancedTo, whichOf, Given, given, pickedOf, pickedBy, Low, shown, settledBy}
 use Rattle.progress.specs.declared.Picked.{Picked}
 use Rattle.progress.specs.declared.Progress.{Progress}
-use Rattle.machine.specs.Steps.{State, Stepped, Acted, Child, alters, seated, settle, threadAt, pickAmong, DoesOne}
+use Rattle.machine.specs.Steps.{State, tableIn, Stepped, Acted, Child, alters, seated, settle, threadAt, pickAmong, DoesOne}
 use Rattle.machine.specs.Fits.{Exists, Fits, Typed}
 use Rattle.machine.specs.InnerTally as tally
 use Rattle.machine.specs.InnerTurn.{childrenAs, actedAs, handedAs}
@@ -149,64 +150,64 @@ by-numbers : (event register turn : ℕ) (e : Event) → event ≡ eventNumber e
 by-numbers event register turn e a b c = rw (a, b, c) (event-of e)
 
 module _ {bytes : List ℕ} {j : Job} (c : IsCode bytes j) where
-  numbered : (s : State) → Fits bytes s → Typed s → (i : ℕ) → Numbered (stepped wrapping bytes (s .registers) (threadAt s i))
+  numbered : (s : State) → Fits bytes s → Typed s → (i : ℕ) → Numbered (stepped wrapping bytes (tableIn s) (threadAt s i))
   numbered s f y i = go (eqb (threadAt s i .start) 0) refl (eqb (threadAt s i .place) (threadAt s i .end)) refl
     where
-      idly : ((threadAt s i .start ≡ 0) ⊎ (threadAt s i .place ≡ threadAt s i .end)) → Numbered (stepped wrapping bytes (s .registers) (threadAt s i))
-      idly w = by-handed _ _ (idle-step c wrapping (s .registers) (threadAt s i) w) (omega arith)
+      idly : ((threadAt s i .start ≡ 0) ⊎ (threadAt s i .place ≡ threadAt s i .end)) → Numbered (stepped wrapping bytes (tableIn s) (threadAt s i))
+      idly w = by-handed _ _ (idle-step c wrapping (tableIn s) (threadAt s i) w) (omega arith)
 
-      go : (b : Bool) → eqb (threadAt s i .start) 0 ≡ b → (d : Bool) → eqb (threadAt s i .place) (threadAt s i .end) ≡ d → Numbered (stepped wrapping bytes (s .registers) (threadAt s i))
+      go : (b : Bool) → eqb (threadAt s i .start) 0 ≡ b → (d : Bool) → eqb (threadAt s i .place) (threadAt s i .end) ≡ d → Numbered (stepped wrapping bytes (tableIn s) (threadAt s i))
       go true e d z = idly (inl (eqb-true (threadAt s i .start) 0 e))
       go false e true z = idly (inr (eqb-true (threadAt s i .place) (threadAt s i .end) z))
       go false e false z =
           let ne = eqb-false (threadAt s i .place) (threadAt s i .end) z in
           let there : exists (threadAt s i) ≡ true = ap not e in
           let d = does-one c wrapping s f y i there ne in
-          by-handed _ _ (step-acts c wrapping s f y i there ne (d .op) (d .at-place)) (act-low wrapping (s .registers) (threadAt s i) (low-fits c s f y i .over) (d .op))
+          by-handed _ _ (step-acts c wrapping s f y i there ne (d .op) (d .at-place)) (act-low wrapping (tableIn s) (threadAt s i) (low-fits c s f y i .over) (d .op))
 
   -- a step tells of few sums
-  pub few-told : (s : State) → Fits bytes s → Typed s → (i : ℕ) → stepped wrapping bytes (s .registers) (threadAt s i) .acted .over < 6000
+  pub few-told : (s : State) → Fits bytes s → Typed s → (i : ℕ) → stepped wrapping bytes (tableIn s) (threadAt s i) .acted .over < 6000
   few-told s f y i = numbered s f y i .few
 
   -- a record that is there
-  settles : (s : State) → Fits bytes s → Typed s → (i : ℕ) (p : Progress) → Low p → i < 16 → settledBy s i (pickedOf (stepped wrapping bytes (s .registers) (threadAt s i)) p) ≡ tally.turned wrapping bytes s (shown p) i
+  settles : (s : State) → Fits bytes s → Typed s → (i : ℕ) (p : Progress) → Low p → i < 16 → settledBy s i (pickedOf (stepped wrapping bytes (tableIn s) (threadAt s i)) p) ≡ tally.turned wrapping bytes s (shown p) i
   unfolding tally.turned settle actedAs
   settles s f y i p l q =
-      let h : Handed = stepped wrapping bytes (s .registers) (threadAt s i) in
+      let h : Handed = stepped wrapping bytes (tableIn s) (threadAt s i) in
       let n = numbered s f y i in
       let k = step-picks c wrapping s f y (p .threads) i (subst (λ (m : ℕ). i < m) (sym (f .records)) q) in
       let long : length (set (s .threads) i (h .acted .thread)) ≡ 16 = length-set (s .threads) i (h .acted .thread) ∙ f .records in
       let a = seats (set (s .threads) i (h .acted .thread)) (p .threads) (h .acted .event) (h .acted .start) (h .acted .end) long in
       let b = tells (h .acted .event) (h .acted .register) (h .acted .turn) (h .acted .over) (n .what) (n .event) (n .register) (n .turn) (n .few) p l in
-      ap₂ (λ (ts : List Thread) (r : tally.Progress). record { state = record { registers = h .table; threads = ts }; progress = r }) a b
+      ap₂ (λ (ts : List Thread) (r : tally.Progress). record { state = record { registers = h .table .registers; counts = h .table .counts; threads = ts }; progress = r }) a b
       ∙ ap (λ (x : Stepped). record { state = x .state; progress = tally.advanced (x .event) (x .over) (shown p) }) (sym k)
 
   -- none
-  stays : (s : State) → Fits bytes s → (i : ℕ) (p : Progress) → Low p → 16 ≤ i → settledBy s 0 (pickedOf (handed (unacted (threadAt s 0)) (s .registers)) p) ≡ tally.turned wrapping bytes s (shown p) i
+  stays : (s : State) → Fits bytes s → (i : ℕ) (p : Progress) → Low p → 16 ≤ i → settledBy s 0 (pickedOf (handed (unacted (threadAt s 0)) (tableIn s)) p) ≡ tally.turned wrapping bytes s (shown p) i
   unfolding tally.turned pickAmong seatOf
   stays s f i p l q =
       let k : pickAmong wrapping bytes (p .threads) s i ≡ record { state = s; event = idle; over = 0 } = rw (pickAmong, le-ltb i (length (s .threads)) (subst (λ (m : ℕ). m ≤ i) (sym (f .records)) q)) in
       let long : length (set (s .threads) 0 (threadAt s 0)) ≤ 16 = let z = length-set (s .threads) 0 (threadAt s 0) in let r = f .records in omega arith in
       let a : set (set (s .threads) 0 (threadAt s 0)) 16 (spawned 0 0) ≡ s .threads = set-out (set (s .threads) 0 (threadAt s 0)) 16 (spawned 0 0) long ∙ set-getD (s .threads) 0 blank in
-      ap₂ (λ (ts : List Thread) (r : tally.Progress). record { state = record { registers = s .registers; threads = ts }; progress = r }) a (nothing p l)
+      ap₂ (λ (ts : List Thread) (r : tally.Progress). record { state = record { registers = s .registers; counts = s .counts; threads = ts }; progress = r }) a (nothing p l)
       ∙ ap (λ (x : Stepped). record { state = x .state; progress = tally.advanced (x .event) (x .over) (shown p) }) (sym k)
 
   -- a pick by value, the record put back and a child at its seat, is a turn
-  pub perform-turns : (s : State) → Fits bytes s → Typed s → (i : ℕ) (p : Progress) → Low p → settledBy s (whichOf i) (pickedBy bytes (s .registers) i (threadAt s (whichOf i)) p) ≡ tally.turned wrapping bytes s (shown p) i
+  pub perform-turns : (s : State) → Fits bytes s → Typed s → (i : ℕ) (p : Progress) → Low p → settledBy s (whichOf i) (pickedBy bytes (tableIn s) i (threadAt s (whichOf i)) p) ≡ tally.turned wrapping bytes s (shown p) i
   unfolding pickedBy whichOf
   perform-turns s f y i p l = go (ltb i 16) refl
     where
-      go : (b : Bool) → ltb i 16 ≡ b → settledBy s (cond (ltb i 16) i 0) (cond (ltb i 16) (pickedOf (stepped wrapping bytes (s .registers) (threadAt s (cond (ltb i 16) i 0))) p) (pickedOf (handed (unacted (threadAt s (cond (ltb i 16) i 0))) (s .registers)) p)) ≡ tally.turned wrapping bytes s (shown p) i
+      go : (b : Bool) → ltb i 16 ≡ b → settledBy s (cond (ltb i 16) i 0) (cond (ltb i 16) (pickedOf (stepped wrapping bytes (tableIn s) (threadAt s (cond (ltb i 16) i 0))) p) (pickedOf (handed (unacted (threadAt s (cond (ltb i 16) i 0))) (tableIn s)) p)) ≡ tally.turned wrapping bytes s (shown p) i
       go true e = rw e (settles s f y i p l (ltb-true i 16 e))
       go false e = rw e (stays s f i p l (ltb-false i 16 e))
 
   -- and its numbers are those of the pick's event
-  tells-some : (s : State) → Fits bytes s → Typed s → (i : ℕ) (p : Progress) → i < 16 → Tells (pickAmong wrapping bytes (p .threads) s i .event) (pickedOf (stepped wrapping bytes (s .registers) (threadAt s i)) p .picked .progress)
+  tells-some : (s : State) → Fits bytes s → Typed s → (i : ℕ) (p : Progress) → i < 16 → Tells (pickAmong wrapping bytes (p .threads) s i .event) (pickedOf (stepped wrapping bytes (tableIn s) (threadAt s i)) p .picked .progress)
   unfolding settle actedAs advancedTo
   tells-some s f y i p q =
       let n = numbered s f y i in
       let k = step-picks c wrapping s f y (p .threads) i (subst (λ (m : ℕ). i < m) (sym (f .records)) q) in
-      let h : Handed = stepped wrapping bytes (s .registers) (threadAt s i) in
+      let h : Handed = stepped wrapping bytes (tableIn s) (threadAt s i) in
       let e : pickAmong wrapping bytes (p .threads) s i .event ≡ n .what =
       ap (λ (x : Stepped). x .event) k ∙ (by-numbers (h .acted .event) (h .acted .register) (h .acted .turn) (n .what) (n .event) (n .register) (n .turn))
       in
@@ -216,16 +217,16 @@ module _ {bytes : List ℕ} {j : Job} (c : IsCode bytes j) where
         turn = n .turn ∙ ap turnNumber (sym e);
       }
 
-  tells-none : (s : State) → Fits bytes s → (i : ℕ) (p : Progress) → 16 ≤ i → Tells (pickAmong wrapping bytes (p .threads) s i .event) (pickedOf (handed (unacted (threadAt s 0)) (s .registers)) p .picked .progress)
+  tells-none : (s : State) → Fits bytes s → (i : ℕ) (p : Progress) → 16 ≤ i → Tells (pickAmong wrapping bytes (p .threads) s i .event) (pickedOf (handed (unacted (threadAt s 0)) (tableIn s)) p .picked .progress)
   unfolding pickAmong advancedTo eventNumber eventRegister turnNumber
   tells-none s f i p q =
       let e : pickAmong wrapping bytes (p .threads) s i .event ≡ idle = ap (λ (x : Stepped). x .event) (let k : pickAmong wrapping bytes (p .threads) s i ≡ record { state = s; event = idle; over = 0 } = rw (pickAmong, le-ltb i (length (s .threads)) (subst (λ (m : ℕ). m ≤ i) (sym (f .records)) q)) in k) in
       record { event = ap eventNumber (sym e); register = ap eventRegister (sym e); turn = ap turnNumber (sym e) }
 
-  pub perform-tells : (s : State) → Fits bytes s → Typed s → (i : ℕ) (p : Progress) → Tells (pickAmong wrapping bytes (p .threads) s i .event) (pickedBy bytes (s .registers) i (threadAt s (whichOf i)) p .picked .progress)
+  pub perform-tells : (s : State) → Fits bytes s → Typed s → (i : ℕ) (p : Progress) → Tells (pickAmong wrapping bytes (p .threads) s i .event) (pickedBy bytes (tableIn s) i (threadAt s (whichOf i)) p .picked .progress)
   unfolding pickedBy whichOf
   perform-tells s f y i p = go (ltb i 16) refl
     where
-      go : (b : Bool) → ltb i 16 ≡ b → Tells (pickAmong wrapping bytes (p .threads) s i .event) (cond (ltb i 16) (pickedOf (stepped wrapping bytes (s .registers) (threadAt s (cond (ltb i 16) i 0))) p) (pickedOf (handed (unacted (threadAt s (cond (ltb i 16) i 0))) (s .registers)) p) .picked .progress)
+      go : (b : Bool) → ltb i 16 ≡ b → Tells (pickAmong wrapping bytes (p .threads) s i .event) (cond (ltb i 16) (pickedOf (stepped wrapping bytes (tableIn s) (threadAt s (cond (ltb i 16) i 0))) p) (pickedOf (handed (unacted (threadAt s (cond (ltb i 16) i 0))) (tableIn s)) p) .picked .progress)
       go true e = rw e (tells-some s f y i p (ltb-true i 16 e))
       go false e = rw e (tells-none s f i p (ltb-false i 16 e))

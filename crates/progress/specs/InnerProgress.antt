@@ -6,13 +6,14 @@ use mathlib.Core.Bool.{Bool, cond, not}
 use mathlib.Core.List.{List, [], _∷_}
 use lib.Dec.{eqb, ltb}
 use lib.IntN.{ℤ}
+use Rattle.stm.specs.Counted.{Table}
 use lib.ListN.{length, set, take}
 use Rattle.code.specs.Reader.{readCode}
 use Rattle.progress.specs.declared.Picked.{Picked}
 use Rattle.progress.specs.declared.Progress.{Progress}
 use Rattle.machine.specs.Answers.{Returned}
 use Rattle.machine.specs.InnerTally as tally
-use Rattle.machine.specs.Steps.{State, threadAt}
+use Rattle.machine.specs.Steps.{State, tableIn, threadAt}
 use Rattle.machine.specs.declared.FreshReply.{FreshReply}
 use Rattle.machine.specs.declared.RunReply.{RunReply}
 use Rattle.machine.specs.declared.StepReply.{StepReply}
@@ -66,10 +67,10 @@ plainPick bytes pick t = plainIn (take (reachOf pick (length bytes)) bytes) t
 -- what a pick leaves, with the table
 pub record Given : Type 0 where
   pub picked : Picked
-  pub table : List ℤ
+  pub table : Table
 
 -- what a pick leaves and the table
-abbrev pub given : Picked → List ℤ → Given
+abbrev pub given : Picked → Table → Given
 given r table = record { picked = r; table = table }
 
 -- of what the step of the record hands back
@@ -86,12 +87,12 @@ pickedOf h p =
     (h .table)
 
 -- one pick; of 16 and above it is idle
-unfoldable pub pickedBy : (code : List ℕ) (table : List ℤ) (pick : ℕ) → Thread → Progress → Given
+unfoldable pub pickedBy : (code : List ℕ) (table : Table) (pick : ℕ) → Thread → Progress → Given
 pickedBy bytes table pick t p =
     cond (ltb pick 16) (pickedOf (stepped wrapping bytes table t) p) (pickedOf (handed (unacted t) table) p)
 
 -- the same by what does not change the logs; any other pick is idle
-unfoldable pub plainedBy : (code : List ℕ) (table : List ℤ) (pick : ℕ) → Thread → Progress → Given
+unfoldable pub plainedBy : (code : List ℕ) (table : Table) (pick : ℕ) → Thread → Progress → Given
 plainedBy bytes table pick t p =
     pickedOf (performed wrapping table t (plainOp (take (reachOf pick (length bytes)) bytes) t)) p
 
@@ -100,10 +101,10 @@ unfoldable pub refusalOf : Outcome Job → (fitting : Bool) (picks : ℕ) → �
 refusalOf (refused number place) fitting picks = 11
 refusalOf (done j) fitting picks = cond fitting (cond (ltb 32768 picks) 13 0) 12
 
--- the refusal of laying down a fresh state over so many registers and records
-unfoldable pub freshRefusalOf : Outcome Job → (registers records : ℕ) → ℕ
-freshRefusalOf (refused number place) registers records = 11
-freshRefusalOf (done j) registers records = cond (eqb records 16) (cond (eqb registers 64) 0 12) 12
+-- the refusal of laying down a fresh state over so many registers, counts and records
+unfoldable pub freshRefusalOf : Outcome Job → (registers counts records : ℕ) → ℕ
+freshRefusalOf (refused number place) registers counts records = 11
+freshRefusalOf (done j) registers counts records = cond (eqb records 16) (cond (eqb registers 64) (cond (eqb counts 64) 0 12) 12) 12
 
 -- so many, unless the call is refused
 unfoldable pub unlessOf : (refusal n : ℕ) → ℕ
@@ -166,7 +167,8 @@ settledBy s who g =
     record {
       state =
           record {
-            registers = g .table;
+            registers = g .table .registers;
+            counts = g .table .counts;
             threads = set (set (s .threads) who (g .picked .thread)) (g .picked .seat) (spawned (g .picked .start) (g .picked .end));
           };
       progress = shown (g .picked .progress);
@@ -188,7 +190,7 @@ driven bytes zero is d = d
 driven bytes (suc left) [] d = d
 driven bytes (suc left) (i ∷ is) d =
     driven bytes left is
-    (drivenBy (d .state) (whichOf i) (pickedBy bytes (d .state .registers) i (threadAt (d .state) (whichOf i)) (d .progress)))
+    (drivenBy (d .state) (whichOf i) (pickedBy bytes (tableIn (d .state)) i (threadAt (d .state) (whichOf i)) (d .progress)))
 
 -- so many picks more keep each number low
 pub record Room (n : ℕ) (p : Progress) : Type 0 where
@@ -208,8 +210,8 @@ unfoldable pub admitting : (code : List ℕ) → State → (picks : ℕ) → Pro
 admitting code s picks =
     admittedTo
     (readCode code)
-    (surveyFits (surveyOf (s .registers) (s .threads)) code (length (s .registers)) 0)
-    (surveyOf (s .registers) (s .threads) .count)
+    (surveyFits (surveyOf (s .counts) (s .threads)) code (length (s .registers)) (s .counts) 0)
+    (surveyOf (s .counts) (s .threads) .count)
     picks
 
 -- a run by value

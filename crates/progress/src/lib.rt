@@ -5,6 +5,7 @@ ghost use lib.ListN.{length};
 ghost use Rattle.code.specs.Reader.{readCode};
 ghost use Rattle.progress.specs.InnerProgress.{admittedTo, advancedTo, freshRefusalOf, freshReplyOf, given, moreTo, pickedBy, plainPick, plainedBy, reachOf, refusalOf, runReplyOf, seatOf, stepReplyOf, unlessOf, whichOf};
 ghost use Rattle.survey.specs.InnerWalk.{surveyFits};
+ghost use Rattle.thread.specs.InnerStep.{tableFrom};
 
 // The number of threads, how many picks are to be done, document 01's number of the refusal, 0 if there is none, the counts so far, and what
 // the last pick did, in the numbers of a step's answer. (A step's `over` is that of its one pick, so far.)
@@ -126,14 +127,15 @@ pub fn perform(
     t: thread::Thread,
     code: &[u8],
     registers: &mut [i32],
+    counts: &mut [u32],
     pick: u8,
     p: Progress,
 ) -> Picked
-    ensures { λ r. ⌜ given r (now (registers .exit)) ≡ pickedBy (now (code .entry)) (now (registers .entry)) pick t p ⌝ }
+    ensures { λ r. ⌜ given r (tableFrom (now (registers .exit)) (now (counts .exit))) ≡ pickedBy (now (code .entry)) (tableFrom (now (registers .entry)) (now (counts .entry))) pick t p ⌝ }
 {
     let reach = reach(pick, code.len());
     let threads = p.threads;
-    let a = t.step(&code[..reach], registers);
+    let a = t.step(&code[..reach], registers, counts);
     let event = a.event;
     let after = a.thread;
     Picked {
@@ -155,8 +157,15 @@ pub fn is_plain(t: thread::Thread, code: &[u8], pick: u8) -> bool
 
 // A pick that changes the stack, the note and the last rule of its record, without the copies of the logs that `perform` makes; any other pick is idle. The table
 // stays.
-pub fn plain(t: thread::Thread, code: &[u8], registers: &mut [i32], pick: u8, p: Progress) -> Picked
-    ensures { λ r. ⌜ given r (now (registers .exit)) ≡ plainedBy (now (code .entry)) (now (registers .entry)) pick t p ⌝ }
+pub fn plain(
+    t: thread::Thread,
+    code: &[u8],
+    registers: &mut [i32],
+    counts: &mut [u32],
+    pick: u8,
+    p: Progress,
+) -> Picked
+    ensures { λ r. ⌜ given r (tableFrom (now (registers .exit)) (now (counts .exit))) ≡ plainedBy (now (code .entry)) (tableFrom (now (registers .entry)) (now (counts .entry))) pick t p ⌝ }
 {
     let reach = reach(pick, code.len());
     let threads = p.threads;
@@ -173,13 +182,19 @@ pub fn plain(t: thread::Thread, code: &[u8], registers: &mut [i32], pick: u8, p:
 }
 
 // Which refusal a call with code, a state and so many picks has: 0 if none.
-fn refusal(code: &[u8], survey: survey::Survey, registers: usize, picks: usize) -> usize
-    ensures { λ r. ⌜ r ≡ refusalOf (readCode (now (code .entry))) (surveyFits survey (now (code .entry)) registers 0) picks ⌝ }
+fn refusal(
+    code: &[u8],
+    survey: survey::Survey,
+    registers: usize,
+    counts: &[u32],
+    picks: usize,
+) -> usize
+    ensures { λ r. ⌜ r ≡ refusalOf (readCode (now (code .entry))) (surveyFits survey (now (code .entry)) registers (now (counts .entry)) 0) picks ⌝ }
 {
     match scan::scan_code(code) {
         scan::Scanned::Refused(_, _) => 11,
         scan::Scanned::Job(_, _, _) => {
-            if !survey.fits(code, registers, 0) {
+            if !survey.fits(code, registers, counts, 0) {
                 return 12;
             }
             if picks > 32768 {
@@ -191,8 +206,8 @@ fn refusal(code: &[u8], survey: survey::Survey, registers: usize, picks: usize) 
 }
 
 // Which refusal laying down a fresh state has: 0 if none.
-pub fn fresh_refusal(code: &[u8], registers: usize, records: usize) -> usize
-    ensures { λ r. ⌜ r ≡ freshRefusalOf (readCode (now (code .entry))) registers records ⌝ }
+pub fn fresh_refusal(code: &[u8], registers: usize, counts: usize, records: usize) -> usize
+    ensures { λ r. ⌜ r ≡ freshRefusalOf (readCode (now (code .entry))) registers counts records ⌝ }
 {
     match scan::scan_code(code) {
         scan::Scanned::Refused(_, _) => 11,
@@ -201,6 +216,9 @@ pub fn fresh_refusal(code: &[u8], registers: usize, records: usize) -> usize
                 return 12;
             }
             if registers != 64 {
+                return 12;
+            }
+            if counts != 64 {
                 return 12;
             }
             0
@@ -226,11 +244,17 @@ pub fn fresh_reply(refusal: usize) -> machine::FreshReply
 }
 
 // The progress with which a call begins: no pick is to be done if it is refused.
-pub fn admitted(code: &[u8], survey: survey::Survey, registers: usize, picks: usize) -> Progress
-    ensures { λ r. ⌜ r ≡ admittedTo (readCode (now (code .entry))) (surveyFits survey (now (code .entry)) registers 0) (survey .count) picks ⌝ }
+pub fn admitted(
+    code: &[u8],
+    survey: survey::Survey,
+    registers: usize,
+    counts: &[u32],
+    picks: usize,
+) -> Progress
+    ensures { λ r. ⌜ r ≡ admittedTo (readCode (now (code .entry))) (surveyFits survey (now (code .entry)) registers (now (counts .entry)) 0) (survey .count) picks ⌝ }
 {
     let threads = survey.count;
-    let refusal = refusal(code, survey, registers, picks);
+    let refusal = refusal(code, survey, registers, counts, picks);
     Progress {
         threads,
         limit: unless(refusal, picks),

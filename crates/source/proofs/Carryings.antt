@@ -9,23 +9,23 @@ use borrow.Author.Tests.{lt-ltb, le-ltb}
 use lib.Dec.{eqb, ltb}
 use lib.IntN.{ℤ, pos}
 use lib.ListN.{length, getD, set}
-use lib.Signed.{ltZ}
+use Rattle.stm.specs.Counted.{Table, Counted}
 use Rattle.code.specs.Compile.{Instruction, Code, PUSH, ADD, READ, WRITE, BEGIN, COMMIT, FORK, ε, _⨾_}
 use Rattle.code.specs.Bytes.{instructionsBytes}
 use Rattle.code.specs.Ops.{Op}
 use Rattle.code.specs.Ops as code
 use Rattle.thread.specs.declared.Thread.{Thread}
-use Rattle.thread.specs.Threads.{withRule, zeros, spawned, push, add, begin, below, sourceOf, readFrom, noted, read, write, closed, stale, firstStale, overlaid, logOf, readLog, writeLog}
+use Rattle.thread.specs.Threads as threads
+use Rattle.thread.specs.Threads.{withRule, zeros, unwritten, spawned, push, add, begin, below, sourceOf, readFrom, noted, read, write, closed, stale, firstStale, overlaid, recounted, logOf, countedLog, readLog, writeLog}
 use Rattle.stm.specs.Events.{Source, fromWrites, fromReads, fromTable, committed, sentBack}
-use Rattle.machine.specs.Steps.{State, Stepped, numberOf, committing, commit, instruction, movedBy, ruled, act, perform, settle}
+use Rattle.machine.specs.Steps.{State, Stepped, numberOf, committing, commit, instruction, movedBy, ruled, act, perform, settle, tableIn}
 use Rattle.machine.specs.Fits.{nextPlace, TypedThread}
-use Rattle.source.specs.Source.{Log, empty, updated, SThread, Looked, lookedUp, lookUp, agrees, consistent, entered, overridden, StepM, ForkM, PushM, AddM, BeginM, ReadM, WriteM, Committed, Failed}
-use Rattle.script.specs.Turns.{Registers}
+use Rattle.source.specs.Source.{Log, empty, updated, SThread, Looked, lookedUp, lookUp, registerAt, agrees, consistent, entered, raised, overridden, counted, united, StepM, ForkM, PushM, AddM, BeginM, ReadM, WriteM, Committed, Failed}
 use Rattle.source.specs.Soup.{Carries, ruleOf, named, First}
 use Rattle.machine.specs.InnerStands.{opOf}
 use Rattle.machine.specs.Stands.{ValuedI, ValuedC, stackFrom}
 use Rattle.machine.proofs.Codes.{stands-next, stands-child}
-use Rattle.machine.proofs.Showings.{stack-suc, stack-push, stack-add, stack-closed, log-none, log-with}
+use Rattle.machine.proofs.Showings.{stack-suc, stack-push, stack-add, stack-closed, log-none, log-with, counted-none, counted-with}
 use Rattle.word.specs.Registers.{member, with}
 use Rattle.word.specs.Sum.{Rule}
 
@@ -40,7 +40,7 @@ pub data Forks (bytes : List ℕ) (ts : List Thread) (n : ℕ) : List SThread �
 
 -- a record that has another last rule and number of send-backs stands for the same thread
 pub carries-moved : {bytes : List ℕ} (rule backs : ℕ) (t : Thread) {m : SThread} → Carries bytes t m → Carries bytes (withRule rule backs t) m
-unfolding logOf
+unfolding logOf countedLog
 carries-moved rule backs t x = record { code = x .code; valued = x .valued; stack = x .stack; again = x .again; reads = x .reads; writes = x .writes }
 
 -- a step of thread i, which was t, and the rule that does it to the thread m of the source; `thread` is its record but for its rule and
@@ -49,12 +49,12 @@ pub record Follows (bytes : List ℕ) (sum : Rule) (s : State) (i : ℕ) (t : Th
   pub thread : Thread
   pub m′ : SThread
   pub new : List SThread
-  pub heap : Registers
+  pub heap : Table
   pub carries : Carries bytes thread m′
   pub start : thread .start ≡ t .start
   pub threads : Forks bytes (set (s .threads) i (movedBy (r .event) thread)) (numberOf (s .threads)) new (r .state .threads)
-  pub registers : r .state .registers ≡ heap
-  pub step : (behind : List SThread) → StepM sum (s .registers) (m ∷ behind) heap (m′ ∷ (new ++ behind))
+  pub registers : tableIn (r .state) ≡ heap
+  pub step : (behind : List SThread) → StepM sum (tableIn s) (m ∷ behind) heap (m′ ∷ (new ++ behind))
   pub first : (behind : List SThread) → First (step behind)
   pub rule : (behind : List SThread) → named (r .event) ≡ some (ruleOf (step behind))
 
@@ -82,45 +82,65 @@ stack-two cells h l =
     stack-one cells h (omega arith) ∙ (ap (λ (y : List ℤ). getD cells (h - 1) (pos 0) ∷ y) (stack-one cells (h - 1) (omega arith)) ∙ ap (λ (k : ℕ). getD cells (h - 1) (pos 0) ∷ getD cells k (pos 0) ∷ stackFrom cells 0 k) a)
 
 -- ---- logs
-log-updated : (set′ : ℕ) (ns : List ℤ) (r : Log) (v : ℕ) (n : ℤ) → v < 64 → length ns ≡ 64 → ((u : ℕ) → r u ≡ logOf set′ ns u) → (u : ℕ) → updated r v n u ≡ logOf (with set′ v) (set ns v n) u
+log-updated : (set′ : ℕ) (ns : List ℤ) (r : Log ℤ) (v : ℕ) (n : ℤ) → v < 64 → length ns ≡ 64 → ((u : ℕ) → r u ≡ logOf set′ ns u) → (u : ℕ) → updated r v n u ≡ logOf (with set′ v) (set ns v n) u
 log-updated set′ ns r v n l e f u =
     ap (λ (y : Option ℤ). cond (eqb u v) (some n) y) (f u) ∙ sym (ap (λ (g : ℕ → Option ℤ). g u) (log-with set′ ns v n l e))
 
-agrees-stale : (t : Thread) (table : List ℤ) (v : ℕ) → agrees (readLog t v) (getD table v (pos 0)) ≡ not (stale t table v)
-unfolding stale logOf
+counted-updated : (set′ : ℕ) (ns : List ℤ) (ks : List ℕ) (r : Log Counted) (v : ℕ) (n : ℤ) (k : ℕ) → v < 64 → length ns ≡ 64 → length ks ≡ 64 → ((u : ℕ) → r u ≡ countedLog set′ ns ks u) → (u : ℕ) → updated r v (record { value = n; count = k }) u ≡ countedLog (with set′ v) (set ns v n) (set ks v k) u
+counted-updated set′ ns ks r v n k l e g f u =
+    ap (λ (y : Option Counted). cond (eqb u v) (some (record { value = n; count = k })) y) (f u) ∙ sym (ap (λ (g : ℕ → Option Counted). g u) (counted-with set′ ns ks v n k l e g))
+
+agrees-stale : (t : Thread) (table : Table) (v : ℕ) → agrees (readLog t v) (getD (table .counts) v 0) ≡ not (stale t table v)
+unfolding stale countedLog
 agrees-stale t table v = go (member (t .reads) v)
   where
-    go : (b : Bool) → agrees (cond b (some (getD (t .readlog) v (pos 0))) none) (getD table v (pos 0)) ≡ not (b && (ltZ (getD (t .readlog) v (pos 0)) (getD table v (pos 0)) || ltZ (getD table v (pos 0)) (getD (t .readlog) v (pos 0))))
-    go true = refl
+    not-not : (b : Bool) → b ≡ not (not b)
+    not-not true = refl
+    not-not false = refl
+
+    go : (b : Bool) → agrees (cond b (some (record { value = getD (t .readlog) v (pos 0); count = getD (t .readcounts) v 0 })) none) (getD (table .counts) v 0) ≡ not (b && not (eqb (getD (t .readcounts) v 0) (getD (table .counts) v 0)))
+    go true = not-not (eqb (getD (t .readcounts) v 0) (getD (table .counts) v 0))
     go false = refl
 
 -- the read log agrees with the table exactly if no register is stale
-consistent-fresh : (t : Thread) (r : Log) (table : List ℤ) → ((v : ℕ) → r v ≡ readLog t v) → (left v : ℕ) → ltb (firstStale left v t table) (left + v) ≡ not (consistent left v r table)
+consistent-fresh : (t : Thread) (r : Log Counted) (table : Table) → ((v : ℕ) → r v ≡ readLog t v) → (left v : ℕ) → ltb (firstStale left v t table) (left + v) ≡ not (consistent left v r (table .counts))
 unfolding firstStale consistent
 consistent-fresh t r table f zero v = le-ltb v (0 + v) (omega arith)
-consistent-fresh t r table f (suc left) v = go (stale t table v) (agrees (r v) (getD table v (pos 0))) (ap (λ (y : Option ℤ). agrees y (getD table v (pos 0))) (f v) ∙ agrees-stale t table v) (consistent-fresh t r table f left (suc v))
+consistent-fresh t r table f (suc left) v = go (stale t table v) (agrees (r v) (getD (table .counts) v 0)) (ap (λ (y : Option Counted). agrees y (getD (table .counts) v 0)) (f v) ∙ agrees-stale t table v) (consistent-fresh t r table f left (suc v))
   where
-    go : (a b : Bool) → b ≡ not a → ltb (firstStale left (suc v) t table) (left + suc v) ≡ not (consistent left (suc v) r table) → ltb (elim a [ true ↦ v | false ↦ firstStale left (suc v) t table ]) (suc left + v) ≡ not (b && consistent left (suc v) r table)
+    go : (a b : Bool) → b ≡ not a → ltb (firstStale left (suc v) t table) (left + suc v) ≡ not (consistent left (suc v) r (table .counts)) → ltb (elim a [ true ↦ v | false ↦ firstStale left (suc v) t table ]) (suc left + v) ≡ not (b && consistent left (suc v) r (table .counts))
     go true true e h = absurd (let z : _≡_ {A = ℕ} 0 1 = cc in omega arith)
     go true false e h = lt-ltb v (suc left + v) (omega arith)
     go false true e h = ap (λ (n : ℕ). ltb (firstStale left (suc v) t table) n) (let z : suc left + v ≡ left + suc v = omega arith in z) ∙ h
     go false false e h = absurd (let z : _≡_ {A = ℕ} 0 1 = cc in omega arith)
 
-overlaid-overridden : (t : Thread) (w : Log) → ((v : ℕ) → w v ≡ writeLog t v) → (left v : ℕ) (table : List ℤ) → overlaid left v t table ≡ overridden left v table w
+overlaid-overridden : (t : Thread) (w : Log ℤ) → ((v : ℕ) → w v ≡ writeLog t v) → (left v : ℕ) (rs : List ℤ) → overlaid left v t rs ≡ overridden left v rs w
 unfolding overlaid overridden logOf
-overlaid-overridden t w f zero v table = refl
-overlaid-overridden t w f (suc left) v table = overlaid-overridden t w f left (suc v) (cond (member (t .writes) v) (set table v (getD (t .writelog) v (pos 0))) table) ∙ ap (λ (y : List ℤ). overridden left (suc v) y w) (go (member (t .writes) v) (w v) (f v))
+overlaid-overridden t w f zero v rs = refl
+overlaid-overridden t w f (suc left) v rs = overlaid-overridden t w f left (suc v) (cond (member (t .writes) v) (set rs v (getD (t .writelog) v (pos 0))) rs) ∙ ap (λ (y : List ℤ). overridden left (suc v) y w) (go (member (t .writes) v) (w v) (f v))
   where
-    go : (b : Bool) (o : Option ℤ) → o ≡ cond b (some (getD (t .writelog) v (pos 0))) none → cond b (set table v (getD (t .writelog) v (pos 0))) table ≡ entered o v table
-    go true o e = sym (ap (λ (y : Option ℤ). entered y v table) e)
-    go false o e = sym (ap (λ (y : Option ℤ). entered y v table) e)
+    go : (b : Bool) (o : Option ℤ) → o ≡ cond b (some (getD (t .writelog) v (pos 0))) none → cond b (set rs v (getD (t .writelog) v (pos 0))) rs ≡ entered o v rs
+    go true o e = sym (ap (λ (y : Option ℤ). entered y v rs) e)
+    go false o e = sym (ap (λ (y : Option ℤ). entered y v rs) e)
+
+recounted-counted : (t : Thread) (w : Log ℤ) → ((v : ℕ) → w v ≡ writeLog t v) → (left v : ℕ) (ns : List ℕ) → recounted left v t ns ≡ counted left v ns w
+unfolding recounted counted logOf
+recounted-counted t w f zero v ns = refl
+recounted-counted t w f (suc left) v ns = recounted-counted t w f left (suc v) (cond (member (t .writes) v) (set ns v (suc (getD ns v 0))) ns) ∙ ap (λ (y : List ℕ). counted left (suc v) y w) (go (member (t .writes) v) (w v) (f v))
+  where
+    go : (b : Bool) (o : Option ℤ) → o ≡ cond b (some (getD (t .writelog) v (pos 0))) none → cond b (set ns v (suc (getD ns v 0))) ns ≡ raised o v ns
+    go true o e = sym (ap (λ (y : Option ℤ). raised y v ns) e)
+    go false o e = sym (ap (λ (y : Option ℤ). raised y v ns) e)
+
+entered-united : (t : Thread) (w : Log ℤ) → ((v : ℕ) → w v ≡ writeLog t v) → (h : Table) → threads.withWrites t h ≡ united h w
+entered-united t w f h = λ i. record { registers = overlaid-overridden t w f 64 0 (h .registers) i; counts = recounted-counted t w f 64 0 (h .counts) i }
 
 -- ---- one instruction
 module _ (bytes : List ℕ) (sum : Rule) (s : State) (j : ℕ) (t : Thread) (y : TypedThread t) (low : t .height ≤ 64) where
   abbrev Thus : SThread → Stepped → Type 0
   Thus m r = Follows bytes sum s j t m r
 
-  module _ (c f : Code) (σ : List ℤ) (r w : Log) where
+  module _ (c f : Code) (σ : List ℤ) (r : Log Counted) (w : Log ℤ) where
     abbrev at : Instruction → SThread
     at i = record { code = i ⨾ c; stack = σ; again = f; reads = r; writes = w }
 
@@ -144,7 +164,7 @@ module _ (bytes : List ℕ) (sum : Rule) (s : State) (j : ℕ) (t : Thread) (y :
           thread = push n (t .place + 5) t;
           m′ = record { code = c; stack = n ∷ σ; again = f; reads = r; writes = w };
           new = [];
-          heap = s .registers;
+          heap = tableIn s;
           carries = pushes (PUSH n) n x l;
           start = refl;
           threads = nobody;
@@ -173,7 +193,7 @@ module _ (bytes : List ℕ) (sum : Rule) (s : State) (j : ℕ) (t : Thread) (y :
           thread = push (pos 0) (t .place + 3 + length (instructionsBytes k)) t;
           m′ = record { code = c; stack = pos 0 ∷ σ; again = f; reads = r; writes = w };
           new = newborn k ∷ [];
-          heap = s .registers;
+          heap = tableIn s;
           carries = pushes (FORK k) (pos 0) x (l .0);
           start = refl;
           threads = child k (t .place + 3) (t .place + 3 + length (instructionsBytes k)) (omega arith) (l .1) (born k x);
@@ -190,13 +210,13 @@ module _ (bytes : List ℕ) (sum : Rule) (s : State) (j : ℕ) (t : Thread) (y :
           thread = begin t;
           m′ = record { code = c; stack = σ; again = BEGIN ⨾ c; reads = empty; writes = empty };
           new = [];
-          heap = s .registers;
+          heap = tableIn s;
           carries = record {
             code = stands-next (x .code);
             valued = x .valued .1;
             stack = x .stack;
             again = λ l. (x .code, x .valued);
-            reads = λ l v. sym (ap (λ (g : ℕ → Option ℤ). g v) (log-none zeros));
+            reads = λ l v. sym (ap (λ (g : ℕ → Option Counted). g v) (counted-none zeros unwritten));
             writes = λ l v. sym (ap (λ (g : ℕ → Option ℤ). g v) (log-none zeros));
           };
           start = refl;
@@ -208,15 +228,18 @@ module _ (bytes : List ℕ) (sum : Rule) (s : State) (j : ℕ) (t : Thread) (y :
         }
 
     -- READ finds in the thread's logs what it finds in the record's
-    looks : (v : ℕ) → Carries bytes t (at (READ v)) → v < 64 → t .height < 64 → 1 ≤ t .begin → Carries bytes (read (s .registers) v t) (record { code = c; stack = lookUp (s .registers) v r w .value ∷ σ; again = f; reads = lookUp (s .registers) v r w .reads; writes = w })
-    unfolding read sourceOf lookUp push logOf nextPlace
+    looks : (v : ℕ) → Carries bytes t (at (READ v)) → v < 64 → t .height < 64 → 1 ≤ t .begin → Carries bytes (read (tableIn s) v t) (record { code = c; stack = lookUp (tableIn s) v r w .value ∷ σ; again = f; reads = lookUp (tableIn s) v r w .reads; writes = w })
+    unfolding read sourceOf lookUp push logOf countedLog nextPlace
     looks v x small l open′ =
         subst (λ (o : Option ℤ). Carries bytes (found (member (t .writes) v) (member (t .reads) v)) (after (lookedUp o (r v) table r v))) (sym (x .writes open′ v))
-        (subst (λ (o : Option ℤ). Carries bytes (found (member (t .writes) v) (member (t .reads) v)) (after (lookedUp (cond (member (t .writes) v) (some (getD (t .writelog) v (pos 0))) none) o table r v))) (sym (x .reads open′ v))
+        (subst (λ (o : Option Counted). Carries bytes (found (member (t .writes) v) (member (t .reads) v)) (after (lookedUp (cond (member (t .writes) v) (some (getD (t .writelog) v (pos 0))) none) o table r v))) (sym (x .reads open′ v))
         (go (member (t .writes) v) (member (t .reads) v)))
       where
-        table : ℤ
-        table = getD (s .registers) v (pos 0)
+        table : Counted
+        table = registerAt (tableIn s) v
+
+        logged : Counted
+        logged = record { value = getD (t .readlog) v (pos 0); count = getD (t .readcounts) v 0 }
 
         after : Looked → SThread
         after k = record { code = c; stack = k .value ∷ σ; again = f; reads = k .reads; writes = w }
@@ -225,19 +248,19 @@ module _ (bytes : List ℕ) (sum : Rule) (s : State) (j : ℕ) (t : Thread) (y :
         from a b = cond a fromWrites (cond b fromReads fromTable)
 
         found : Bool → Bool → Thread
-        found a b = push (readFrom (from a b) (s .registers) t v) (t .place + 2) (noted (from a b) v (readFrom (from a b) (s .registers) t v) t)
+        found a b = push (readFrom (from a b) (s .registers) t v) (t .place + 2) (noted (from a b) v (readFrom (from a b) (s .registers) t v) (getD (s .counts) v 0) t)
 
-        go : (a b : Bool) → Carries bytes (found a b) (after (lookedUp (cond a (some (getD (t .writelog) v (pos 0))) none) (cond b (some (getD (t .readlog) v (pos 0))) none) table r v))
+        go : (a b : Bool) → Carries bytes (found a b) (after (lookedUp (cond a (some (getD (t .writelog) v (pos 0))) none) (cond b (some (record { value = getD (t .readlog) v (pos 0); count = getD (t .readcounts) v 0 })) none) table r v))
         go true b = pushes (READ v) (getD (t .writelog) v (pos 0)) x l
         go false true = pushes (READ v) (getD (t .readlog) v (pos 0)) x l
         go false false =
-            let p = pushes (READ v) table x l in
+            let p = pushes (READ v) (table .value) x l in
             record {
               code = p .code;
               valued = p .valued;
               stack = p .stack;
               again = p .again;
-              reads = λ o. log-updated (t .reads) (t .readlog) r v table small (y .readlog) (x .reads o);
+              reads = λ o. counted-updated (t .reads) (t .readlog) (t .readcounts) r v (table .value) (table .count) small (y .readlog) (y .readcounts) (x .reads o);
               writes = p .writes;
             }
 
@@ -245,10 +268,10 @@ module _ (bytes : List ℕ) (sum : Rule) (s : State) (j : ℕ) (t : Thread) (y :
     unfolding act perform settle Fine ruleOf First read push
     follows-read v x l =
         record {
-          thread = read (s .registers) v t;
-          m′ = record { code = c; stack = lookUp (s .registers) v r w .value ∷ σ; again = f; reads = lookUp (s .registers) v r w .reads; writes = w };
+          thread = read (tableIn s) v t;
+          m′ = record { code = c; stack = lookUp (tableIn s) v r w .value ∷ σ; again = f; reads = lookUp (tableIn s) v r w .reads; writes = w };
           new = [];
-          heap = s .registers;
+          heap = tableIn s;
           carries = looks v x (l .0) (l .1 .0) (l .1 .1);
           start = same-start v;
           threads = nobody;
@@ -258,15 +281,15 @@ module _ (bytes : List ℕ) (sum : Rule) (s : State) (j : ℕ) (t : Thread) (y :
           rule = λ behind. refl;
         }
       where
-        same-start : (v : ℕ) → read (s .registers) v t .start ≡ t .start
+        same-start : (v : ℕ) → read (tableIn s) v t .start ≡ t .start
         same-start v = go (sourceOf t v)
           where
-            go : (from : Source) → noted from v (readFrom from (s .registers) t v) t .start ≡ t .start
+            go : (from : Source) → noted from v (readFrom from (s .registers) t v) (getD (s .counts) v 0) t .start ≡ t .start
             go fromWrites = refl
             go fromReads = refl
             go fromTable = refl
 
-  module _ (c f : Code) (r w : Log) where
+  module _ (c f : Code) (r : Log Counted) (w : Log ℤ) where
     abbrev with-stack : Instruction → List ℤ → SThread
     with-stack i σ = record { code = i ⨾ c; stack = σ; again = f; reads = r; writes = w }
 
@@ -277,7 +300,7 @@ module _ (bytes : List ℕ) (sum : Rule) (s : State) (j : ℕ) (t : Thread) (y :
           thread = add sum t;
           m′ = record { code = c; stack = sum (below t 2) (below t 1) ∷ stackFrom (t .cells) 0 (t .height - 2); again = f; reads = r; writes = w };
           new = [];
-          heap = s .registers;
+          heap = tableIn s;
           carries = record {
             code = stands-next (x .code);
             valued = x .valued .1;
@@ -301,7 +324,7 @@ module _ (bytes : List ℕ) (sum : Rule) (s : State) (j : ℕ) (t : Thread) (y :
           thread = write v t;
           m′ = record { code = c; stack = below t 1 ∷ stackFrom (t .cells) 0 (t .height - 1); again = f; reads = r; writes = updated w v (below t 1) };
           new = [];
-          heap = s .registers;
+          heap = tableIn s;
           carries = record {
             code = stands-next (x .code);
             valued = x .valued .1;
@@ -320,19 +343,19 @@ module _ (bytes : List ℕ) (sum : Rule) (s : State) (j : ℕ) (t : Thread) (y :
 
     follows-commit : Carries bytes t (with-stack COMMIT (below t 1 ∷ stackFrom (t .cells) 0 (t .height - 1))) → Fine s t code.commit → Thus (with-stack COMMIT (below t 1 ∷ stackFrom (t .cells) 0 (t .height - 1))) (instruction sum s j t code.commit)
     unfolding act perform settle commit Fine nextPlace ruleOf First closed ValuedC
-    follows-commit x l = go (consistent 64 0 r (s .registers)) refl (ltb (firstStale 64 0 t (s .registers)) 64) (consistent-fresh t r (s .registers) (x .reads (l .1)) 64 0)
+    follows-commit x l = go (consistent 64 0 r (s .counts)) refl (ltb (firstStale 64 0 t (tableIn s)) 64) (consistent-fresh t r (tableIn s) (x .reads (l .1)) 64 0)
       where
         v : ℕ
-        v = firstStale 64 0 t (s .registers)
+        v = firstStale 64 0 t (tableIn s)
 
-        go : (b : Bool) → consistent 64 0 r (s .registers) ≡ b → (a : Bool) → a ≡ not (consistent 64 0 r (s .registers)) → Thus (with-stack COMMIT (below t 1 ∷ stackFrom (t .cells) 0 (t .height - 1))) (settle (numberOf (s .threads)) s j (ruled (committing a (s .registers) t v)))
+        go : (b : Bool) → consistent 64 0 r (s .counts) ≡ b → (a : Bool) → a ≡ not (consistent 64 0 r (s .counts)) → Thus (with-stack COMMIT (below t 1 ∷ stackFrom (t .cells) 0 (t .height - 1))) (settle (numberOf (s .threads)) s j (ruled (committing a (tableIn s) t v)))
         go true e true q = absurd (let z : _≡_ {A = ℕ} 0 1 = cc in omega arith)
         go true e false q =
             record {
               thread = closed (t .place + 1) (t .height) t;
               m′ = record { code = c; stack = below t 1 ∷ stackFrom (t .cells) 0 (t .height - 1); again = f; reads = r; writes = w };
               new = [];
-              heap = overridden 64 0 (s .registers) w;
+              heap = united (tableIn s) w;
               carries = record {
                 code = stands-next (x .code);
                 valued = x .valued .1;
@@ -343,7 +366,7 @@ module _ (bytes : List ℕ) (sum : Rule) (s : State) (j : ℕ) (t : Thread) (y :
               };
               start = refl;
               threads = nobody;
-              registers = overlaid-overridden t w (x .writes (l .1)) 64 0 (s .registers);
+              registers = entered-united t w (x .writes (l .1)) (tableIn s);
               step = λ behind. Committed e;
               first = λ behind. tt;
               rule = λ behind. refl;
@@ -353,7 +376,7 @@ module _ (bytes : List ℕ) (sum : Rule) (s : State) (j : ℕ) (t : Thread) (y :
               thread = closed (t .begin) (t .base) t;
               m′ = record { code = f; stack = stackFrom (t .cells) 0 (t .height - 1); again = f; reads = r; writes = w };
               new = [];
-              heap = s .registers;
+              heap = tableIn s;
               carries = record {
                 code = x .again (l .1) .0;
                 valued = x .again (l .1) .1;
@@ -372,7 +395,7 @@ module _ (bytes : List ℕ) (sum : Rule) (s : State) (j : ℕ) (t : Thread) (y :
         go false e false q = absurd (let z : _≡_ {A = ℕ} 0 1 = cc in omega arith)
 
   -- each instruction, by its rule
-  pub follows : (i : Instruction) (c f : Code) (σ : List ℤ) (r w : Log) → Carries bytes t (record { code = i ⨾ c; stack = σ; again = f; reads = r; writes = w }) → Fine s t (opOf i) → Follows bytes sum s j t (record { code = i ⨾ c; stack = σ; again = f; reads = r; writes = w }) (instruction sum s j t (opOf i))
+  pub follows : (i : Instruction) (c f : Code) (σ : List ℤ) (r : Log Counted) (w : Log ℤ) → Carries bytes t (record { code = i ⨾ c; stack = σ; again = f; reads = r; writes = w }) → Fine s t (opOf i) → Follows bytes sum s j t (record { code = i ⨾ c; stack = σ; again = f; reads = r; writes = w }) (instruction sum s j t (opOf i))
   unfolding Fine
   follows (PUSH n) c f σ r w x l = follows-push c f σ r w n x l
   follows ADD c f σ r w x l =

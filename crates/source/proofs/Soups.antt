@@ -12,14 +12,14 @@ use lib.Dec.{eqb, ltb}
 use lib.IntN.{ℤ}
 use lib.ListN.{length, drop, getD, set, length-set, length-append, List·getD-append}
 use lib.Seq.{getD-set-same, getD-set-other, getD-append-seam}
+use Rattle.stm.specs.Counted.{Table, Counted}
 use Rattle.code.specs.Compile.{Instruction, Code, PUSH, ADD, READ, WRITE, BEGIN, COMMIT, FORK, ε, _⨾_}
 use Rattle.code.specs.InnerHeights.{Takes}
 use Rattle.code.specs.Ops.{Op, opAt}
 use Rattle.script.specs.Outcome.{done}
-use Rattle.script.specs.Turns.{Registers}
 use Rattle.thread.specs.declared.Thread.{Thread}
 use Rattle.thread.specs.Threads.{blank, spawned, exists, readLog, writeLog}
-use Rattle.machine.specs.Steps.{State, Stepped, numberOf, threadAt, instruction, pick, movedBy, act, perform, settle}
+use Rattle.machine.specs.Steps.{State, Stepped, numberOf, threadAt, instruction, pick, movedBy, act, perform, settle, tableIn}
 use Rattle.stm.specs.Events.{Event, idle, pushed, summed, forked, begun, looked, wrote, committed, sentBack, isIdle}
 use Rattle.machine.specs.Fits.{Exists}
 use Rattle.source.specs.Source.{Log, empty, SThread, StepM, Preempt, ForkM, PushM, AddM, BeginM, ReadM, WriteM, Committed, Failed}
@@ -84,7 +84,7 @@ changed-number ts i t l e = number-is (set ts i t) (numberOf ts) each last
       where
         go : (b : Bool) → eqb k i ≡ b → exists (getD (set ts i t) k blank) ≡ true
         go true q = ap (λ (y : Thread). exists y) (subst (λ (y : ℕ). getD (set ts i t) y blank ≡ t) (sym (eqb-true k i q)) (getD-set-same ts i t blank (number-small ts i l))) ∙ e
-        go false q = ap (λ (y : Thread). exists y) (getD-set-other ts i k t blank (eqb-false k i q)) ∙ below-exists (record { registers = []; threads = ts }) k less
+        go false q = ap (λ (y : Thread). exists y) (getD-set-other ts i k t blank (eqb-false k i q)) ∙ below-exists (record { registers = []; counts = []; threads = ts }) k less
 
     last : exists (getD (set ts i t) (numberOf ts) blank) ≡ false
     last = ap (λ (y : Thread). exists y) (getD-set-other ts i (numberOf ts) t blank (λ q. absurd (omega arith))) ∙ at-end ts
@@ -99,7 +99,7 @@ grown-number ts t l free e = number-is (set ts (numberOf ts) t) (suc (numberOf t
         go true q = ap (λ (y : Thread). exists y) (subst (λ (y : ℕ). getD (set ts (numberOf ts) t) y blank ≡ t) (sym (eqb-true k (numberOf ts) q)) (getD-set-same ts (numberOf ts) t blank l)) ∙ e
         go false q =
             let z = eqb-false k (numberOf ts) q in
-            ap (λ (y : Thread). exists y) (getD-set-other ts (numberOf ts) k t blank z) ∙ below-exists (record { registers = []; threads = ts }) k (less-than k (numberOf ts) (numberOf ts) z less refl)
+            ap (λ (y : Thread). exists y) (getD-set-other ts (numberOf ts) k t blank z) ∙ below-exists (record { registers = []; counts = []; threads = ts }) k (less-than k (numberOf ts) (numberOf ts) z less refl)
 
     last : exists (getD (set ts (numberOf ts) t) (suc (numberOf ts)) blank) ≡ false
     last = ap (λ (y : Thread). exists y) (getD-set-other ts (numberOf ts) (suc (numberOf ts)) t blank (λ q. absurd (omega arith))) ∙ free
@@ -107,7 +107,7 @@ grown-number ts t l free e = number-is (set ts (numberOf ts) t) (suc (numberOf t
 -- ---- soups
 module _ {bytes : List ℕ} where
   -- a thread's record and its thread of the soup change
-  changed : (s : State) (front : List SThread) (m : SThread) (behind : List SThread) → Soup bytes s (front ++ (m ∷ behind)) → (i : ℕ) → length front ≡ i → (rs : Registers) (t : Thread) (m′ : SThread) → t .start ≡ threadAt s i .start → Carries bytes t m′ → Soup bytes (record { registers = rs; threads = set (s .threads) i t }) (front ++ (m′ ∷ behind))
+  changed : (s : State) (front : List SThread) (m : SThread) (behind : List SThread) → Soup bytes s (front ++ (m ∷ behind)) → (i : ℕ) → length front ≡ i → (h : Table) (t : Thread) (m′ : SThread) → t .start ≡ threadAt s i .start → Carries bytes t m′ → Soup bytes (record { registers = h .registers; counts = h .counts; threads = set (s .threads) i t }) (front ++ (m′ ∷ behind))
   changed s front m behind x i at rs t m′ e c =
       record {
         number = long ∙ (x .number ∙ sym (changed-number (s .threads) i t small (same-start t (threadAt s i) e (below-exists s i small))));
@@ -136,7 +136,7 @@ module _ {bytes : List ℕ} where
               subst (λ (y : SThread). Carries bytes (getD (set (s .threads) i t) k blank) y) (sym b) (subst (λ (y : Thread). Carries bytes y (getD (front ++ (m ∷ behind)) k nobody)) (sym a) (x .carries k (omega (arith, long))))
 
   -- a child's record and its thread come behind
-  grown : (s : State) (soup : List SThread) → Soup bytes s soup → numberOf (s .threads) < length (s .threads) → exists (getD (s .threads) (suc (numberOf (s .threads))) blank) ≡ false → (t : Thread) (m : SThread) → exists t ≡ true → Carries bytes t m → Soup bytes (record { registers = s .registers; threads = set (s .threads) (numberOf (s .threads)) t }) (soup ++ (m ∷ []))
+  grown : (s : State) (soup : List SThread) → Soup bytes s soup → numberOf (s .threads) < length (s .threads) → exists (getD (s .threads) (suc (numberOf (s .threads))) blank) ≡ false → (t : Thread) (m : SThread) → exists t ≡ true → Carries bytes t m → Soup bytes (record { registers = s .registers; counts = s .counts; threads = set (s .threads) (numberOf (s .threads)) t }) (soup ++ (m ∷ []))
   grown s soup x room free t m e c =
       record {
         number = long ∙ sym (grown-number (s .threads) t room free e);
@@ -202,7 +202,7 @@ taking-some : (P : ℕ → Type 0) (h : ℕ) → taking1 P h → 1 ≤ h
 taking-some P zero t = absurd t
 taking-some P (suc h) t = omega arith
 
-module _ {bytes : List ℕ} (sum : Rule) (s : State) (t : Thread) (table : Registers) where
+module _ {bytes : List ℕ} (sum : Rule) (s : State) (t : Thread) (table : List (registerCells .Cell)) where
   fine-outside : (i : Instruction) (c : Code) (σ : List ℤ) → Ready bytes (t .place) (t .end) (i ⨾ c) (t .height) → Outside (i ⨾ c) (t .height) → ((k : Code) → stepTask registerCells sum table (outside (i ⨾ c) σ) .children ≡ k ∷ [] → numberOf (s .threads) < 16) → Fine s t (opOf i)
   unfolding Fine Outside TakesOutside Takes stepTask stepOutside
   fine-outside (PUSH n) c σ r o room = ready-takes r
@@ -264,7 +264,7 @@ module _ (bytes : List ℕ) (sum : Rule) where
       small : ltb i (length (s .threads)) ≡ true
       small = lt-ltb i (length (s .threads)) (number-small (s .threads) i l)
 
-      go : (c f : Code) (σ : List ℤ) (r w : Log) → Carries bytes (threadAt s i) (record { code = c; stack = σ; again = f; reads = r; writes = w }) → Move bytes sum s i (record { code = c; stack = σ; again = f; reads = r; writes = w })
+      go : (c f : Code) (σ : List ℤ) (r : Log Counted) (w : Log ℤ) → Carries bytes (threadAt s i) (record { code = c; stack = σ; again = f; reads = r; writes = w }) → Move bytes sum s i (record { code = c; stack = σ; again = f; reads = r; writes = w })
       go ε f σ r w y =
           ended refl (ended-idle sum bytes (numberOf (s .threads)) s i (stands-end (y .code)))
       go (ins ⨾ c) f σ r w y =
@@ -293,7 +293,7 @@ module _ (bytes : List ℕ) (sum : Rule) where
             (record { step = preempted front (x .step behind); rule = ap (λ (y : Stepped). named (y .event)) p ∙ (x .rule behind ∙ ap some (sym (preempted-rule front (x .step behind)))) });
         rule = λ others. ap (λ (y : Stepped). named (y .event)) p ∙ x .rule others;
         becomes = refl;
-        heap = ap (λ (y : Stepped). y .state .registers) p ∙ x .registers;
+        heap = ap (λ (y : Stepped). tableIn (y .state)) p ∙ x .registers;
         left = subst (λ (y : Stepped). Soup bytes (y .state) (front ++ (x .m′ ∷ (behind ++ x .new)))) (sym p) (go (x .new) (r .state .threads) (x .threads));
       }
     where
@@ -303,8 +303,8 @@ module _ (bytes : List ℕ) (sum : Rule) where
       before : Soup bytes s (front ++ (m ∷ behind))
       before = subst (λ (y : List SThread). Soup bytes s y) was a
 
-      one : Soup bytes (record { registers = r .state .registers; threads = ts }) (front ++ (x .m′ ∷ behind))
-      one = changed s front m behind before i at (r .state .registers) (movedBy (r .event) (x .thread)) (x .m′) (x .start) (carries-moved _ _ (x .thread) (x .carries))
+      one : Soup bytes (record { registers = r .state .registers; counts = r .state .counts; threads = ts }) (front ++ (x .m′ ∷ behind))
+      one = changed s front m behind before i at (tableIn (r .state)) (movedBy (r .event) (x .thread)) (x .m′) (x .start) (carries-moved _ _ (x .thread) (x .carries))
 
       small : i < numberOf (s .threads)
       small = let b = before .number in let c = length-append front (m ∷ behind) in omega arith
@@ -317,27 +317,27 @@ module _ (bytes : List ℕ) (sum : Rule) where
           ap (λ (y : ℕ). exists (getD ts (suc y) blank)) number
           ∙ (ap (λ (y : Thread). exists y) (getD-set-other (s .threads) i (suc (numberOf (s .threads))) (movedBy (r .event) (x .thread)) blank (λ q. absurd (let z = small in omega arith))) ∙ next-absent s gap)
 
-      go : (new : List SThread) (us : List Thread) → Forks bytes ts (numberOf (s .threads)) new us → Soup bytes (record { registers = r .state .registers; threads = us }) (front ++ (x .m′ ∷ (behind ++ new)))
-      go new us no-child = subst (λ (y : List SThread). Soup bytes (record { registers = r .state .registers; threads = ts }) (front ++ (x .m′ ∷ y))) (sym (append-nil behind)) one
+      go : (new : List SThread) (us : List Thread) → Forks bytes ts (numberOf (s .threads)) new us → Soup bytes (record { registers = r .state .registers; counts = r .state .counts; threads = us }) (front ++ (x .m′ ∷ (behind ++ new)))
+      go new us no-child = subst (λ (y : List SThread). Soup bytes (record { registers = r .state .registers; counts = r .state .counts; threads = ts }) (front ++ (x .m′ ∷ y))) (sym (append-nil behind)) one
       go new us (child k start end there room c) =
-          subst (λ (y : List SThread). Soup bytes (record { registers = r .state .registers; threads = set ts (numberOf (s .threads)) (spawned start end) }) y) (append-assoc front (x .m′ ∷ behind) (newborn k ∷ []))
-          (subst (λ (y : ℕ). Soup bytes (record { registers = r .state .registers; threads = set ts y (spawned start end) }) ((front ++ (x .m′ ∷ behind)) ++ (newborn k ∷ []))) number
-          (grown (record { registers = r .state .registers; threads = ts }) (front ++ (x .m′ ∷ behind)) one (let w = length-set (s .threads) i (movedBy (r .event) (x .thread)) in let v = number in omega arith) still-free (spawned start end) (newborn k) (spawned-exists start end there) c))
+          subst (λ (y : List SThread). Soup bytes (record { registers = r .state .registers; counts = r .state .counts; threads = set ts (numberOf (s .threads)) (spawned start end) }) y) (append-assoc front (x .m′ ∷ behind) (newborn k ∷ []))
+          (subst (λ (y : ℕ). Soup bytes (record { registers = r .state .registers; counts = r .state .counts; threads = set ts y (spawned start end) }) ((front ++ (x .m′ ∷ behind)) ++ (newborn k ∷ []))) number
+          (grown (record { registers = r .state .registers; counts = r .state .counts; threads = ts }) (front ++ (x .m′ ∷ behind)) one (let w = length-set (s .threads) i (movedBy (r .event) (x .thread)) in let v = number in omega arith) still-free (spawned start end) (newborn k) (spawned-exists start end there) c))
 
   -- a pick that is not idle is a step of the soup, by the rule of its event
-  pub pick-steps : (s : State) (sys : System registerCells) → Mirrors bytes s sys → ((i : ℕ) → Exists s (suc i) → Exists s i) → ((i : ℕ) → Exists s i → Held bytes (threadAt s i)) → (i : ℕ) → ((k : Code) → did registerCells sum sys i .children ≡ k ∷ [] → numberOf (s .threads) < 16) → (soup : List SThread) → Soup bytes s soup → isIdle (pick sum bytes s i .event) ≡ false → (h′ : Registers) × ((soup′ : List SThread) × PickOn bytes sum s i soup h′ soup′)
+  pub pick-steps : (s : State) (sys : System registerCells) → Mirrors bytes s sys → ((i : ℕ) → Exists s (suc i) → Exists s i) → ((i : ℕ) → Exists s i → Held bytes (threadAt s i)) → (i : ℕ) → ((k : Code) → did registerCells sum sys i .children ≡ k ∷ [] → numberOf (s .threads) < 16) → (soup : List SThread) → Soup bytes s soup → isIdle (pick sum bytes s i .event) ≡ false → (h′ : Table) × ((soup′ : List SThread) × PickOn bytes sum s i soup h′ soup′)
   pick-steps s sys a gap holds i room soup x busy = go (decLt i (numberOf (s .threads)))
     where
       no-idle : pick sum bytes s i ≡ record { state = s; event = idle; over = 0 } → ⊥
       no-idle p = never (ap (λ (y : Stepped). isIdle (y .event)) p) busy
 
-      by : i < length soup → Move bytes sum s i (getD soup i nobody) → (h′ : Registers) × ((soup′ : List SThread) × PickOn bytes sum s i soup h′ soup′)
+      by : i < length soup → Move bytes sum s i (getD soup i nobody) → (h′ : Table) × ((soup′ : List SThread) × PickOn bytes sum s i soup h′ soup′)
       by l (ended z p) = absurd (no-idle p)
       by l (moves r p y) =
           let d = split soup i l in
           (y .heap, (_, step-on s soup x (a .records) gap i (d .front) (getD soup i nobody) (d .behind) (d .number) (d .was) r p y))
 
-      go : Dec (i < numberOf (s .threads)) → (h′ : Registers) × ((soup′ : List SThread) × PickOn bytes sum s i soup h′ soup′)
+      go : Dec (i < numberOf (s .threads)) → (h′ : Table) × ((soup′ : List SThread) × PickOn bytes sum s i soup h′ soup′)
       go (yes l) =
           let k : i < length soup = subst (λ (n : ℕ). i < n) (sym (x .number)) l in
           by k (move s sys a i l (holds i (below-exists s i l)) room (getD soup i nobody) (x .carries i k))
@@ -347,7 +347,7 @@ module _ (bytes : List ℕ) (sum : Rule) where
           missing true e = absurd (let z = exists-below s gap i e in omega arith)
           missing false e = no-idle (missing-idle sum bytes (numberOf (s .threads)) s i e)
 
-  some-code : {h h′ : Registers} {m : SThread} {behind s′ : List SThread} → (x : StepM sum h (m ∷ behind) h′ s′) → First x → m .code ≡ ε → ⊥
+  some-code : {h h′ : Table} {m : SThread} {behind s′ : List SThread} → (x : StepM sum h (m ∷ behind) h′ s′) → First x → m .code ≡ ε → ⊥
   unfolding First
   some-code (Preempt x) f e = f
   some-code ForkM f e = absurd (let z : _≡_ {A = ℕ} 0 1 = cc in omega arith)
@@ -360,10 +360,10 @@ module _ (bytes : List ℕ) (sum : Rule) where
   some-code (Failed q) f e = absurd (let z : _≡_ {A = ℕ} 0 1 = cc in omega arith)
 
   -- every step of the soup is a pick that is not idle
-  pub step-picks : (s : State) (sys : System registerCells) → Mirrors bytes s sys → ((i : ℕ) → Exists s (suc i) → Exists s i) → ((i : ℕ) → Exists s i → Held bytes (threadAt s i)) → ((i : ℕ) (k : Code) → did registerCells sum sys i .children ≡ k ∷ [] → numberOf (s .threads) < 16) → (soup : List SThread) → Soup bytes s soup → (h′ : Registers) (soup′ : List SThread) → (step : StepM sum (s .registers) soup h′ soup′) → (i : ℕ) × ((isIdle (pick sum bytes s i .event) ≡ false) × ((named (pick sum bytes s i .event) ≡ some (ruleOf step)) × PickOn bytes sum s i soup h′ soup′))
+  pub step-picks : (s : State) (sys : System registerCells) → Mirrors bytes s sys → ((i : ℕ) → Exists s (suc i) → Exists s i) → ((i : ℕ) → Exists s i → Held bytes (threadAt s i)) → ((i : ℕ) (k : Code) → did registerCells sum sys i .children ≡ k ∷ [] → numberOf (s .threads) < 16) → (soup : List SThread) → Soup bytes s soup → (h′ : Table) (soup′ : List SThread) → (step : StepM sum (tableIn s) soup h′ soup′) → (i : ℕ) × ((isIdle (pick sum bytes s i .event) ≡ false) × ((named (pick sum bytes s i .event) ≡ some (ruleOf step)) × PickOn bytes sum s i soup h′ soup′))
   step-picks s sys a gap holds room soup x h′ soup′ step = (i, by (move s sys a i small (holds i (below-exists s i small)) (room i) (d .m) carries))
     where
-      d : Peeled sum (s .registers) soup h′ soup′ (ruleOf step)
+      d : Peeled sum (tableIn s) soup h′ soup′ (ruleOf step)
       d = peel step
 
       i : ℕ
@@ -388,7 +388,7 @@ module _ (bytes : List ℕ) (sum : Rule) where
             not-idle (pick sum bytes s i .event) _ (z .rule []),
             (
               ap (λ (v : Stepped). named (v .event)) p ∙ (y .rule (d .behind) ∙ ap some (sym (o .1 .1) ∙ d .rule)),
-              subst (λ (l : List SThread). PickOn bytes sum s i soup h′ l) (sym w) (subst (λ (h : Registers). PickOn bytes sum s i soup h (d .front ++ (y .m′ ∷ (y .new ++ d .behind)))) (sym (o .0)) z),
+              subst (λ (l : List SThread). PickOn bytes sum s i soup h′ l) (sym w) (subst (λ (h : Table). PickOn bytes sum s i soup h (d .front ++ (y .m′ ∷ (y .new ++ d .behind)))) (sym (o .0)) z),
             ),
           )
 

@@ -9,13 +9,13 @@ use lib.ListN.{length, getD}
 use Rattle.code.specs.Compile.{Code, PUSH, ADD, READ, WRITE, BEGIN, COMMIT, FORK, ε, _⨾_, compileP}
 use Rattle.thread.specs.declared.Thread.{Thread}
 use Rattle.thread.specs.Threads.{readLog, writeLog}
-use Rattle.machine.specs.Steps.{State, numberOf, threadAt, pick}
+use Rattle.machine.specs.Steps.{State, tableIn, numberOf, threadAt, pick}
 use Rattle.stm.specs.Rules as rules
 use Rattle.stm.specs.Rules.{MachineRule}
 use Rattle.stm.specs.Events.{Event, idle, pushed, summed, forked, begun, looked, wrote, committed, sentBack}
 use Rattle.source.specs.Source.{empty, SThread, consistent, StepM, Preempt, ForkM, PushM, AddM, BeginM, ReadM, WriteM, Committed, Failed}
 use Rattle.script.specs.Tree.{Proc}
-use Rattle.script.specs.Turns.{Registers}
+use Rattle.stm.specs.Counted.{Table}
 use Rattle.script.specs.Soup.{Same}
 use Rattle.machine.specs.Stands.{Stands, ValuedC, stackFrom}
 use Rattle.word.specs.Sum.{Rule}
@@ -50,7 +50,7 @@ pub data Name : Type 0 where
   fork push add begin read write commit fail : Name
 
 -- the rule of a step; Preempt only says which thread steps
-unfoldable pub ruleOf : {sum : Rule} {h h′ : Registers} {s s′ : List SThread} → StepM sum h s h′ s′ → Name
+unfoldable pub ruleOf : {sum : Rule} {h h′ : Table} {s s′ : List SThread} → StepM sum h s h′ s′ → Name
 ruleOf (Preempt x) = ruleOf x
 ruleOf ForkM = fork
 ruleOf PushM = push
@@ -61,19 +61,19 @@ ruleOf WriteM = write
 ruleOf (Committed e) = commit
 ruleOf (Failed e) = fail
 
--- what a rule is for: the thread's next instruction, and for COMMIT whether `r ⊆ h`
-unfoldable pub IsFor : Name → Registers → SThread → Type 0
+-- what a rule is for: the thread's next instruction, and for COMMIT whether the read log's counts are the heap's, which stands for `r ⊆ h`
+unfoldable pub IsFor : Name → Table → SThread → Type 0
 IsFor fork h m = (k : Code) × ((c : Code) × (m .code ≡ FORK k ⨾ c))
 IsFor push h m = (n : ℤ) × ((c : Code) × (m .code ≡ PUSH n ⨾ c))
 IsFor add h m = (c : Code) × (m .code ≡ ADD ⨾ c)
 IsFor begin h m = (c : Code) × (m .code ≡ BEGIN ⨾ c)
 IsFor read h m = (v : ℕ) × ((c : Code) × (m .code ≡ READ v ⨾ c))
 IsFor write h m = (v : ℕ) × ((c : Code) × (m .code ≡ WRITE v ⨾ c))
-IsFor commit h m = (c : Code) × ((m .code ≡ COMMIT ⨾ c) × (consistent 64 0 (m .reads) h ≡ true))
-IsFor fail h m = (c : Code) × ((m .code ≡ COMMIT ⨾ c) × (consistent 64 0 (m .reads) h ≡ false))
+IsFor commit h m = (c : Code) × ((m .code ≡ COMMIT ⨾ c) × (consistent 64 0 (m .reads) (h .counts) ≡ true))
+IsFor fail h m = (c : Code) × ((m .code ≡ COMMIT ⨾ c) × (consistent 64 0 (m .reads) (h .counts) ≡ false))
 
 -- it is the first thread of the soup that steps
-unfoldable pub First : {sum : Rule} {h h′ : Registers} {s s′ : List SThread} → StepM sum h s h′ s′ → Type 0
+unfoldable pub First : {sum : Rule} {h h′ : Table} {s s′ : List SThread} → StepM sum h s h′ s′ → Type 0
 First (Preempt x) = ⊥
 First ForkM = Unit {0}
 First PushM = Unit {0}
@@ -110,7 +110,7 @@ sourceRule rules.commit = commit
 sourceRule (rules.sentBackWith v) = fail
 
 -- a step by the rule that an event names
-pub record ByRule (sum : Rule) (h : Registers) (soup : List SThread) (h′ : Registers) (soup′ : List SThread) (event : Event) : Type 0 where
+pub record ByRule (sum : Rule) (h : Table) (soup : List SThread) (h′ : Table) (soup′ : List SThread) (event : Event) : Type 0 where
   pub step : StepM sum h soup h′ soup′
   pub rule : named event ≡ some (ruleOf step)
 
@@ -120,7 +120,7 @@ load p = record { code = compileP p ε; stack = []; again = ε; reads = empty; w
 
 -- A pick of thread i as a step of the soup, which leaves the heap h′ and the soup′. The source puts a forked child behind its parent,
 -- document 01 gives it the next number.
-pub record PickOn (bytes : List ℕ) (sum : Rule) (s : State) (i : ℕ) (soup : List SThread) (h′ : Registers) (soup′ : List SThread) : Type 0 where
+pub record PickOn (bytes : List ℕ) (sum : Rule) (s : State) (i : ℕ) (soup : List SThread) (h′ : Table) (soup′ : List SThread) : Type 0 where
   pub front : List SThread
   pub m : SThread
   pub m′ : SThread
@@ -129,10 +129,10 @@ pub record PickOn (bytes : List ℕ) (sum : Rule) (s : State) (i : ℕ) (soup : 
   pub number : length front ≡ i
   pub was : soup ≡ front ++ (m ∷ behind)
   -- the thread's own step, whatever the other threads are
-  pub step : (others : List SThread) → StepM sum (s .registers) (m ∷ others) h′ (m′ ∷ (new ++ others))
+  pub step : (others : List SThread) → StepM sum (tableIn s) (m ∷ others) h′ (m′ ∷ (new ++ others))
   pub its : (others : List SThread) → First (step others)
   pub rule : (others : List SThread) → named (pick sum bytes s i .event) ≡ some (ruleOf (step others))
-  pub whole : ByRule sum (s .registers) soup h′ soup′ (pick sum bytes s i .event)
+  pub whole : ByRule sum (tableIn s) soup h′ soup′ (pick sum bytes s i .event)
   pub becomes : soup′ ≡ front ++ (m′ ∷ (new ++ behind))
-  pub heap : pick sum bytes s i .state .registers ≡ h′
+  pub heap : tableIn (pick sum bytes s i .state) ≡ h′
   pub left : Soup bytes (pick sum bytes s i .state) (front ++ (m′ ∷ (behind ++ new)))

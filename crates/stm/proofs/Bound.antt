@@ -14,7 +14,7 @@ use Rattle.stm.specs.InnerCells.{Cells}
 use Rattle.stm.specs.InnerTasks.{Log, Task, outside, inside, ended, Did, firstStale, overwritten, commits, stays, goes, stepOutside, stepInside, stepTask, System, taskAt, started, did, next, endOf, eventsOf, start}
 use Rattle.stm.specs.InnerMeaning.{TakesOutside, TakesInside, Outside, Inside, behind, beginsIn, begins, forksIn, forksOf, toCome, commitsToCome, forksToCome, dirty, total}
 use Rattle.stm.proofs.Codes.{proc-runs}
-use Rattle.stm.proofs.SentBack.{Staleness, staleness, at-next, never, no}
+use Rattle.stm.proofs.SentBack.{StepStaleness, staleness, at-next, never, no}
 use Rattle.code.specs.Compile.{Code, PUSH, ADD, READ, WRITE, BEGIN, COMMIT, FORK, ε, _⨾_, compileT, compileP}
 use Rattle.code.specs.Counts.{instructionCount, codeCount, untilCommit, longestAt, longestIn}
 use Rattle.code.proofs.Heights.{count-proc, longest-proc}
@@ -366,7 +366,7 @@ module _ (K : Cells) where
           (subst (λ (n : ℕ). Bounded L M A T steps commits n s) (let z : backs ≡ backs + 0 = omega arith in z) b)))
 
       -- ---- a pick of a task
-      module _ (l : i < length (s .tasks)) (d : Did K) (m : Moves K M (taskAt K s i) d) (f : Staleness K sum (s .table) (taskAt K s i) d) where
+      module _ (l : i < length (s .tasks)) (d : Did K) (m : Moves K M (taskAt K s i) d) (f : StepStaleness K sum (s .table) (taskAt K s i) d) where
         abbrev after : List (Task K)
         after = set (s .tasks) i (d .task) ++ started K (d .children)
 

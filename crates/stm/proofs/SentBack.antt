@@ -68,7 +68,7 @@ module _ (K : Cells) where
   -- ---- one step
   module _ (sum : Rule) where
     -- what a step does to the table and to the staleness of its task
-    pub record Staleness (h : List (K .Cell)) (t : Task K) (d : Did K) : Type 0 where
+    pub record StepStaleness (h : List (K .Cell)) (t : Task K) (d : Did K) : Type 0 where
       -- no step but a COMMIT that takes effect changes the table
       pub table-kept : isCommit (d .event) ≡ false → d .table ≡ h
       -- none makes its task dirty
@@ -81,7 +81,7 @@ module _ (K : Cells) where
       pub commit-clean : isCommit (d .event) ≡ true → dirty K h t ≡ false
       pub committed-clean : isCommit (d .event) ≡ true → (g : List (K .Cell)) → dirty K g (d .task) ≡ false
 
-    same-task : (h : List (K .Cell)) (t u : Task K) (e : Event) {over : ℕ} → isCommit e ≡ false → isBack e ≡ false → dirty K h u ≡ dirty K h t → Staleness h t (record { task = u; table = h; children = []; event = e; over = over })
+    same-task : (h : List (K .Cell)) (t u : Task K) (e : Event) {over : ℕ} → isCommit e ≡ false → isBack e ≡ false → dirty K h u ≡ dirty K h t → StepStaleness h t (record { task = u; table = h; children = []; event = e; over = over })
     same-task h t u e c b d = record {
       table-kept = λ x. refl;
       stays-clean = λ x. d ∙ x;
@@ -91,7 +91,7 @@ module _ (K : Cells) where
       committed-clean = λ x g. no (sym c ∙ x);
     }
 
-    outside-staleness : (h : List (K .Cell)) (c : Code) (σ : List ℤ) → Staleness h (outside c σ) (stepOutside K sum h c σ)
+    outside-staleness : (h : List (K .Cell)) (c : Code) (σ : List ℤ) → StepStaleness h (outside c σ) (stepOutside K sum h c σ)
     unfolding stepOutside
     outside-staleness h ε σ = same-task h _ _ _ refl refl refl
     outside-staleness h (PUSH n ⨾ c) σ = same-task h _ _ _ refl refl refl
@@ -111,7 +111,7 @@ module _ (K : Cells) where
       committed-clean = λ x g. refl;
     }
 
-    commit-staleness : (h : List (K .Cell)) (body : Code) (base : List ℤ) (c : Code) (n : ℤ) (σ : List ℤ) (r : Log (K .Cell)) (w : Log ℤ) (over : ℕ) → Staleness h (inside body base (COMMIT ⨾ c) (n ∷ σ) r w over) (commits K h body base c n w over (firstStale K 64 0 r h))
+    commit-staleness : (h : List (K .Cell)) (body : Code) (base : List ℤ) (c : Code) (n : ℤ) (σ : List ℤ) (r : Log (K .Cell)) (w : Log ℤ) (over : ℕ) → StepStaleness h (inside body base (COMMIT ⨾ c) (n ∷ σ) r w over) (commits K h body base c n w over (firstStale K 64 0 r h))
     commit-staleness h body base c n σ r w over = go (ltb (firstStale K 64 0 r h) 64) refl
       where
         result : Bool → Did K
@@ -120,7 +120,7 @@ module _ (K : Cells) where
           | false ↦ record { task = outside c (n ∷ base); table = overwritten K 64 0 w h; children = []; event = committed; over = over }
         ]
 
-        go : (b : Bool) → ltb (firstStale K 64 0 r h) 64 ≡ b → Staleness h (inside body base (COMMIT ⨾ c) (n ∷ σ) r w over) (result b)
+        go : (b : Bool) → ltb (firstStale K 64 0 r h) 64 ≡ b → StepStaleness h (inside body base (COMMIT ⨾ c) (n ∷ σ) r w over) (result b)
         go true e = record {
           table-kept = λ x. refl;
           stays-clean = λ x. refl;
@@ -138,7 +138,7 @@ module _ (K : Cells) where
           committed-clean = λ x g. refl;
         }
 
-    inside-staleness : (h : List (K .Cell)) (body : Code) (base : List ℤ) (c : Code) (σ : List ℤ) (r : Log (K .Cell)) (w : Log ℤ) (over : ℕ) → Staleness h (inside body base c σ r w over) (stepInside K sum h body base c σ r w over)
+    inside-staleness : (h : List (K .Cell)) (body : Code) (base : List ℤ) (c : Code) (σ : List ℤ) (r : Log (K .Cell)) (w : Log ℤ) (over : ℕ) → StepStaleness h (inside body base c σ r w over) (stepInside K sum h body base c σ r w over)
     unfolding stepInside
     inside-staleness h body base ε σ r w over = same-task h _ _ _ refl refl refl
     inside-staleness h body base (PUSH n ⨾ c) σ r w over = same-task h _ _ _ refl refl refl
@@ -154,7 +154,7 @@ module _ (K : Cells) where
     inside-staleness h body base (FORK k ⨾ c) σ r w over = same-task h _ _ _ refl refl refl
 
     -- every step of every task
-    pub staleness : (h : List (K .Cell)) (t : Task K) → Staleness h t (stepTask K sum h t)
+    pub staleness : (h : List (K .Cell)) (t : Task K) → StepStaleness h t (stepTask K sum h t)
     unfolding stepTask
     staleness h (outside c σ) = outside-staleness h c σ
     staleness h (inside body base c σ r w over) = inside-staleness h body base c σ r w over

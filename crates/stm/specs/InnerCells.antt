@@ -1,12 +1,12 @@
 -- For the proofs, nobody has to believe it: what a register's cell may be, and when a logged cell is stale.
-use Prim.Native.Nat.{ℕ, _≤_}
-use mathlib.Core.Bool.{Bool, true, false, _||_}
+use Prim.Native.Nat.{ℕ, suc, _≤_}
+use mathlib.Core.Bool.{Bool, true, false, not}
 use mathlib.Core.Path.{_≡_, refl, ap}
 use native.Mathlib.Omega.{arith}
-use borrow.Author.Tests.{le-ltb, ltb-false}
-use lib.Dec.{ltb}
-use lib.IntN.{ℤ, pos, negsuc}
-use lib.Signed.{ltZ}
+use borrow.Author.Tests.{eqb-true, eq-eqb, ne-eqb}
+use lib.Dec.{eqb}
+use lib.IntN.{ℤ, pos}
+use Rattle.stm.specs.Counted.{Counted}
 
 -- A cell of the table, and what makes one stale that was logged. `Past l c`: l is c, or was c before commits wrote it.
 pub record Cells : Type 1 where
@@ -25,54 +25,33 @@ pub record Cells : Type 1 where
   pub past-written : (l c : Cell) (n : ℤ) → Past l c → Past l (written c n)
   pub not-stale : (l c : Cell) → Past l c → stale l c ≡ false → value l ≡ value c
 
--- ---- differing values, as they are tested
--- no number of this kind is less than itself
-nat-self : (n : ℕ) → ltb n n ≡ false
-nat-self n = le-ltb n n (omega arith)
+-- a test whose negation fails holds
+pub not-not : (b : Bool) → not b ≡ false → b ≡ true
+not-not true e = refl
+not-not false e = absurd (let z : _≡_ {A = ℕ} 0 1 = cc in omega arith)
 
--- no number is less than itself
-self : (c : ℤ) → ltZ c c ≡ false
-self (pos n) = nat-self n
-self (negsuc n) = nat-self n
-
--- a number does not differ from itself, as it is tested
-pub same-not-less : (c : ℤ) → (ltZ c c || ltZ c c) ≡ false
-same-not-less c = rw (self c)
-
--- neither of the two is true
-both-false : (a b : Bool) → (a || b) ≡ false → (a ≡ false) × (b ≡ false)
-both-false true b e = absurd (let z : _≡_ {A = ℕ} 0 1 = cc in omega arith)
-both-false false b e = (refl, e)
-
--- what does not differ, as it is tested, is equal
-pub neither-less : (l c : ℤ) → (ltZ l c || ltZ c l) ≡ false → l ≡ c
-neither-less (pos a) (pos b) e =
-    let f = both-false (ltb a b) (ltb b a) e in
-    let x : b ≤ a = ltb-false a b (f .0) in
-    let y : a ≤ b = ltb-false b a (f .1) in
-    ap pos (let z : a ≡ b = omega arith in z)
-neither-less (pos a) (negsuc b) e = absurd (let z : _≡_ {A = ℕ} 0 1 = cc in omega arith)
-neither-less (negsuc a) (pos b) e = absurd (let z : _≡_ {A = ℕ} 0 1 = cc in omega arith)
-neither-less (negsuc a) (negsuc b) e =
-    let f = both-false (ltb b a) (ltb a b) e in
-    let x : a ≤ b = ltb-false b a (f .0) in
-    let y : b ≤ a = ltb-false a b (f .1) in
-    ap negsuc (let z : a ≡ b = omega arith in z)
-
--- document 01: a cell is its value, and "stale if its read log value differs from the table's"
-abbrev pub byValue : Cells
-byValue =
+-- document 02 No. 6: "stale if a commit wrote it after it entered the read log, even with an equal value"; a commit's write raises the count
+abbrev pub byCount : Cells
+byCount =
     record {
-      Cell = ℤ;
-      value = λ c. c;
-      blank = pos 0;
-      written = λ c n. n;
-      stale = λ l c. ltZ l c || ltZ c l;
-      Past = λ l c. Unit {0};
+      Cell = Counted;
+      value = λ c. c .value;
+      blank = record { value = pos 0; count = 0 };
+      written = λ c n. record { value = n; count = suc (c .count) };
+      stale = λ l c. not (eqb (l .count) (c .count));
+      Past = λ l c. (l .count ≤ c .count) × (l .count ≡ c .count → l .value ≡ c .value);
       blank-value = refl;
       written-value = λ c n. refl;
-      just-read = same-not-less;
-      past-now = λ c. tt;
-      past-written = λ l c n p. tt;
-      not-stale = λ l c p e. neither-less l c e;
+      just-read = λ c. rw (eq-eqb (c .count) (c .count) refl);
+      past-now = λ c. (omega arith, λ e. refl);
+      past-written = λ l c n p. let q : l .count ≤ c .count = p .0 in (omega arith, λ e. absurd (omega arith));
+      not-stale = λ l c p e. p .1 (eqb-true (l .count) (c .count) (not-not (eqb (l .count) (c .count)) e));
     }
+
+-- staleness that is exact: a register that was written is stale, with whatever value
+pub record Exact (K : Cells) : Type 0 where
+  pub written-stale : (l c : K .Cell) (n : ℤ) → K .Past l c → K .stale l (K .written c n) ≡ true
+
+-- by count it is
+pub byCount-exact : Exact byCount
+byCount-exact = record { written-stale = λ l c n p. let q : l .count ≤ c .count = p .0 in ap not (ne-eqb (l .count) (suc (c .count)) (λ e. omega arith)) }

@@ -7,22 +7,24 @@ use mathlib.Core.List.{List, [], _∷_, _++_}
 use mathlib.Core.Option.{Option, none, some}
 use native.Mathlib.Omega.{arith}
 use native.Mathlib.Numerals.{add-one}
-use borrow.Author.Tests.{eqb-true, eq-eqb, ltb-true, lt-leb}
+use borrow.Author.Tests.{eqb-true, eq-eqb, ltb-true, lt-leb, le-ltb}
 use lib.Dec.{eqb, leb, ltb}
 use lib.IntN.{ℤ}
+use Rattle.stm.specs.Counted.{Table}
 use lib.ListN.{length, drop, getD, take, drop-of-length-le}
 use lib.Seq.{drop-cons, take-suc}
 use Rattle.thread.specs.declared.Thread.{Thread}
-use Rattle.thread.specs.InnerStep.{staleRead}
+use Rattle.thread.specs.InnerStep.{staleRead, firstStaleIn}
+use Rattle.thread.proofs.Loops.{first-in}
 use Rattle.thread.specs.Threads.{blank, exists, firstStale}
-use Rattle.machine.specs.Steps.{State, threadAt, Child, numberOf}
+use Rattle.machine.specs.Steps.{State, tableIn, threadAt, Child, numberOf}
 use Rattle.machine.specs.Fits.{Walked, ownCode}
-use Rattle.machine.specs.FitTest.{walkTo, free, agreesWith, placed, allZero, noneBehind, inFront, same, passedBy, among, allAmong, oneEach, commitsPassed, needs, allTallied, fitsBeside}
+use Rattle.machine.specs.FitTest.{walkTo, free, withinFrom, atMostFrom, agreesWith, placed, allZero, noneBehind, inFront, same, passedBy, among, allAmong, oneEach, commitsPassed, needs, allTallied, fitsBeside}
 use Rattle.survey.specs.declared.Survey.{Survey}
 use Rattle.survey.specs.declared.Row.{Row}
-use Rattle.survey.specs.InnerRecords.{emptySurvey, zeroFrom, tidy, needIn, withTo, surveyFrom, surveyOf}
+use Rattle.survey.specs.InnerRecords.{emptySurvey, zeroFrom, tidy, neededIn, needIn, withTo, surveyFrom, surveyOf}
 use Rattle.survey.specs.InnerWalk.{ownAt, firstVerdict, rowAt, judgeAll, allAsked, allMet, surveyFits}
-use Rattle.survey.proofs.Yes.{never, alike, first, second, both}
+use Rattle.survey.proofs.Yes.{never, alike, first, second, both, and-yes, and-no}
 use Rattle.survey.proofs.Records.{zeros-of, shut, tidy-of, is-tidy}
 use Rattle.survey.proofs.Judging.{survey-parts, survey-whole}
 use Rattle.survey.proofs.Shows.{tidyFront, at, Shows, survey-shows, survey-good}
@@ -70,8 +72,9 @@ module _ (bytes : List ℕ) (t : Thread) where
   placed-parts e =
       let a = agreed (walkTo bytes t) (first _ _ e) in
       let e1 = second (agreesWith t (walkTo bytes t)) _ e in
-      let e2 = second (free (member (t .reads)) (t .readlog)) _ e1 in (
-        is-tidy t (record { shut = a .1; readlog = first _ _ e1; writelog = first _ _ e2; cells = second (free (member (t .writes)) (t .writelog)) _ e2 }),
+      let e2 = second (free (member (t .reads)) (t .readlog)) _ e1 in
+      let e3 = second (free (member (t .writes)) (t .writelog)) _ e2 in (
+        is-tidy t (record { shut = a .1; readlog = first _ _ e1; writelog = first _ _ e2; cells = first _ _ e3; readcounts = second (free (λ n. ltb n (t .height)) (t .cells)) _ e3 }),
         a .0,
       )
 
@@ -79,7 +82,7 @@ module _ (bytes : List ℕ) (t : Thread) where
   unfolding placed zeroFrom
   parts-placed y a =
       let z = tidy-of t y in
-      both (agreeing-back (walkTo bytes t) a (z .shut)) (both (z .readlog) (both (z .writelog) (z .cells)))
+      both (agreeing-back (walkTo bytes t) a (z .shut)) (both (z .readlog) (both (z .writelog) (both (z .cells) (z .readcounts))))
 
 -- ---- the records one after the other
 none-agree : (bytes : List ℕ) (ts : List Thread) → noneBehind ts ≡ true → agreeAll bytes ts ≡ true
@@ -111,11 +114,18 @@ parts-front bytes (t ∷ ts) e a = go (exists t) e a (λ f g. parts-front bytes 
     go false f a ih = f
 
 -- ---- what a record needs
-need-same : (table : List ℤ) (t : Thread) (n : ℕ) → length table ≡ 64 → n < 18446744073709551615 → leb (needIn table t) n ≡ leb (needs table t) n
-unfolding needIn needs staleRead saturated
+need-same : (table : Table) (t : Thread) (n : ℕ) → length (table .counts) ≡ 64 → n < 18446744073709551615 → leb (needIn (table .counts) t) n ≡ (leb (needs table t) n && withinFrom 64 0 (t .readcounts) (table .counts))
+unfolding needIn neededIn needs staleRead saturated
 need-same table t n wide small =
-    ap (λ (b : Bool). leb (cond (cond b found false) (saturated (t .backs) 1) (t .backs)) n) (eq-eqb (length table) 64 wide) ∙ go found
+    ap (λ (b : Bool). leb (cond b (cond within (cond (cond b sought false) (saturated (t .backs) 1) (t .backs)) 18446744073709551615) (t .backs)) n) (eq-eqb (length (table .counts)) 64 wide)
+    ∙ (ap (λ (k : ℕ). leb (cond within (cond (ltb k 64) (saturated (t .backs) 1) (t .backs)) 18446744073709551615) n) (first-in 64 0 t table) ∙ all within)
   where
+    within : Bool
+    within = withinFrom 64 0 (t .readcounts) (table .counts)
+
+    sought : Bool
+    sought = ltb (firstStaleIn 64 0 (t .reads) (t .readcounts) (table .counts)) 64
+
     found : Bool
     found = ltb (firstStale 64 0 t table) 64
 
@@ -129,61 +139,75 @@ need-same table t n wide small =
     go true = one (ltb 18446744073709551615 (t .backs + 1)) refl
     go false = refl
 
-module _ (table : List ℤ) (wide : length table ≡ 64) (ts : List Thread) (long : length ts ≡ 16) (ns : List ℕ) (are : (i : ℕ) → getD ns i 0 ≡ needIn table (at ts i)) (n : ℕ) (small : n < 18446744073709551615) where
+    all : (w : Bool) → leb (cond w (cond found (saturated (t .backs) 1) (t .backs)) 18446744073709551615) n ≡ (leb (cond found (suc (t .backs)) (t .backs)) n && w)
+    all true = go found ∙ and-yes (leb (cond found (suc (t .backs)) (t .backs)) n) refl
+    all false = lt-leb 18446744073709551615 n small ∙ sym (and-no (leb (cond found (suc (t .backs)) (t .backs)) n) refl)
+
+module _ (table : Table) (wide : length (table .counts) ≡ 64) (ts : List Thread) (long : length ts ≡ 16) (ns : List ℕ) (are : (i : ℕ) → getD ns i 0 ≡ needIn (table .counts) (at ts i)) (n : ℕ) (small : n < 18446744073709551615) where
   met-tallied : (left i : ℕ) → i + left ≡ 16 → allMet left i ns n ≡ allTallied n table (drop i ts)
   unfolding allMet allTallied
   met-tallied zero i e = ap (allTallied n table) (sym (drop-of-length-le ts {i = i} (omega arith)))
   met-tallied (suc left) i e =
       ap (λ (k : ℕ). leb k n && allMet left (suc i) ns n) (are i)
       ∙ (ap (λ (b : Bool). b && allMet left (suc i) ns n) (need-same table (at ts i) n wide small)
-      ∙ (ap (λ (b : Bool). leb (needs table (at ts i)) n && b) (met-tallied left (suc i) (omega arith))
+      ∙ (ap (λ (b : Bool). (leb (needs table (at ts i)) n && withinFrom 64 0 (at ts i .readcounts) (table .counts)) && b) (met-tallied left (suc i) (omega arith))
       ∙ ap (allTallied n table) (sym (drop-cons ts i blank (omega arith)))))
 
 -- ---- the whole test
-module _ (others : ℕ) (bytes : List ℕ) (ts : List Thread) (table : List ℤ) where
+module _ (others : ℕ) (bytes : List ℕ) (ts : List Thread) (table : Table) where
   abbrev state : State
-  state = record { registers = table; threads = ts }
+  state = record { registers = table .registers; counts = table .counts; threads = ts }
+
+  abbrev passed : ℕ
+  passed = others + commitsPassed bytes ts
 
   abbrev whole : Child
   whole = record { start = 5; end = length bytes }
 
   record FitParts : Type 0 where
     records : length ts ≡ 16
-    registers : length table ≡ 64
+    registers : length (table .registers) ≡ 64
+    counts : length (table .counts) ≡ 64
     root : same (ownCode (threadAt state 0)) whole ≡ true
     front : inFront bytes ts ≡ true
     children : allAmong (passedBy bytes ts) (drop 1 ts) ≡ true
     one : oneEach (passedBy bytes ts) ts ≡ true
-    tallied : allTallied (others + commitsPassed bytes ts) table ts ≡ true
+    tallied : allTallied passed table ts ≡ true
+    most : atMostFrom 64 0 (table .counts) passed ≡ true
 
   fit-parts : fitsBeside others bytes state ≡ true → FitParts
   unfolding fitsBeside
   fit-parts e =
       let e1 = second (eqb (length ts) 16) _ e in
-      let e2 = second (eqb (length table) 64) _ e1 in
+      let ec = second (eqb (length (table .registers)) 64) _ e1 in
+      let e2 = second (eqb (length (table .counts)) 64) _ ec in
       let e3 = second (same (ownCode (threadAt state 0)) whole) _ e2 in
       let e4 = second (inFront bytes ts) _ e3 in
       let e5 = second (allAmong (passedBy bytes ts) (drop 1 ts)) _ e4 in
+      let e6 = second (oneEach (passedBy bytes ts) ts) _ e5 in
       record {
         records = eqb-true (length ts) 16 (first _ _ e);
-        registers = eqb-true (length table) 64 (first _ _ e1);
+        registers = eqb-true (length (table .registers)) 64 (first _ _ e1);
+        counts = eqb-true (length (table .counts)) 64 (first _ _ ec);
         root = first _ _ e2;
         front = first _ _ e3;
         children = first _ _ e4;
         one = first _ _ e5;
-        tallied = second (oneEach (passedBy bytes ts) ts) _ e5;
+        tallied = first _ _ e6;
+        most = second (allTallied passed table ts) _ e6;
       }
 
   parts-fit : FitParts → fitsBeside others bytes state ≡ true
   unfolding fitsBeside
   parts-fit p =
       both (eq-eqb (length ts) 16 (p .records))
-      (both (eq-eqb (length table) 64 (p .registers)) (both (p .root) (both (p .front) (both (p .children) (both (p .one) (p .tallied))))))
+      (both (eq-eqb (length (table .registers)) 64 (p .registers))
+      (both (eq-eqb (length (table .counts)) 64 (p .counts)) (both (p .root) (both (p .front) (both (p .children) (both (p .one) (both (p .tallied) (p .most))))))))
 
   abbrev s : Survey
-  s = surveyOf table ts
+  s = surveyOf (table .counts) ts
 
-  module _ (sh : Shows table ts s) (long : length ts ≡ 16) where
+  module _ (sh : Shows (table .counts) ts s) (long : length ts ≡ 16) where
     owns : (i : ℕ) → ownAt (s .starts) (s .ends) i ≡ ownCode (at ts i)
     owns i j = record { start = sh .starts i j; end = sh .ends i j }
 
@@ -205,66 +229,76 @@ module _ (others : ℕ) (bytes : List ℕ) (ts : List Thread) (table : List ℤ)
         let a : commitsPassed bytes ts ≤ 16 * length bytes = subst (λ (n : ℕ). commitsPassed bytes ts ≤ n * length bytes) long (found-low bytes ts) in
         judged g .counts (omega arith) ∙ (let z : 0 + commitsPassed bytes ts ≡ commitsPassed bytes ts = omega arith in z)
 
-    met-is : others + 16 * length bytes < 18446744073709551615 → length table ≡ 64 → judgeAll bytes s .good ≡ true → allMet 16 0 (s .needs) (saturated others (judgeAll bytes s .commits)) ≡ allTallied (others + commitsPassed bytes ts) table ts
+    passed-are : others + 16 * length bytes < 18446744073709551615 → judgeAll bytes s .good ≡ true → saturated others (judgeAll bytes s .commits) ≡ passed
+    passed-are short g =
+        let a : commitsPassed bytes ts ≤ 16 * length bytes = subst (λ (n : ℕ). commitsPassed bytes ts ≤ n * length bytes) long (found-low bytes ts) in
+        ap (saturated others) (commits-are short g) ∙ saturated-exact others (commitsPassed bytes ts) (omega arith)
+
+    met-is : others + 16 * length bytes < 18446744073709551615 → length (table .counts) ≡ 64 → judgeAll bytes s .good ≡ true → allMet 16 0 (s .needs) (saturated others (judgeAll bytes s .commits)) ≡ allTallied passed table ts
     met-is short wide g =
         let a : commitsPassed bytes ts ≤ 16 * length bytes = subst (λ (n : ℕ). commitsPassed bytes ts ≤ n * length bytes) long (found-low bytes ts) in
-        ap (λ (n : ℕ). allMet 16 0 (s .needs) (saturated others n)) (commits-are short g)
-        ∙ (ap (allMet 16 0 (s .needs)) (saturated-exact others (commitsPassed bytes ts) (omega arith))
-        ∙ met-tallied table wide ts long (s .needs) (sh .needs) (others + commitsPassed bytes ts) (omega arith) 16 0 refl)
+        ap (allMet 16 0 (s .needs)) (passed-are short g) ∙ met-tallied table wide ts long (s .needs) (sh .needs) passed (omega arith) 16 0 refl
+
+    most-is : others + 16 * length bytes < 18446744073709551615 → judgeAll bytes s .good ≡ true → atMostFrom 64 0 (table .counts) (saturated others (judgeAll bytes s .commits)) ≡ atMostFrom 64 0 (table .counts) passed
+    most-is short g = ap (atMostFrom 64 0 (table .counts)) (passed-are short g)
 
     root-is : same (ownAt (s .starts) (s .ends) 0) whole ≡ same (ownCode (threadAt state 0)) whole
     root-is = ap (λ (c : Child). same c whole) (owns 0)
 
-  there : others + 16 * length bytes < 18446744073709551615 → surveyFits s bytes (length table) others ≡ true → fitsBeside others bytes state ≡ true
+  there : others + 16 * length bytes < 18446744073709551615 → surveyFits s bytes (length (table .registers)) (table .counts) others ≡ true → fitsBeside others bytes state ≡ true
   there short e =
-      let p = survey-parts s bytes (length table) others e in
-      let sh = survey-shows table ts (p .good) in
+      let p = survey-parts s bytes (length (table .registers)) (table .counts) others e in
+      let sh = survey-shows (table .counts) ts (p .good) in
       let long : length ts ≡ 16 = sym (sh .seen) ∙ p .seen in
       let j = judged sh long (p .judged) in
       parts-fit
       (record {
         records = long;
         registers = p .table;
+        counts = p .counted;
         root = sym (root-is sh long) ∙ p .root;
         front = parts-front bytes ts (sh .front) (j .agree);
         children = sym (asked-is sh long (p .judged)) ∙ p .asked;
         one = j .one;
-        tallied = sym (met-is sh long short (p .table) (p .judged)) ∙ p .met;
+        tallied = sym (met-is sh long short (p .counted) (p .judged)) ∙ p .met;
+        most = sym (most-is sh long short (p .judged)) ∙ p .most;
       })
 
-  back : others + 16 * length bytes < 18446744073709551615 → fitsBeside others bytes state ≡ true → surveyFits s bytes (length table) others ≡ true
+  back : others + 16 * length bytes < 18446744073709551615 → fitsBeside others bytes state ≡ true → surveyFits s bytes (length (table .registers)) (table .counts) others ≡ true
   unfolding judgeAll firstVerdict
   back short e =
       let p = fit-parts e in
       let f = front-parts bytes ts (p .front) in
       let long = p .records in
-      let sh = survey-shows table ts (survey-good table ts (omega arith) (f .0)) in
+      let sh = survey-shows (table .counts) ts (survey-good (table .counts) ts (omega arith) (f .0)) in
       let g : judgeAll bytes s .good ≡ true = judged-all bytes ts long (s .starts) (s .ends) (owns sh long) (rowAt s) (sh .rows) 16 0 firstVerdict refl refl (f .1) (p .one) in
-      survey-whole s bytes (length table) others
+      survey-whole s bytes (length (table .registers)) (table .counts) others
       (record {
         good = sh .good;
         seen = sh .seen ∙ long;
         table = p .registers;
+        counted = p .counts;
         root = root-is sh long ∙ p .root;
         judged = g;
         asked = asked-is sh long g ∙ p .children;
-        met = met-is sh long short (p .registers) g ∙ p .tallied;
+        met = met-is sh long short (p .counts) g ∙ p .tallied;
+        most = most-is sh long short g ∙ p .most;
       })
 
--- the survey of any records, any register table and any code short enough for all COMMITs to be counted says what `fitsBeside` says
-pub survey-fits : (others : ℕ) (bytes : List ℕ) (s : State) → others + 16 * length bytes < 18446744073709551615 → surveyFits (surveyOf (s .registers) (s .threads)) bytes (length (s .registers)) others ≡ fitsBeside others bytes s
-survey-fits others bytes s short = alike _ _ (there others bytes (s .threads) (s .registers) short) (back others bytes (s .threads) (s .registers) short)
+-- the survey of any records, any register table, any counts and any code short enough for its COMMITs to be counted says what `fitsBeside` says
+pub survey-fits : (others : ℕ) (bytes : List ℕ) (s : State) → others + 16 * length bytes < 18446744073709551615 → surveyFits (surveyOf (s .counts) (s .threads)) bytes (length (s .registers)) (s .counts) others ≡ fitsBeside others bytes s
+survey-fits others bytes s short = alike _ _ (there others bytes (s .threads) (tableIn s) short) (back others bytes (s .threads) (tableIn s) short)
 
 -- a good survey has the number of threads
-pub survey-count : (table : List ℤ) (ts : List Thread) → surveyOf table ts .good ≡ true → surveyOf table ts .count ≡ numberOf ts
+pub survey-count : (table : List ℕ) (ts : List Thread) → surveyOf table ts .good ≡ true → surveyOf table ts .count ≡ numberOf ts
 survey-count table ts g = survey-shows table ts g .count
 
 -- ---- the survey, record after record
-from-more : (s : Survey) (table : List ℤ) (ts : List Thread) (t : Thread) → surveyFrom s table (ts ++ t ∷ []) ≡ withTo (surveyFrom s table ts) table t
+from-more : (s : Survey) (table : List ℕ) (ts : List Thread) (t : Thread) → surveyFrom s table (ts ++ t ∷ []) ≡ withTo (surveyFrom s table ts) table t
 unfolding surveyFrom
 from-more s table [] t = refl
 from-more s table (p ∷ ts) t = from-more (withTo s table p) table ts t
 
-pub survey-more : (table : List ℤ) (ts : List Thread) (i : ℕ) → i < length ts → surveyOf table (take (suc i) ts) ≡ withTo (surveyOf table (take i ts)) table (at ts i)
+pub survey-more : (table : List ℕ) (ts : List Thread) (i : ℕ) → i < length ts → surveyOf table (take (suc i) ts) ≡ withTo (surveyOf table (take i ts)) table (at ts i)
 unfolding surveyOf
 survey-more table ts i h = ap (surveyOf table) (take-suc ts i blank h) ∙ from-more emptySurvey table (take i ts) (at ts i)

@@ -1,5 +1,5 @@
 -- One turn of each loop over records or over numbers. Assumes nothing.
-use Prim.Native.Nat.{ℕ, suc, _+_, _-_, _≤_, _<_}
+use Prim.Native.Nat.{ℕ, zero, suc, _+_, _-_, _≤_, _<_}
 use mathlib.Core.Bool.{Bool, true, false, _&&_, _||_}
 use mathlib.Core.Path.{_≡_, refl, sym, ap, _∙_}
 use mathlib.Core.List.{List}
@@ -10,7 +10,7 @@ use lib.Dec.{eqb, leb}
 use lib.IntN.{ℤ, pos}
 use lib.ListN.{getD}
 use Rattle.machine.specs.Steps.{Child}
-use Rattle.machine.specs.FitTest.{freeFrom, isZero, same}
+use Rattle.machine.specs.FitTest.{freeFrom, isZero, same, uncountedFrom, withinFrom, atMostFrom}
 use Rattle.survey.specs.declared.Row.{Row}
 use Rattle.survey.specs.declared.Asked.{Asked}
 use Rattle.survey.specs.declared.Verdict.{Verdict}
@@ -51,6 +51,73 @@ module _ (used : ℕ → Bool) (ns : List ℤ) where
       all : (a : Bool) → (a && true) ≡ a
       all true = refl
       all false = refl
+
+-- ---- a test of all 64
+module _ (good : ℕ → Bool) (all : (left v : ℕ) → Bool) (last : (v : ℕ) → all zero v ≡ true) (next : (left v : ℕ) → all (suc left) v ≡ (good v && all left (suc v))) where
+  abbrev allAt : ℕ → Bool
+  allAt v = all (64 - v) v
+
+  all-step : (v : ℕ) → v < 64 → allAt v ≡ (good v && allAt (v + 1))
+  all-step v h = ap (λ (k : ℕ). all k v) (fewer 64 v h) ∙ (next (64 - (v + 1)) v ∙ ap (λ (i : ℕ). good v && all (64 - (v + 1)) i) (sym (add-one v)))
+
+  all-again : (v : ℕ) (so far : Bool) → v < 64 → (so && allAt v) ≡ allAt 0 → far ≡ (so && good v) → (far && allAt (v + 1)) ≡ allAt 0
+  all-again v so far h inv e = ap (_&& allAt (v + 1)) e ∙ (both-and so (good v) (allAt (v + 1)) ∙ (sym (ap (so &&_) (all-step v h)) ∙ inv))
+    where
+      both-and : (a b c : Bool) → ((a && b) && c) ≡ (a && (b && c))
+      both-and true b c = refl
+      both-and false b c = refl
+
+  all-done : (v : ℕ) (so : Bool) → 64 ≤ v → (so && allAt v) ≡ allAt 0 → so ≡ allAt 0
+  all-done v so h inv = sym (whole so) ∙ (sym (ap (so &&_) (ap (λ (k : ℕ). all k v) (none-left 64 v h) ∙ last v)) ∙ inv)
+    where
+      whole : (a : Bool) → (a && true) ≡ a
+      whole true = refl
+      whole false = refl
+
+module _ (used : ℕ → Bool) (ns : List ℕ) where
+  abbrev pub countKept : ℕ → Bool
+  countKept v = used v || eqb (getD ns v 0) 0
+
+  abbrev pub uncountedAt : ℕ → Bool
+  uncountedAt v = uncountedFrom (64 - v) v used ns
+
+  pub uncounted-again : (v : ℕ) (so far : Bool) → v < 64 → (so && uncountedAt v) ≡ uncountedAt 0 → far ≡ (so && countKept v) → (far && uncountedAt (v + 1)) ≡ uncountedAt 0
+  unfolding uncountedFrom
+  uncounted-again = all-again countKept (λ left v. uncountedFrom left v used ns) (λ v. refl) (λ left v. refl)
+
+  pub uncounted-done : (v : ℕ) (so : Bool) → 64 ≤ v → (so && uncountedAt v) ≡ uncountedAt 0 → so ≡ uncountedAt 0
+  unfolding uncountedFrom
+  uncounted-done = all-done countKept (λ left v. uncountedFrom left v used ns) (λ v. refl) (λ left v. refl)
+
+module _ (ns ms : List ℕ) where
+  abbrev pub notAhead : ℕ → Bool
+  notAhead v = leb (getD ns v 0) (getD ms v 0)
+
+  abbrev pub withinAt : ℕ → Bool
+  withinAt v = withinFrom (64 - v) v ns ms
+
+  pub within-again : (v : ℕ) (so far : Bool) → v < 64 → (so && withinAt v) ≡ withinAt 0 → far ≡ (so && notAhead v) → (far && withinAt (v + 1)) ≡ withinAt 0
+  unfolding withinFrom
+  within-again = all-again notAhead (λ left v. withinFrom left v ns ms) (λ v. refl) (λ left v. refl)
+
+  pub within-done : (v : ℕ) (so : Bool) → 64 ≤ v → (so && withinAt v) ≡ withinAt 0 → so ≡ withinAt 0
+  unfolding withinFrom
+  within-done = all-done notAhead (λ left v. withinFrom left v ns ms) (λ v. refl) (λ left v. refl)
+
+module _ (ns : List ℕ) (most : ℕ) where
+  abbrev pub notAbove : ℕ → Bool
+  notAbove v = leb (getD ns v 0) most
+
+  abbrev pub mostAt : ℕ → Bool
+  mostAt v = atMostFrom (64 - v) v ns most
+
+  pub most-again : (v : ℕ) (so far : Bool) → v < 64 → (so && mostAt v) ≡ mostAt 0 → far ≡ (so && notAbove v) → (far && mostAt (v + 1)) ≡ mostAt 0
+  unfolding atMostFrom
+  most-again = all-again notAbove (λ left v. atMostFrom left v ns most) (λ v. refl) (λ left v. refl)
+
+  pub most-done : (v : ℕ) (so : Bool) → 64 ≤ v → (so && mostAt v) ≡ mostAt 0 → so ≡ mostAt 0
+  unfolding atMostFrom
+  most-done = all-done notAbove (λ left v. atMostFrom left v ns most) (λ v. refl) (λ left v. refl)
 
 -- ---- threads that were asked for
 module _ (starts : List ℕ) (asked : ℕ) where

@@ -1,24 +1,25 @@
 -- What a survey shows of the records that came: it is good exactly if there are at most 16, threads first and tidy and then records of no
 -- thread, and it then holds the numbers of each. Assumes nothing.
-use Prim.Native.Nat.{ℕ, suc, _+_, _≤_, _<_}
+use Prim.Native.Nat.{ℕ, zero, suc, _+_, _≤_, _<_}
 use mathlib.Core.Bool.{Bool, true, false, cond, not, _&&_}
 use mathlib.Core.Path.{_≡_, refl, sym, ap, subst, _∙_}
 use mathlib.Core.List.{List, [], _∷_, _++_, append-assoc, append-nil}
 use native.Mathlib.Decide.{decLt, ℕ-discrete}
 use native.Mathlib.Omega.{arith}
-use borrow.Author.Tests.{eqb-false, eq-eqb, ne-eqb, ltb-true, not-true}
-use lib.Dec.{eqb, ltb}
-use lib.IntN.{ℤ}
+use borrow.Author.Tests.{eqb-false, eqb-true, eq-eqb, ne-eqb, ltb-true, le-leb, not-true}
+use lib.Dec.{eqb, leb, ltb}
 use lib.ListN.{length, getD, set, replicate, getD-replicate, length-append, length-set, List·getD-append, List·getD-eq-default}
 use lib.Seq.{getD-append-seam, getD-set-same, getD-set-other}
 use Rattle.thread.specs.declared.Thread.{Thread}
-use Rattle.thread.specs.InnerStep.{staleRead}
+use Rattle.stm.specs.Counted.{Table}
+use Rattle.thread.specs.InnerStep.{staleRead, firstStaleIn}
 use Rattle.thread.specs.Threads.{blank, exists, firstStale}
+use Rattle.thread.proofs.Loops.{first-in}
 use Rattle.machine.specs.Steps.{numberOf}
-use Rattle.machine.specs.FitTest.{allZero, noneBehind}
+use Rattle.machine.specs.FitTest.{uncountedFrom, uncounted, withinFrom, allZero, noneBehind}
 use Rattle.survey.specs.declared.Survey.{Survey}
 use Rattle.survey.specs.declared.Row.{Row}
-use Rattle.survey.specs.InnerRecords.{rowOf, noRow, emptySurvey, unfitTo, passTo, putTo, tidy, needIn, withTo, surveyFrom, surveyOf}
+use Rattle.survey.specs.InnerRecords.{rowOf, noRow, emptySurvey, unfitTo, passTo, putTo, tidy, neededIn, needIn, withTo, surveyFrom, surveyOf}
 use Rattle.survey.specs.InnerWalk.{rowAt}
 use Rattle.machine.proofs.Stale.{found-stale, stale-none}
 use Rattle.word.specs.InnerCount.{saturated}
@@ -95,7 +96,7 @@ pub record Long (s : Survey) : Type 0 where
   rows : length (s .rows) ≡ 16
   needs : length (s .needs) ≡ 16
 
-pub record Shows (table : List ℤ) (ts : List Thread) (s : Survey) : Type 0 where
+pub record Shows (table : List ℕ) (ts : List Thread) (s : Survey) : Type 0 where
   pub good : s .good ≡ true
   pub seen : s .seen ≡ length ts
   pub few : length ts ≤ 16
@@ -114,19 +115,36 @@ set-long : {A : Type 0} (xs : List A) (k : ℕ) (v : A) → length xs ≡ 16 →
 set-long xs k v n = length-set xs k v ∙ n
 
 -- a record of no thread needs none
-no-need : (table : List ℤ) (t : Thread) → t .reads ≡ 0 → t .backs ≡ 0 → needIn table t ≡ 0
-unfolding needIn staleRead registers.none
-no-need table t r b = go (eqb (length table) 64) (ltb (firstStale 64 0 t table) 64) refl
+within-none : (left v : ℕ) (ns ms : List ℕ) → uncountedFrom left v (λ n. false) ns ≡ true → withinFrom left v ns ms ≡ true
+unfolding uncountedFrom withinFrom
+within-none zero v ns ms e = refl
+within-none (suc left) v ns ms e =
+    let z : getD ns v 0 ≡ 0 = eqb-true (getD ns v 0) 0 (first (eqb (getD ns v 0) 0) (uncountedFrom left (suc v) (λ n. false) ns) e) in
+    both (le-leb (getD ns v 0) (getD ms v 0) (omega (arith, z))) (within-none left (suc v) ns ms (second (eqb (getD ns v 0) 0) (uncountedFrom left (suc v) (λ n. false) ns) e))
+
+no-need : (table : List ℕ) (t : Thread) → t .reads ≡ 0 → t .backs ≡ 0 → uncounted (λ v. false) (t .readcounts) ≡ true → needIn table t ≡ 0
+unfolding needIn neededIn staleRead registers.none
+no-need table t r b u =
+    ap (λ (x : Bool). cond (eqb (length table) 64) (cond x (cond (staleRead table t) (saturated (t .backs) 1) (t .backs)) 18446744073709551615) (t .backs)) (within-none 64 0 (t .readcounts) table u)
+    ∙ go (eqb (length table) 64) (ltb (firstStaleIn 64 0 (t .reads) (t .readcounts) table) 64) refl
   where
-    go : (x y : Bool) → ltb (firstStale 64 0 t table) 64 ≡ y → cond (cond x y false) (saturated (t .backs) 1) (t .backs) ≡ 0
+    held : Table
+    held = record { registers = []; counts = table }
+
+    go : (x y : Bool) → ltb (firstStaleIn 64 0 (t .reads) (t .readcounts) table) 64 ≡ y → cond x (cond (cond x y false) (saturated (t .backs) 1) (t .backs)) (t .backs) ≡ 0
     go false y e = b
     go true false e = b
     go true true e =
-        let f = found-stale t table (ltb-true (firstStale 64 0 t table) 64 e) in
-        never (sym (f .its) ∙ stale-none t table r (firstStale 64 0 t table))
+        let l : firstStale 64 0 t held < 64 = ltb-true (firstStale 64 0 t held) 64 (ap (λ (k : ℕ). ltb k 64) (sym (first-in 64 0 t held)) ∙ e) in
+        let f = found-stale t held l in
+        never (sym (f .its) ∙ stale-none t held r (firstStale 64 0 t held))
+
+blank-uncounted : uncounted (λ v. false) (blank .readcounts) ≡ true
+unfolding blank uncountedFrom
+blank-uncounted = refl
 
 -- one record more
-module _ (table : List ℤ) (ts : List Thread) (s : Survey) (sh : Shows table ts s) (t : Thread) where
+module _ (table : List ℕ) (ts : List Thread) (s : Survey) (sh : Shows table ts s) (t : Thread) where
   more : length (ts ++ last t) ≡ length ts + 1
   more = length-append ts (last t)
 
@@ -184,7 +202,7 @@ module _ (table : List ℤ) (ts : List Thread) (s : Survey) (sh : Shows table ts
 
     blank-need : Zeros t → needIn table blank ≡ needIn table t
     unfolding blank registers.none
-    blank-need z = no-need table blank refl refl ∙ sym (no-need table t (z .reads) (z .backs))
+    blank-need z = no-need table blank refl refl blank-uncounted ∙ sym (no-need table t (z .reads) (z .backs) (z .readcounts))
 
     pass-shows : exists t ≡ false → allZero t ≡ true → Shows table (ts ++ last t) (passTo s)
     unfolding passTo
@@ -231,13 +249,13 @@ module _ (table : List ℤ) (ts : List Thread) (s : Survey) (sh : Shows table ts
       few (no h) = unfit-bad (with-many s table t (sh .good) (omega arith)) g
 
 -- a survey that is not good stays so
-stays : (table : List ℤ) (ts : List Thread) (s : Survey) → s .good ≡ false → surveyFrom s table ts .good ≡ false
+stays : (table : List ℕ) (ts : List Thread) (s : Survey) → s .good ≡ false → surveyFrom s table ts .good ≡ false
 unfolding surveyFrom
 stays table [] s g = g
 stays table (t ∷ ts) s g = stays table ts (withTo s table t) (ap (λ (r : Survey). r .good) (sym (with-bad s table t g)) ∙ g)
 
 -- all the records
-from-shows : (table : List ℤ) (ps ts : List Thread) (s : Survey) → Shows table ps s → surveyFrom s table ts .good ≡ true → Shows table (ps ++ ts) (surveyFrom s table ts)
+from-shows : (table : List ℕ) (ps ts : List Thread) (s : Survey) → Shows table ps s → surveyFrom s table ts .good ≡ true → Shows table (ps ++ ts) (surveyFrom s table ts)
 unfolding surveyFrom
 from-shows table ps [] s sh g = subst (λ (l : List Thread). Shows table l s) (sym (append-nil ps)) sh
 from-shows table ps (t ∷ ts) s sh g =
@@ -248,7 +266,7 @@ from-shows table ps (t ∷ ts) s sh g =
     go true e = with-shows table ps s sh t e
     go false e = absurd (clash (stays table ts (withTo s table t) e) g)
 
-empty-shows : (table : List ℤ) → Shows table [] emptySurvey
+empty-shows : (table : List ℕ) → Shows table [] emptySurvey
 unfolding emptySurvey tidyFront numberOf blank registers.none
 empty-shows table =
     record {
@@ -260,7 +278,7 @@ empty-shows table =
       rows = none noRow;
       starts = none 0;
       ends = none 0;
-      needs = λ i. none 0 i ∙ sym (no-need table blank refl refl);
+      needs = λ i. none 0 i ∙ sym (no-need table blank refl refl blank-uncounted);
       long = record { starts = refl; ends = refl; rows = refl; needs = refl };
     }
   where
@@ -271,12 +289,12 @@ empty-shows table =
         go (yes l) = getD-replicate 16 i d d l
         go (no l) = List·getD-eq-default (replicate 16 d) d {n = i} (let n : length (replicate 16 d) ≡ 16 = refl in omega arith)
 
-pub survey-shows : (table : List ℤ) (ts : List Thread) → surveyOf table ts .good ≡ true → Shows table ts (surveyOf table ts)
+pub survey-shows : (table : List ℕ) (ts : List Thread) → surveyOf table ts .good ≡ true → Shows table ts (surveyOf table ts)
 unfolding surveyOf
 survey-shows table ts g = from-shows table [] ts emptySurvey (empty-shows table) g
 
 -- ---- and it is good if the records are so
-blank-good : (table : List ℤ) (ts : List Thread) (s : Survey) → s .good ≡ true → s .seen + length ts ≤ 16 → noneBehind ts ≡ true → surveyFrom s table ts .good ≡ true
+blank-good : (table : List ℕ) (ts : List Thread) (s : Survey) → s .good ≡ true → s .seen + length ts ≤ 16 → noneBehind ts ≡ true → surveyFrom s table ts .good ≡ true
 unfolding surveyFrom noneBehind passTo
 blank-good table [] s g l e = g
 blank-good table (t ∷ ts) s g l e =
@@ -284,7 +302,7 @@ blank-good table (t ∷ ts) s g l e =
     let w = with-blank s table t g (omega arith) (zeros-of t z .start) z in
     subst (λ (r : Survey). surveyFrom r table ts .good ≡ true) w (blank-good table ts (passTo s) g (omega arith) (second (allZero t) _ e))
 
-tidy-good : (table : List ℤ) (ts : List Thread) (s : Survey) → s .good ≡ true → s .count ≡ s .seen → s .seen + length ts ≤ 16 → tidyFront ts ≡ true → surveyFrom s table ts .good ≡ true
+tidy-good : (table : List ℕ) (ts : List Thread) (s : Survey) → s .good ≡ true → s .count ≡ s .seen → s .seen + length ts ≤ 16 → tidyFront ts ≡ true → surveyFrom s table ts .good ≡ true
 unfolding surveyFrom tidyFront putTo
 tidy-good table [] s g c l e = g
 tidy-good table (t ∷ ts) s g c l e = go (exists t) refl e (λ f. tidy-good table ts (putTo s t (needIn table t)) g (omega arith) (omega arith) f)
@@ -296,6 +314,6 @@ tidy-good table (t ∷ ts) s g c l e = go (exists t) refl e (λ f. tidy-good tab
         subst (λ (r : Survey). surveyFrom r table ts .good ≡ true) w (ih (second (tidy t) _ f))
     go false x f ih = blank-good table (t ∷ ts) s g l f
 
-pub survey-good : (table : List ℤ) (ts : List Thread) → length ts ≤ 16 → tidyFront ts ≡ true → surveyOf table ts .good ≡ true
+pub survey-good : (table : List ℕ) (ts : List Thread) → length ts ≤ 16 → tidyFront ts ≡ true → surveyOf table ts .good ≡ true
 unfolding surveyOf emptySurvey
 survey-good table ts l e = tidy-good table ts emptySurvey refl refl (omega arith) e

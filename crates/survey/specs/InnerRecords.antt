@@ -4,12 +4,12 @@ use mathlib.Core.Bool.{Bool, true, false, cond, not, _&&_, _||_}
 use mathlib.Core.List.{List, [], _∷_}
 use lib.Dec.{eqb, ltb}
 use lib.IntN.{ℤ}
-use lib.ListN.{set, replicate}
+use lib.ListN.{length, set, replicate}
 use Rattle.survey.specs.declared.Row.{Row}
 use Rattle.survey.specs.declared.Survey.{Survey}
 use Rattle.thread.specs.declared.Thread.{Thread}
 use Rattle.thread.specs.InnerStep.{staleRead}
-use Rattle.machine.specs.FitTest.{free, allZero}
+use Rattle.machine.specs.FitTest.{free, uncounted, withinFrom, allZero}
 use Rattle.word.specs.InnerCount.{saturated}
 use Rattle.word.specs.Registers.{member}
 
@@ -81,15 +81,33 @@ zeroFrom height ns = free (λ n. ltb n height) ns
 unfoldable pub tidy : Thread → Bool
 tidy t =
     (not (eqb (t .begin) 0) || (eqb (t .reads) 0 && eqb (t .writes) 0))
-    && (free (member (t .reads)) (t .readlog) && (free (member (t .writes)) (t .writelog) && zeroFrom (t .height) (t .cells)))
+    && (free (member (t .reads)) (t .readlog)
+    && (free (member (t .writes)) (t .writelog)
+    && (zeroFrom (t .height) (t .cells) && uncounted (member (t .reads)) (t .readcounts))))
 
--- the fewest COMMITs passed with which a record fits; the greatest number stays
-unfoldable pub needIn : (table : List ℤ) → Thread → ℕ
-needIn table t = cond (staleRead table t) (saturated (t .backs) 1) (t .backs)
+-- a number as one of 32 bits, the greatest for a greater one
+unfoldable pub cappedTo : ℕ → ℕ
+cappedTo n = cond (ltb n 4294967295) n 4294967295
+
+-- the greatest number of 64 bits
+abbrev pub greatest : ℕ
+greatest = 18446744073709551615
+
+-- the fewest COMMITs passed with which a record fits, by whether its logged counts are not above the table's, and whether a read is stale; the greatest
+-- number where none is enough
+unfoldable pub neededIn : (low stale : Bool) (backs : ℕ) → ℕ
+neededIn low stale backs = cond low (cond stale (saturated backs 1) backs) greatest
+
+-- the same of a record
+unfoldable pub needIn : (counts : List ℕ) → Thread → ℕ
+needIn counts t =
+    cond (eqb (length counts) 64)
+    (neededIn (withinFrom 64 0 (t .readcounts) counts) (staleRead counts t) (t .backs))
+    (t .backs)
 
 -- the next record
-unfoldable pub withTo : Survey → (table : List ℤ) → Thread → Survey
-withTo s table t =
+unfoldable pub withTo : Survey → (counts : List ℕ) → Thread → Survey
+withTo s counts t =
     cond
     (s .good)
     (cond
@@ -97,15 +115,15 @@ withTo s table t =
     (cond
     (eqb (t .start) 0)
     (cond (allZero t) (passTo s) (unfitTo s))
-    (cond (eqb (s .count) (s .seen)) (cond (tidy t) (putTo s t (needIn table t)) (unfitTo s)) (unfitTo s)))
+    (cond (eqb (s .count) (s .seen)) (cond (tidy t) (putTo s t (needIn counts t)) (unfitTo s)) (unfitTo s)))
     (unfitTo s))
     s
 
 -- more records, one after the other
-unfoldable pub surveyFrom : Survey → (table : List ℤ) → List Thread → Survey
-surveyFrom s table [] = s
-surveyFrom s table (t ∷ ts) = surveyFrom (withTo s table t) table ts
+unfoldable pub surveyFrom : Survey → (counts : List ℕ) → List Thread → Survey
+surveyFrom s counts [] = s
+surveyFrom s counts (t ∷ ts) = surveyFrom (withTo s counts t) counts ts
 
--- the survey of these records, with this register table
-unfoldable pub surveyOf : (table : List ℤ) → List Thread → Survey
-surveyOf table ts = surveyFrom emptySurvey table ts
+-- the survey of these records, with these counts
+unfoldable pub surveyOf : (counts : List ℕ) → List Thread → Survey
+surveyOf counts ts = surveyFrom emptySurvey counts ts

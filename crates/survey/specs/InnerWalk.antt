@@ -15,7 +15,7 @@ use Rattle.ops.specs.declared.Op.{Op}
 use Rattle.ops.specs.declared.Op.the-variants as op
 use Rattle.machine.specs.Steps.{Child}
 use Rattle.machine.specs.Fits.{Walked, unmoved}
-use Rattle.machine.specs.FitTest.{walk, same}
+use Rattle.machine.specs.FitTest.{walk, same, atMostFrom}
 use Rattle.word.specs.InnerCount.{saturated}
 use Rattle.word.specs.Registers.{member, with}
 
@@ -206,10 +206,12 @@ allMet zero i needs commits = true
 allMet (suc left) i needs commits = leb (getD needs i 0) commits && allMet left (suc i) needs commits
 
 -- the whole test: 16 records, 64 registers, thread 0 with the whole code, and the threads, beside so many COMMITs passed by another job's threads
-unfoldable pub surveyFits : Survey → (bytes : List ℕ) (registers others : ℕ) → Bool
-surveyFits s bytes registers others =
+unfoldable pub surveyFits : Survey → (bytes : List ℕ) (registers : ℕ) (counts : List ℕ) (others : ℕ) → Bool
+surveyFits s bytes registers counts others =
     s .good
     && (eqb (s .seen) 16
     && (eqb registers 64
+    && (eqb (length counts) 64
     && (same (ownAt (s .starts) (s .ends) 0) (record { start = 5; end = length bytes })
-    && (allJudged (judgeAll bytes s) (s .starts) && allMet 16 0 (s .needs) (saturated others (judgeAll bytes s .commits))))))
+    && (allJudged (judgeAll bytes s) (s .starts)
+    && (allMet 16 0 (s .needs) (saturated others (judgeAll bytes s .commits)) && atMostFrom 64 0 counts (saturated others (judgeAll bytes s .commits))))))))

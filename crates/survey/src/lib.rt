@@ -1,10 +1,11 @@
 // The state test: what has to be known of the thread records, taken one after the other, and whether they fit the code.
 ghost use Prim.Native.Nat.{_+_, _-_, _<_, _≤_, _^_};
-ghost use lib.Dec.{eqb};
+ghost use lib.Dec.{eqb, leb};
+ghost use lib.ListN.{length};
 ghost use mathlib.Core.Bool.{_&&_, _||_, not};
 ghost use mathlib.Core.Path.{_≡_};
-ghost use Rattle.machine.specs.FitTest.{allZero, free, isZero};
-ghost use Rattle.survey.specs.InnerRecords.{zeroFrom, needIn, emptySurvey, unfitTo, passTo, putTo, tidy, withTo};
+ghost use Rattle.machine.specs.FitTest.{allZero, atMostFrom, free, isZero, uncounted, withinFrom};
+ghost use Rattle.survey.specs.InnerRecords.{cappedTo, zeroFrom, neededIn, needIn, emptySurvey, unfitTo, passTo, putTo, tidy, withTo};
 ghost use Rattle.survey.specs.InnerWalk.{addsAfter, agreeing, allAsked, allMet, askedFor, fallTo, forkTo, judgeAll, judgeTo, lostWalk, noteTo, noted, riseTo, stayTo, stepTo, surveyFits, walkFrom};
 ghost use Rattle.word.specs.Registers.{member};
 
@@ -106,6 +107,75 @@ fn is_log_free(set: u64, values: &[i32; 64]) -> bool
     kept
 }
 
+// Whether a count is in use or 0.
+fn is_counted(used: bool, n: u32) -> bool
+    ensures { λ r. ⌜ r ≡ (used || eqb n 0) ⌝ }
+{
+    if used {
+        return true;
+    }
+    n == 0
+}
+
+// Whether the counts of registers that are not marked are 0.
+fn is_uncounted(set: u64, counts: &[u32; 64]) -> bool
+    ensures { λ r. ⌜ r ≡ uncounted (member set) (now (counts .entry)) ⌝ }
+{
+    let mut kept = true;
+    let mut v: usize = 0;
+    while v < 64 {
+        let register = v as u8;
+        kept = both(kept, is_counted(word::has(set, register), counts[v]));
+        v += 1;
+    }
+    kept
+}
+
+// Whether no count of a read log is above the table's, which has 64.
+fn is_within(logged: &[u32; 64], counts: &[u32]) -> bool
+    requires { ⌜ length (now counts) ≡ 64 ⌝ }
+    ensures { λ r. ⌜ r ≡ withinFrom 64 0 (now (logged .entry)) (now (counts .entry)) ⌝ }
+{
+    let mut kept = true;
+    let mut v: usize = 0;
+    while v < 64 {
+        kept = both(kept, logged[v] <= counts[v]);
+        v += 1;
+    }
+    kept
+}
+
+// A number as a count, the greatest count for a greater number.
+fn capped(n: usize) -> u32
+    ensures { λ r. ⌜ r ≡ cappedTo n ⌝ }
+{
+    if n < 4294967295 {
+        return n as u32;
+    }
+    4294967295
+}
+
+// Whether a count is at most so many: both are compared as counts, so that several are tested at once.
+fn is_few(n: u32, most: usize) -> bool
+    ensures { λ r. ⌜ r ≡ leb n most ⌝ }
+{
+    n <= capped(most)
+}
+
+// Whether no count of the table is above so many.
+fn is_at_most(counts: &[u32], most: usize) -> bool
+    requires { ⌜ length (now counts) ≡ 64 ⌝ }
+    ensures { λ r. ⌜ r ≡ atMostFrom 64 0 (now (counts .entry)) most ⌝ }
+{
+    let mut kept = true;
+    let mut v: usize = 0;
+    while v < 64 {
+        kept = both(kept, is_few(counts[v], most));
+        v += 1;
+    }
+    kept
+}
+
 // Whether the numbers from a height on are 0. All of them are looked at, too.
 fn is_zero_from(height: usize, numbers: &[i32; 64]) -> bool
     ensures { λ r. ⌜ r ≡ zeroFrom height (now (numbers .entry)) ⌝ }
@@ -165,7 +235,11 @@ fn is_blank(t: thread::Thread) -> bool
         return false;
     }
     let writelog = t.writelog;
-    is_zero_from(0, &writelog)
+    if !is_zero_from(0, &writelog) {
+        return false;
+    }
+    let readcounts = t.readcounts;
+    is_uncounted(0, &readcounts)
 }
 
 // Whether a transaction is open or no register is marked.
@@ -197,18 +271,39 @@ fn is_tidy(t: thread::Thread) -> bool
         return false;
     }
     let cells = t.cells;
-    is_zero_from(t.height, &cells)
+    if !is_zero_from(t.height, &cells) {
+        return false;
+    }
+    let readcounts = t.readcounts;
+    is_uncounted(t.reads, &readcounts)
 }
 
-// The fewest COMMITs passed by all threads with which a record fits: its number of send-backs, and one more if it has a stale read.
-fn need(t: thread::Thread, registers: &[i32]) -> usize
-    ensures { λ r. ⌜ r ≡ needIn (now (registers .entry)) t ⌝ }
+// The fewest COMMITs passed by all threads with which a record fits: its number of send-backs, and one more if it has a stale read. Where a count of
+// its read log is above the table's no number is enough: the greatest.
+fn needed(low: bool, stale: bool, backs: usize) -> usize
+    ensures { λ r. ⌜ r ≡ neededIn low stale backs ⌝ }
 {
-    let backs = t.backs;
-    if t.has_stale(registers) {
+    if !low {
+        return 18446744073709551615;
+    }
+    if stale {
         return word::saturating_add(backs, 1);
     }
     backs
+}
+
+// The same of a record.
+fn need(t: thread::Thread, counts: &[u32]) -> usize
+    ensures { λ r. ⌜ r ≡ needIn (now (counts .entry)) t ⌝ }
+{
+    let backs = t.backs;
+    if counts.len() != 64 {
+        return backs;
+    }
+    let readcounts = t.readcounts;
+    let low = is_within(&readcounts, counts);
+    let stale = t.has_stale(counts);
+    needed(low, stale, backs)
 }
 
 impl Survey {
@@ -279,9 +374,9 @@ impl Survey {
         self
     }
 
-    // The next record, with every test that needs no code; the registers say whether it has a stale read.
-    pub fn with(self, t: thread::Thread, registers: &[i32]) -> Survey
-        ensures { λ r. ⌜ r ≡ withTo self (now (registers .entry)) t ⌝ }
+    // The next record, with every test that needs no code; the counts say whether it has a stale read.
+    pub fn with(self, t: thread::Thread, counts: &[u32]) -> Survey
+        ensures { λ r. ⌜ r ≡ withTo self (now (counts .entry)) t ⌝ }
     {
         if !self.good {
             return self;
@@ -301,7 +396,7 @@ impl Survey {
         if !is_tidy(t) {
             return self.refuse();
         }
-        let n = need(t, registers);
+        let n = need(t, counts);
         self.put(t, n)
     }
 }
@@ -682,10 +777,10 @@ impl Survey {
         v
     }
 
-    // Whether the records that came, with so many registers, are a state that fits the code, beside so many COMMITs that another job's threads
-    // have passed over the same registers.
-    pub fn fits(self, code: &[u8], registers: usize, others: usize) -> bool
-        ensures { λ r. ⌜ r ≡ surveyFits self (now (code .entry)) registers others ⌝ }
+    // Whether the records that came, with so many registers and these counts, are a state that fits the code, beside so many COMMITs that another job's
+    // threads have passed over the same registers.
+    pub fn fits(self, code: &[u8], registers: usize, counts: &[u32], others: usize) -> bool
+        ensures { λ r. ⌜ r ≡ surveyFits self (now (code .entry)) registers (now (counts .entry)) others ⌝ }
     {
         if !self.good {
             return false;
@@ -694,6 +789,9 @@ impl Survey {
             return false;
         }
         if registers != 64 {
+            return false;
+        }
+        if counts.len() != 64 {
             return false;
         }
         let starts = self.starts;
@@ -709,6 +807,10 @@ impl Survey {
             return false;
         }
         let needs = self.needs;
-        is_all_met(&needs, word::saturating_add(others, v.commits))
+        let commits = word::saturating_add(others, v.commits);
+        if !is_all_met(&needs, commits) {
+            return false;
+        }
+        is_at_most(counts, commits)
     }
 }

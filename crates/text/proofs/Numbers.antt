@@ -11,7 +11,7 @@ use lib.IntN.{pos, negsuc, negℤ}
 use lib.Dec.{leb, ltb}
 use borrow.Author.Tests.{lt-ltb, le-ltb, ltb-true, ltb-false, leb-true, leb-false, eq-eqb, ne-eqb}
 use Rattle.text.specs.declared.Number.{Number}
-use Rattle.text.specs.Texts.{place, after, decimal, onward, spelled, isLetter, lettered, sizeOf, nearest}
+use Rattle.text.specs.Texts.{place, after, decimal, onward, spelled, isLetter, lettered, sizeOf, nearest, nearestUp}
 
 split : {P : Type 0} (t : Bool) → (t ≡ true → P) → (t ≡ false → P) → P
 split true f g = f refl
@@ -163,3 +163,17 @@ module _ (n : Number) where
   pub from-zero : n .value ≤ 2147483647 → n .minus ≡ false → pos (n .value) ≡ nearest n
   unfolding nearest
   from-zero h g = rw (le-ltb 2147483647 (n .value) h, g)
+
+-- and as one of 32 bits from 0 up
+module _ (n : Number) where
+  pub up-minus : n .minus ≡ true → 0 ≡ nearestUp n
+  unfolding nearestUp
+  up-minus g = rw g
+
+  pub up-greatest : n .minus ≡ false → 4294967295 < n .value → 4294967295 ≡ nearestUp n
+  unfolding nearestUp
+  up-greatest g h = rw (g, lt-ltb 4294967295 (n .value) h)
+
+  pub up-same : n .minus ≡ false → n .value ≤ 4294967295 → n .value ≡ nearestUp n
+  unfolding nearestUp
+  up-same g h = rw (g, le-ltb 4294967295 (n .value) h)

@@ -56,6 +56,10 @@ sizeOf n most = cond (not (n .good) || n .minus || ltb most (n .value)) (most + 
 unfoldable pub nearest : Number → ℤ
 nearest n = cond (ltb 2147483647 (n .value)) (cond (n .minus) (negsuc 2147483647) (pos 2147483647)) (cond (n .minus) (negℤ (pos (n .value))) (pos (n .value)))
 
+-- the number of 32 bits from 0 up that a number with its sign is, the nearest one if it is outside
+unfoldable pub nearestUp : Number → ℕ
+nearestUp n = cond (n .minus) 0 (cond (ltb 4294967295 (n .value)) 4294967295 (n .value))
+
 -- a number from 0 up, or 0 for one below
 unfoldable pub fromZero : ℤ → ℕ
 fromZero (pos n) = n

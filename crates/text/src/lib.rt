@@ -16,6 +16,7 @@ ghost use Rattle.text.specs.Texts.{
   spelled,
   sizeOf,
   nearest,
+  nearestUp,
   fromZero,
   isLetter,
   lettered,
@@ -258,6 +259,19 @@ pub fn signed(n: Number) -> i32
         return less.value;
     }
     value
+}
+
+// The number of 32 bits from 0 up that a number with its sign is, the nearest one if it is outside.
+pub fn unsigned(n: Number) -> u32
+    ensures { λ r. ⌜ r ≡ nearestUp n ⌝ }
+{
+    if n.minus {
+        return 0;
+    }
+    if n.value > 4294967295 {
+        return 4294967295;
+    }
+    n.value as u32
 }
 
 // A word of at most 12 small letters as a number to the base of 32, a being 1; 0 for any other text.

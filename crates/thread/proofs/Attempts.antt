@@ -10,11 +10,12 @@ use lib.IntN.{ℤ, pos}
 use lib.ListN.{length, drop, getD, set}
 use lib.Seq.{set-set, set-comm, set-getD}
 use native.Mathlib.Numerals.{add-one}
+use Rattle.stm.specs.Counted.{Table}
 use Rattle.thread.specs.declared.Action.{Action}
 use Rattle.thread.specs.declared.Thread.{Thread}
 use Rattle.thread.specs.declared.Plan.{Plan}
 use Rattle.thread.specs.Threads.{withPlace, withStack, withNotes, below, push}
-use Rattle.thread.specs.InnerStep.{Due, Stackable, handed, unacted, acting, enoughFor, takesOp, performed, ableOp, dueOp, attempted, stepped, stackedOp, stackEvent, numberOp, plainIn, stackOnly, plainOp, planOf, valueOf, noteAfter, overAtOnce, summing, stackedBy, stackTurn, ruleAt}
+use Rattle.thread.specs.InnerStep.{Due, Stackable, handed, unacted, acting, enoughFor, takesOp, performed, ableOp, dueOp, attempted, stepped, stackedOp, stackEvent, numberOp, plainIn, stackOnly, plainOp, planOf, valueOf, noteAfter, overAtOnce, summing, stackedBy, stackTurn, ruleAt, sizedBy}
 use Rattle.code.specs.Ops.{opAt}
 use Rattle.ops.specs.Shown.{shownOp}
 use Rattle.ops.specs.declared.Op.{Op}
@@ -138,7 +139,7 @@ due-takes bytes registers t o e n = go (eqb (t .start) 0 || eqb (t .place) (t .e
     go false e = took (takesOp able (t .height) (t .base) registers (length bytes - t .place)) refl e
 
 -- a step is what is due
-pub due-step : (bytes : List ℕ) (table : List ℤ) (t : Thread) → performed wrapping table t (dueOp bytes (length table) t) ≡ stepped wrapping bytes table t
+pub due-step : (bytes : List ℕ) (table : Table) (t : Thread) → performed wrapping table t (dueOp bytes (sizedBy (length (table .registers)) (length (table .counts))) t) ≡ stepped wrapping bytes table t
 unfolding dueOp ableOp performed attempted stepped
 due-step bytes table t = go (eqb (t .start) 0 || eqb (t .place) (t .end))
   where
@@ -148,14 +149,14 @@ due-step bytes table t = go (eqb (t .start) 0 || eqb (t .place) (t .end))
     none : performed wrapping table t op.Foreign ≡ handed (unacted t) table
     none = refl
 
-    tried : performed wrapping table t (ableOp bytes (length table) t able) ≡ attempted wrapping bytes table t able
-    tried = by (takesOp able (t .height) (t .base) (length table) (length bytes - t .place))
+    tried : performed wrapping table t (ableOp bytes (sizedBy (length (table .registers)) (length (table .counts))) t able) ≡ attempted wrapping bytes table t able
+    tried = by (takesOp able (t .height) (t .base) (sizedBy (length (table .registers)) (length (table .counts))) (length bytes - t .place))
       where
         by : (b : Bool) → performed wrapping table t (elim b [ true ↦ able | false ↦ op.Foreign ]) ≡ (elim b [ true ↦ performed wrapping table t able | false ↦ handed (unacted t) table ])
         by true = refl
         by false = none
 
-    go : (b : Bool) → performed wrapping table t (elim b [ true ↦ op.Foreign | false ↦ ableOp bytes (length table) t able ]) ≡ (elim b [ true ↦ handed (unacted t) table | false ↦ attempted wrapping bytes table t able ])
+    go : (b : Bool) → performed wrapping table t (elim b [ true ↦ op.Foreign | false ↦ ableOp bytes (sizedBy (length (table .registers)) (length (table .counts))) t able ]) ≡ (elim b [ true ↦ handed (unacted t) table | false ↦ attempted wrapping bytes table t able ])
     go true = none
     go false = tried
 
@@ -261,7 +262,7 @@ module _ (bytes : List ℕ) (t : Thread) where
     op-here f = sym (op-some ∙ (let q : stackOnly bytes t o ≡ o = rw (stackOnly, f) in q))
 
   -- what is plain is taken
-  pub plain-taken : (table : List ℤ) → plainIn bytes t ≡ true → performed wrapping table t (plainOp bytes t) ≡ stepped wrapping bytes table t
+  pub plain-taken : (table : Table) → plainIn bytes t ≡ true → performed wrapping table t (plainOp bytes t) ≡ stepped wrapping bytes table t
   unfolding plainIn plainOp stackOnly stackEvent stepped attempted stackedOp takesOp performed
   plain-taken table e = go (eqb (t .start) 0 || eqb (t .place) (t .end)) (joined (eqb (t .start) 0) (eqb (t .place) (t .end)) _ ∙ e)
     where
@@ -275,7 +276,7 @@ module _ (bytes : List ℕ) (t : Thread) where
       left : ℕ
       left = length bytes - t .place
 
-      taken : (u : Op) → stackedOp u (t .height) left ≡ true → takesOp u (t .height) (t .base) (length table) left ≡ true
+      taken : (u : Op) → stackedOp u (t .height) left ≡ true → takesOp u (t .height) (t .base) (sizedBy (length (table .registers)) (length (table .counts))) left ≡ true
       taken (op.Push n) q = q
       taken op.Add q = q
       taken (op.Read v) q = never q
@@ -290,7 +291,7 @@ module _ (bytes : List ℕ) (t : Thread) where
       tried false f = never f
 
       some : (b : Bool) → stackedOp able (t .height) left ≡ b → not (eqb (stackEvent (elim b [ true ↦ able | false ↦ op.Foreign ])) 0) ≡ true → performed wrapping table t (elim b [ true ↦ able | false ↦ op.Foreign ]) ≡ attempted wrapping bytes table t able
-      some true q f = tried (takesOp able (t .height) (t .base) (length table) left) (taken able q)
+      some true q f = tried (takesOp able (t .height) (t .base) (sizedBy (length (table .registers)) (length (table .counts))) left) (taken able q)
       some false q f = never f
 
       go : (b : Bool) → (b || not (eqb (stackEvent (elim b [ true ↦ op.Foreign | false ↦ stackOnly bytes t able ])) 0)) ≡ true → performed wrapping table t (elim b [ true ↦ op.Foreign | false ↦ stackOnly bytes t able ]) ≡ (elim b [ true ↦ handed (unacted t) table | false ↦ attempted wrapping bytes table t able ])
@@ -364,7 +365,7 @@ stacked-cells t event n f = go (eqb event 1) refl (eqb event 2) refl
 abbrev pub plainAction : Thread → Op → Action
 plainAction t o = stackedBy (stackEvent o) (numberOp o) t
 
-stack-acts : (table : List ℤ) (t : Thread) (left : ℕ) (o : Op) → stackedOp o (t .height) left ≡ true → handed (plainAction t o) table ≡ performed wrapping table t o
+stack-acts : (table : Table) (t : Thread) (left : ℕ) (o : Op) → stackedOp o (t .height) left ≡ true → handed (plainAction t o) table ≡ performed wrapping table t o
 unfolding stackedOp takesOp stackEvent stackTurn stackedBy numberOp performed
 stack-acts table t left (op.Push n) q = refl
 stack-acts table t left op.Add q = refl
@@ -375,7 +376,7 @@ stack-acts table t left op.Commit q = never q
 stack-acts table t left (op.Fork size) q = never q
 stack-acts table t left op.Foreign q = never q
 
-pub plain-acts : (bytes : List ℕ) (table : List ℤ) (t : Thread) → handed (plainAction t (plainOp bytes t)) table ≡ performed wrapping table t (plainOp bytes t)
+pub plain-acts : (bytes : List ℕ) (table : Table) (t : Thread) → handed (plainAction t (plainOp bytes t)) table ≡ performed wrapping table t (plainOp bytes t)
 unfolding plainOp stackOnly stackEvent stackTurn stackedBy numberOp performed ruleAt
 plain-acts bytes table t = go (eqb (t .start) 0 || eqb (t .place) (t .end))
   where
@@ -405,3 +406,12 @@ plan-low event height place f = go (eqb event 1) refl (eqb event 2) refl
         let k = f .add (eqb-true event 2 h) .1 in
         (omega arith, omega arith)
     go false e false h = (omega arith, omega arith)
+
+-- 64 registers and 64 counts
+pub sized-both : (registers counts : ℕ) → sizedBy registers counts ≡ 64 → (registers ≡ 64) × (counts ≡ 64)
+unfolding sizedBy
+sized-both registers counts = go (eqb counts 64) refl
+  where
+    go : (b : Bool) → eqb counts 64 ≡ b → cond b registers 0 ≡ 64 → (registers ≡ 64) × (counts ≡ 64)
+    go true e f = (f, eqb-true counts 64 e)
+    go false e f = absurd (omega arith)

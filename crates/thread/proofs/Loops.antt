@@ -1,73 +1,70 @@
 -- The loops over the registers and the cells, by one number; and that they are those of the definitions. Assumes nothing.
 use Prim.Native.Nat.{ℕ, zero, suc, _+_, _-_, _≤_, _<_}
-use mathlib.Core.Bool.{Bool, true, false, cond, _&&_, _||_}
+use mathlib.Core.Bool.{Bool, true, false, cond, not, _&&_}
 use mathlib.Core.Path.{_≡_, refl, sym, ap, _∙_}
 use mathlib.Core.List.{List, [], _∷_, _++_, append-assoc, append-nil}
 use native.Mathlib.Numerals.{add-one}
 use native.Mathlib.Omega.{arith}
+use lib.Dec.{eqb}
 use lib.IntN.{ℤ, pos}
-use lib.Signed.{ltZ}
 use lib.ListN.{length, drop, getD, set, take, replicate, length-set, length-append, length-replicate}
 use lib.Seq.{length-take-le}
+use Rattle.stm.specs.Counted.{Table}
 use Rattle.thread.specs.declared.Thread.{Thread}
 use Rattle.thread.specs.Threads.{stale, firstStale, overlaid}
-use Rattle.thread.specs.InnerStep.{staleIn, firstStaleIn, storedIn, cleared}
+use Rattle.thread.specs.InnerStep.{staleIn, firstStaleIn, storedIn, cleared, recountedIn, risenBy}
 use Rattle.word.specs.Registers.{member}
 
 -- ---- one register
-module _ (reads : ℕ) (readlog table : List ℤ) (v : ℕ) where
-  pub stale-less : member reads v ≡ true → ltZ (getD readlog v (pos 0)) (getD table v (pos 0)) ≡ true → true ≡ staleIn reads readlog table v
+module _ (reads : ℕ) (readcounts counts : List ℕ) (v : ℕ) where
+  pub stale-marked : member reads v ≡ true → not (eqb (getD readcounts v 0) (getD counts v 0)) ≡ staleIn reads readcounts counts v
   unfolding staleIn
-  stale-less m e = rw (m, e)
+  stale-marked m = rw m
 
-  pub stale-more : member reads v ≡ true → ltZ (getD readlog v (pos 0)) (getD table v (pos 0)) ≡ false → ltZ (getD table v (pos 0)) (getD readlog v (pos 0)) ≡ staleIn reads readlog table v
-  unfolding staleIn
-  stale-more m e = rw (m, e)
-
-  pub stale-none : member reads v ≡ false → false ≡ staleIn reads readlog table v
+  pub stale-none : member reads v ≡ false → false ≡ staleIn reads readcounts counts v
   unfolding staleIn
   stale-none m = rw m
 
 -- ---- the first stale register
-module _ (reads : ℕ) (readlog table : List ℤ) where
-  pub found-here : (v : ℕ) → v < 64 → staleIn reads readlog table v ≡ true → firstStaleIn (64 - v) v reads readlog table ≡ v
+module _ (reads : ℕ) (readcounts counts : List ℕ) where
+  pub found-here : (v : ℕ) → v < 64 → staleIn reads readcounts counts v ≡ true → firstStaleIn (64 - v) v reads readcounts counts ≡ v
   unfolding firstStaleIn
   found-here v l e =
       let s : 64 - v ≡ suc (64 - (v + 1)) = omega arith in
       rw (s, firstStaleIn, e)
 
-  pub found-later : (v : ℕ) → v < 64 → staleIn reads readlog table v ≡ false → firstStaleIn (64 - v) v reads readlog table ≡ firstStaleIn (64 - (v + 1)) (v + 1) reads readlog table
+  pub found-later : (v : ℕ) → v < 64 → staleIn reads readcounts counts v ≡ false → firstStaleIn (64 - v) v reads readcounts counts ≡ firstStaleIn (64 - (v + 1)) (v + 1) reads readcounts counts
   unfolding firstStaleIn
   found-later v l e =
       let s : 64 - v ≡ suc (64 - (v + 1)) = omega arith in
-      ap (λ (k : ℕ). firstStaleIn k v reads readlog table) s ∙ (step (64 - (v + 1)) ∙ ap (λ (w : ℕ). firstStaleIn (64 - (v + 1)) w reads readlog table) (let z : suc v ≡ v + 1 = omega arith in z))
+      ap (λ (k : ℕ). firstStaleIn k v reads readcounts counts) s ∙ (step (64 - (v + 1)) ∙ ap (λ (w : ℕ). firstStaleIn (64 - (v + 1)) w reads readcounts counts) (let z : suc v ≡ v + 1 = omega arith in z))
     where
-      step : (k : ℕ) → firstStaleIn (suc k) v reads readlog table ≡ firstStaleIn k (suc v) reads readlog table
+      step : (k : ℕ) → firstStaleIn (suc k) v reads readcounts counts ≡ firstStaleIn k (suc v) reads readcounts counts
       step k = rw (firstStaleIn, e)
 
-  pub found-end : (v : ℕ) → firstStaleIn 0 v reads readlog table ≡ v
+  pub found-end : (v : ℕ) → firstStaleIn 0 v reads readcounts counts ≡ v
   unfolding firstStaleIn
   found-end v = refl
 
 -- registers that are not marked are passed over
-pub found-past : (reads : ℕ) (readlog table : List ℤ) (v w : ℕ) → v ≤ w → w ≤ 64 → ((u : ℕ) → v ≤ u → u < w → member reads u ≡ false) → firstStaleIn (64 - v) v reads readlog table ≡ firstStaleIn (64 - w) w reads readlog table
-found-past reads readlog table v w a b f =
+pub found-past : (reads : ℕ) (readcounts counts : List ℕ) (v w : ℕ) → v ≤ w → w ≤ 64 → ((u : ℕ) → v ≤ u → u < w → member reads u ≡ false) → firstStaleIn (64 - v) v reads readcounts counts ≡ firstStaleIn (64 - w) w reads readcounts counts
+found-past reads readcounts counts v w a b f =
     let e : v + (w - v) ≡ w = omega arith in
-    go (w - v) v (omega arith) (λ u c d. f u c (omega arith)) ∙ ap (λ (i : ℕ). firstStaleIn (64 - i) i reads readlog table) e
+    go (w - v) v (omega arith) (λ u c d. f u c (omega arith)) ∙ ap (λ (i : ℕ). firstStaleIn (64 - i) i reads readcounts counts) e
   where
-    go : (k v : ℕ) → v + k ≤ 64 → ((u : ℕ) → v ≤ u → u < v + k → member reads u ≡ false) → firstStaleIn (64 - v) v reads readlog table ≡ firstStaleIn (64 - (v + k)) (v + k) reads readlog table
-    go zero v l g = ap (λ (i : ℕ). firstStaleIn (64 - i) i reads readlog table) (let e : v ≡ v + 0 = omega arith in e)
+    go : (k v : ℕ) → v + k ≤ 64 → ((u : ℕ) → v ≤ u → u < v + k → member reads u ≡ false) → firstStaleIn (64 - v) v reads readcounts counts ≡ firstStaleIn (64 - (v + k)) (v + k) reads readcounts counts
+    go zero v l g = ap (λ (i : ℕ). firstStaleIn (64 - i) i reads readcounts counts) (let e : v ≡ v + 0 = omega arith in e)
     go (suc k) v l g =
         let e : v + 1 + k ≡ v + suc k = omega arith in
-        found-later reads readlog table v (omega arith) (sym (stale-none reads readlog table v (g v (omega arith) (omega arith))))
-        ∙ (go k (v + 1) (omega arith) (λ u c d. g u (omega arith) (omega arith)) ∙ ap (λ (i : ℕ). firstStaleIn (64 - i) i reads readlog table) e)
+        found-later reads readcounts counts v (omega arith) (sym (stale-none reads readcounts counts v (g v (omega arith) (omega arith))))
+        ∙ (go k (v + 1) (omega arith) (λ u c d. g u (omega arith) (omega arith)) ∙ ap (λ (i : ℕ). firstStaleIn (64 - i) i reads readcounts counts) e)
 
-pub first-in : (left v : ℕ) (t : Thread) (table : List ℤ) → firstStaleIn left v (t .reads) (t .readlog) table ≡ firstStale left v t table
+pub first-in : (left v : ℕ) (t : Thread) (table : Table) → firstStaleIn left v (t .reads) (t .readcounts) (table .counts) ≡ firstStale left v t table
 unfolding firstStale firstStaleIn stale staleIn
 first-in zero v t table = refl
 first-in (suc left) v t table = go (stale t table v) (first-in left (suc v) t table)
   where
-    go : (b : Bool) → firstStaleIn left (suc v) (t .reads) (t .readlog) table ≡ firstStale left (suc v) t table → _≡_ {A = ℕ} (elim b [ true ↦ v | false ↦ firstStaleIn left (suc v) (t .reads) (t .readlog) table ]) (elim b [ true ↦ v | false ↦ firstStale left (suc v) t table ])
+    go : (b : Bool) → firstStaleIn left (suc v) (t .reads) (t .readcounts) (table .counts) ≡ firstStale left (suc v) t table → _≡_ {A = ℕ} (elim b [ true ↦ v | false ↦ firstStaleIn left (suc v) (t .reads) (t .readcounts) (table .counts) ]) (elim b [ true ↦ v | false ↦ firstStale left (suc v) t table ])
     go true e = refl
     go false e = e
 
@@ -105,6 +102,36 @@ pub stored-in : (left v : ℕ) (t : Thread) (table : List ℤ) → storedIn left
 unfolding storedIn overlaid
 stored-in zero v t table = refl
 stored-in (suc left) v t table = stored-in left (suc v) t _
+
+-- ---- the counts of the write log's registers
+module _ (writes : ℕ) where
+  recounted-next : (v : ℕ) (counts : List ℕ) → v < 64 → recountedIn (64 - v) v writes counts ≡ recountedIn (64 - (v + 1)) (v + 1) writes (cond (member writes v) (set counts v (risenBy (getD counts v 0))) counts)
+  unfolding recountedIn
+  recounted-next v counts l =
+      let s : 64 - v ≡ suc (64 - (v + 1)) = omega arith in
+      ap (λ (k : ℕ). recountedIn k v writes counts) s ∙ ap (λ (w : ℕ). recountedIn (64 - (v + 1)) w writes (cond (member writes v) (set counts v (risenBy (getD counts v 0))) counts)) (let z : suc v ≡ v + 1 = omega arith in z)
+
+  pub recounted-marked : (v : ℕ) (counts : List ℕ) → v < 64 → member writes v ≡ true → recountedIn (64 - v) v writes counts ≡ recountedIn (64 - (v + 1)) (v + 1) writes (set counts v (risenBy (getD counts v 0)))
+  recounted-marked v counts l m = recounted-next v counts l ∙ ap (λ (b : Bool). recountedIn (64 - (v + 1)) (v + 1) writes (cond b (set counts v (risenBy (getD counts v 0))) counts)) m
+
+  recounted-unmarked : (v : ℕ) (counts : List ℕ) → v < 64 → member writes v ≡ false → recountedIn (64 - v) v writes counts ≡ recountedIn (64 - (v + 1)) (v + 1) writes counts
+  recounted-unmarked v counts l m = recounted-next v counts l ∙ ap (λ (b : Bool). recountedIn (64 - (v + 1)) (v + 1) writes (cond b (set counts v (risenBy (getD counts v 0))) counts)) m
+
+  pub recounted-end : (v : ℕ) (counts : List ℕ) → recountedIn 0 v writes counts ≡ counts
+  unfolding recountedIn
+  recounted-end v counts = refl
+
+  pub recounted-past : (counts : List ℕ) (v w : ℕ) → v ≤ w → w ≤ 64 → ((u : ℕ) → v ≤ u → u < w → member writes u ≡ false) → recountedIn (64 - v) v writes counts ≡ recountedIn (64 - w) w writes counts
+  recounted-past counts v w a b f =
+      let e : v + (w - v) ≡ w = omega arith in
+      go (w - v) v (omega arith) (λ u c d. f u c (omega arith)) ∙ ap (λ (i : ℕ). recountedIn (64 - i) i writes counts) e
+    where
+      go : (k v : ℕ) → v + k ≤ 64 → ((u : ℕ) → v ≤ u → u < v + k → member writes u ≡ false) → recountedIn (64 - v) v writes counts ≡ recountedIn (64 - (v + k)) (v + k) writes counts
+      go zero v l g = ap (λ (i : ℕ). recountedIn (64 - i) i writes counts) (let e : v ≡ v + 0 = omega arith in e)
+      go (suc k) v l g =
+          let e : v + 1 + k ≡ v + suc k = omega arith in
+          recounted-unmarked v counts (omega arith) (g v (omega arith) (omega arith))
+          ∙ (go k (v + 1) (omega arith) (λ u c d. g u (omega arith) (omega arith)) ∙ ap (λ (i : ℕ). recountedIn (64 - i) i writes counts) e)
 
 -- ---- the cells from a height on
 -- those from the height up to v are 0

@@ -6,7 +6,6 @@ use mathlib.Core.List.{List, _++_}
 use mathlib.Core.Path.{_≡_}
 use lib.Dec.{eqb, leb, ltb}
 use lib.IntN.{ℤ, pos}
-use lib.Signed.{ltZ}
 use lib.ListN.{length, drop, getD, set, take, replicate}
 use Rattle.thread.specs.declared.Action.{Action}
 use Rattle.thread.specs.declared.Plan.{Plan}
@@ -16,6 +15,7 @@ use Rattle.code.specs.Ops.{opAt}
 use Rattle.ops.specs.Shown.{shownOp}
 use Rattle.ops.specs.declared.Op.{Op}
 use Rattle.ops.specs.declared.Op.the-variants as op
+use Rattle.stm.specs.Counted.{Table}
 use Rattle.stm.specs.Events.{fromTable}
 use Rattle.word.specs.Registers.{member}
 use Rattle.word.specs.InnerCount.{saturated}
@@ -31,26 +31,42 @@ pub record Marked (set from r : ℕ) : Type 0 where
   pub here : r < 64 → member set r ≡ true
 
 -- whether register v is stale
-unfoldable pub staleIn : (reads : ℕ) (readlog table : List ℤ) → ℕ → Bool
-staleIn reads readlog table v =
-    member reads v
-    && (ltZ (getD readlog v (pos 0)) (getD table v (pos 0)) || ltZ (getD table v (pos 0)) (getD readlog v (pos 0)))
+unfoldable pub staleIn : (reads : ℕ) (readcounts counts : List ℕ) → ℕ → Bool
+staleIn reads readcounts counts v = member reads v && not (eqb (getD readcounts v 0) (getD counts v 0))
 
 -- the first stale register from v on, `left` of them being left
-unfoldable pub firstStaleIn : (left v : ℕ) (reads : ℕ) (readlog table : List ℤ) → ℕ
-firstStaleIn zero v reads readlog table = v
-firstStaleIn (suc left) v reads readlog table =
-    elim (staleIn reads readlog table v) [ true ↦ v | false ↦ firstStaleIn left (suc v) reads readlog table ]
+unfoldable pub firstStaleIn : (left v : ℕ) (reads : ℕ) (readcounts counts : List ℕ) → ℕ
+firstStaleIn zero v reads readcounts counts = v
+firstStaleIn (suc left) v reads readcounts counts =
+    elim (staleIn reads readcounts counts v) [ true ↦ v | false ↦ firstStaleIn left (suc v) reads readcounts counts ]
 
--- whether a register of a record's read log is stale, in a table of 64
-unfoldable pub staleRead : (table : List ℤ) → Thread → Bool
-staleRead table t = cond (eqb (length table) 64) (ltb (firstStale 64 0 t table) 64) false
+-- whether a register of a record's read log is stale, in a table of 64 counts
+unfoldable pub staleRead : (counts : List ℕ) → Thread → Bool
+staleRead counts t = cond (eqb (length counts) 64) (ltb (firstStaleIn 64 0 (t .reads) (t .readcounts) counts) 64) false
 
 -- the table with the write log in it, from register v on, `left` of them being left
 unfoldable pub storedIn : (left v : ℕ) (writes : ℕ) (writelog table : List ℤ) → List ℤ
 storedIn zero v writes writelog table = table
 storedIn (suc left) v writes writelog table =
     storedIn left (suc v) writes writelog (cond (member writes v) (set table v (getD writelog v (pos 0))) table)
+
+-- a count, one more, the greatest staying
+unfoldable pub risenBy : ℕ → ℕ
+risenBy n = cond (ltb n 4294967295) (n + 1) n
+
+-- the counts with one more for each register of the write log, from register v on, `left` of them being left
+unfoldable pub recountedIn : (left v : ℕ) (writes : ℕ) (counts : List ℕ) → List ℕ
+recountedIn zero v writes counts = counts
+recountedIn (suc left) v writes counts =
+    recountedIn left (suc v) writes (cond (member writes v) (set counts v (risenBy (getD counts v 0))) counts)
+
+-- the number of registers where 64 counts are lent beside them, else 0
+unfoldable pub sizedBy : (registers counts : ℕ) → ℕ
+sizedBy registers counts = cond (eqb counts 64) registers 0
+
+-- registers and counts as a table
+abbrev pub tableFrom : List ℤ → List ℕ → Table
+tableFrom rs ns = record { registers = rs; counts = ns }
 
 -- the cells above a height are 0
 abbrev pub cleared : (height : ℕ) → List ℤ → List ℤ
@@ -65,16 +81,16 @@ unfoldable pub outsideTurn : (begin : ℕ) → ℕ
 outsideTurn begin = cond (eqb begin 0) 1 0
 
 -- READ of a register that neither log marks
-abbrev pub logged : ℕ → ℤ → Thread → Thread
-logged v n t = push n (t .place + 2) (noted fromTable v n t)
+abbrev pub logged : ℕ → ℤ → (count : ℕ) → Thread → Thread
+logged v n k t = push n (t .place + 2) (noted fromTable v n k t)
 
 -- ---- what a step hands back, with the table
 pub record Handed : Type 0 where
   pub acted : Action
-  pub table : List ℤ
+  pub table : Table
 
 -- an action and the table
-abbrev pub handed : Action → List ℤ → Handed
+abbrev pub handed : Action → Table → Handed
 handed a table = record { acted = a; table = table }
 
 -- an idle step
@@ -113,7 +129,7 @@ summing sum t =
     acting 2 (outsideTurn (t .begin)) (overAtOnce (t .begin) (s .overflowed)) (adding (noteAfter (t .begin) (t .over) (s .overflowed)) (s .value) t)
 
 -- COMMIT, by whether register v is stale
-abbrev pub committedBy : (stale : Bool) (v : ℕ) (table : List ℤ) → Thread → Handed
+abbrev pub committedBy : (stale : Bool) (v : ℕ) (table : Table) → Thread → Handed
 committedBy true v table t =
     handed
     (record {
@@ -126,10 +142,13 @@ committedBy true v table t =
       end = 0;
     })
     table
-committedBy false v table t = handed (acting 9 1 (t .over) (closed (t .place + 1) (t .height) t)) (overlaid 64 0 t table)
+committedBy false v table t =
+    handed
+    (acting 9 1 (t .over) (closed (t .place + 1) (t .height) t))
+    (tableFrom (overlaid 64 0 t (table .registers)) (recountedIn 64 0 (t .writes) (table .counts)))
 
 -- COMMIT
-unfoldable pub committed : (table : List ℤ) → Thread → Handed
+unfoldable pub committed : (table : Table) → Thread → Handed
 committed table t =
     let v = firstStale 64 0 t table in
     committedBy (ltb v 64) v table t
@@ -151,7 +170,7 @@ takesOp (op.Fork size) h b r left = cond (ltb left 3) false (enoughFor 0 h 63 si
 takesOp op.Foreign h b r left = false
 
 -- one instruction of a record that has what it takes
-unfoldable pub performed : Rule → (table : List ℤ) → Thread → Op → Handed
+unfoldable pub performed : Rule → (table : Table) → Thread → Op → Handed
 performed sum table t (op.Push n) = handed (acting 1 0 0 (push n (t .place + 5) t)) table
 performed sum table t op.Add = handed (summing sum t) table
 performed sum table t (op.Read v) = handed (acting (sourceNumber (t .writes) (t .reads) v) 0 0 (read table v t)) table
@@ -192,15 +211,15 @@ pub record Due (o : Op) (registers : ℕ) (t : Thread) : Type 0 where
   pub is : o ≡ dueOp code registers t
 
 -- the same of any record: idle if it has not what the instruction takes
-unfoldable pub attempted : Rule → (code : List ℕ) (table : List ℤ) → Thread → Op → Handed
+unfoldable pub attempted : Rule → (code : List ℕ) (table : Table) → Thread → Op → Handed
 attempted sum bytes table t o =
-    elim (takesOp o (t .height) (t .base) (length table) (length bytes - t .place)) [
+    elim (takesOp o (t .height) (t .base) (sizedBy (length (table .registers)) (length (table .counts))) (length bytes - t .place)) [
       | true ↦ performed sum table t o
       | false ↦ handed (unacted t) table
     ]
 
 -- one step of a record: idle if there is no such thread or it has ended
-unfoldable pub stepped : Rule → (code : List ℕ) (table : List ℤ) → Thread → Handed
+unfoldable pub stepped : Rule → (code : List ℕ) (table : Table) → Thread → Handed
 stepped sum bytes table t =
     elim (eqb (t .start) 0 || eqb (t .place) (t .end)) [
       | true ↦ handed (unacted t) table

@@ -1,13 +1,13 @@
 -- The thread record, and what each instruction makes of it: document 01, "One pick, one step". What a step frees is 0.
 use Prim.Native.Nat.{ℕ, zero, suc, _+_, _-_}
-use mathlib.Core.Bool.{Bool, true, false, cond, not, _&&_, _||_}
+use mathlib.Core.Bool.{Bool, true, false, cond, not, _&&_}
 use mathlib.Core.List.{List, _++_}
 use mathlib.Core.Option.{Option, none, some}
 use lib.Dec.{eqb}
 use lib.IntN.{ℤ, pos}
-use lib.Signed.{ltZ}
 use lib.ListN.{getD, set, take, replicate}
 use Rattle.thread.specs.declared.Thread.{Thread}
+use Rattle.stm.specs.Counted.{Counted, Table}
 use Rattle.stm.specs.Events.{Source, fromWrites, fromReads, fromTable}
 use Rattle.word.specs.Registers as registers
 use Rattle.word.specs.Registers.{member, with}
@@ -16,6 +16,10 @@ use Rattle.word.specs.Sum.{Rule, overOf}
 -- 64 numbers, all 0
 abbrev pub zeros : List ℤ
 zeros = replicate 64 (pos 0)
+
+-- 64 counts, all 0
+abbrev pub unwritten : List ℕ
+unwritten = replicate 64 0
 
 -- a record of no thread
 unfoldable pub blank : Thread
@@ -31,6 +35,7 @@ blank =
       over = 0;
       reads = registers.none;
       readlog = zeros;
+      readcounts = unwritten;
       writes = registers.none;
       writelog = zeros;
       rule = 0;
@@ -45,9 +50,13 @@ exists t = not (eqb (t .start) 0)
 unfoldable pub logOf : (set : ℕ) (values : List ℤ) → ℕ → Option ℤ
 logOf set values v = cond (member set v) (some (getD values v (pos 0))) none
 
+-- document 02 No. 6: a read log also holds how often commits had written each register when it entered
+unfoldable pub countedLog : (set : ℕ) (values : List ℤ) (counts : List ℕ) → ℕ → Option Counted
+countedLog set values counts v = cond (member set v) (some (record { value = getD values v (pos 0); count = getD counts v 0 })) none
+
 -- the read log of a record
-abbrev pub readLog : Thread → ℕ → Option ℤ
-readLog t = logOf (t .reads) (t .readlog)
+abbrev pub readLog : Thread → ℕ → Option Counted
+readLog t = countedLog (t .reads) (t .readlog) (t .readcounts)
 
 -- the write log of a record
 abbrev pub writeLog : Thread → ℕ → Option ℤ
@@ -68,6 +77,7 @@ withPlace place t =
       over = t .over;
       reads = t .reads;
       readlog = t .readlog;
+      readcounts = t .readcounts;
       writes = t .writes;
       writelog = t .writelog;
       rule = t .rule;
@@ -88,6 +98,7 @@ withStack height cells t =
       over = t .over;
       reads = t .reads;
       readlog = t .readlog;
+      readcounts = t .readcounts;
       writes = t .writes;
       writelog = t .writelog;
       rule = t .rule;
@@ -108,6 +119,7 @@ withNotes begin base over t =
       over = over;
       reads = t .reads;
       readlog = t .readlog;
+      readcounts = t .readcounts;
       writes = t .writes;
       writelog = t .writelog;
       rule = t .rule;
@@ -115,8 +127,8 @@ withNotes begin base over t =
     }
 
 -- a record with other logs
-abbrev pub withLogs : (reads : ℕ) (readlog : List ℤ) (writes : ℕ) (writelog : List ℤ) → Thread → Thread
-withLogs reads readlog writes writelog t =
+abbrev pub withLogs : (reads : ℕ) (readlog : List ℤ) (readcounts : List ℕ) (writes : ℕ) (writelog : List ℤ) → Thread → Thread
+withLogs reads readlog readcounts writes writelog t =
     record {
       start = t .start;
       end = t .end;
@@ -128,6 +140,7 @@ withLogs reads readlog writes writelog t =
       over = t .over;
       reads = reads;
       readlog = readlog;
+      readcounts = readcounts;
       writes = writes;
       writelog = writelog;
       rule = t .rule;
@@ -148,6 +161,7 @@ withRule rule backs t =
       over = t .over;
       reads = t .reads;
       readlog = t .readlog;
+      readcounts = t .readcounts;
       writes = t .writes;
       writelog = t .writelog;
       rule = rule;
@@ -156,7 +170,7 @@ withRule rule backs t =
 
 -- both logs empty
 abbrev pub withoutLogs : Thread → Thread
-withoutLogs t = withLogs registers.none zeros registers.none zeros t
+withoutLogs t = withLogs registers.none zeros unwritten registers.none zeros t
 
 -- a thread at the start of its own code
 unfoldable pub spawned : (start end : ℕ) → Thread
@@ -172,6 +186,7 @@ spawned start end =
       over = 0;
       reads = registers.none;
       readlog = zeros;
+      readcounts = unwritten;
       writes = registers.none;
       writelog = zeros;
       rule = 0;
@@ -219,24 +234,24 @@ readFrom fromWrites table t v = getD (t .writelog) v (pos 0)
 readFrom fromReads table t v = getD (t .readlog) v (pos 0)
 readFrom fromTable table t v = getD table v (pos 0)
 
--- the table's value "enters the read log"
-abbrev pub noted : Source → ℕ → ℤ → Thread → Thread
-noted fromWrites v n t = t
-noted fromReads v n t = t
-noted fromTable v n t = withLogs (with (t .reads) v) (set (t .readlog) v n) (t .writes) (t .writelog) t
+-- the table's value "enters the read log", and with it how often commits have written the register
+abbrev pub noted : Source → ℕ → ℤ → (count : ℕ) → Thread → Thread
+noted fromWrites v n k t = t
+noted fromReads v n k t = t
+noted fromTable v n k t = withLogs (with (t .reads) v) (set (t .readlog) v n) (set (t .readcounts) v k) (t .writes) (t .writelog) t
 
 -- READ of v: the value is pushed, and from the table it "enters the read log"
-unfoldable pub read : List ℤ → ℕ → Thread → Thread
+unfoldable pub read : Table → ℕ → Thread → Thread
 read table v t =
     let source = sourceOf t v in
-    let n = readFrom source table t v in
-    push n (t .place + 2) (noted source v n t)
+    let n = readFrom source (table .registers) t v in
+    push n (t .place + 2) (noted source v n (getD (table .counts) v 0) t)
 
 -- "WRITE: puts the top of the stack in the write log; the top stays"
 unfoldable pub write : ℕ → Thread → Thread
 write v t =
     withPlace (t .place + 2)
-    (withLogs (t .reads) (t .readlog) (with (t .writes) v) (set (t .writelog) v (below t 1)) t)
+    (withLogs (t .reads) (t .readlog) (t .readcounts) (with (t .writes) v) (set (t .writelog) v (below t 1)) t)
 
 -- the thread at a place with a height, no transaction being open: "logs and notes emptied", the cells above the height 0
 unfoldable pub closed : (place height : ℕ) → Thread → Thread
@@ -244,19 +259,27 @@ closed place height t =
     withPlace place
     (withStack height (take height (t .cells) ++ replicate (64 - height) (pos 0)) (withNotes 0 0 0 (withoutLogs t)))
 
--- "A register is stale if its read log value differs from the table's"
-unfoldable pub stale : Thread → List ℤ → ℕ → Bool
-stale t table v =
-    member (t .reads) v
-    && (ltZ (getD (t .readlog) v (pos 0)) (getD table v (pos 0)) || ltZ (getD table v (pos 0)) (getD (t .readlog) v (pos 0)))
+-- document 02 No. 6: "A register is now stale if a commit wrote it after it entered the read log, even with an equal value": its count in the
+-- table is no longer the one that was logged
+unfoldable pub stale : Thread → Table → ℕ → Bool
+stale t table v = member (t .reads) v && not (eqb (getD (t .readcounts) v 0) (getD (table .counts) v 0))
 
 -- "walks the registers from 0 up and stops at the first stale one": that register, or 64
-unfoldable pub firstStale : (left v : ℕ) → Thread → List ℤ → ℕ
+unfoldable pub firstStale : (left v : ℕ) → Thread → Table → ℕ
 firstStale zero v t table = v
 firstStale (suc left) v t table = elim (stale t table v) [ true ↦ v | false ↦ firstStale left (suc v) t table ]
 
 -- "the write log goes into the table"
 unfoldable pub overlaid : (left v : ℕ) → Thread → List ℤ → List ℤ
-overlaid zero v t table = table
-overlaid (suc left) v t table =
-    overlaid left (suc v) t (cond (member (t .writes) v) (set table v (getD (t .writelog) v (pos 0))) table)
+overlaid zero v t rs = rs
+overlaid (suc left) v t rs =
+    overlaid left (suc v) t (cond (member (t .writes) v) (set rs v (getD (t .writelog) v (pos 0))) rs)
+
+-- "how often commits have written it": once more each register of the write log
+unfoldable pub recounted : (left v : ℕ) → Thread → List ℕ → List ℕ
+recounted zero v t ns = ns
+recounted (suc left) v t ns = recounted left (suc v) t (cond (member (t .writes) v) (set ns v (suc (getD ns v 0))) ns)
+
+-- the table with a thread's write log in it, its registers written once more
+abbrev pub withWrites : Thread → Table → Table
+withWrites t table = record { registers = overlaid 64 0 t (table .registers); counts = recounted 64 0 t (table .counts) }

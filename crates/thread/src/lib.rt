@@ -1,10 +1,9 @@
 // The thread record that is lent, and one step of a thread, by value.
 ghost use Prim.Native.Nat.{_+_, _-_, _<_, _≤_, _^_};
 ghost use lib.ListN.{length};
-ghost use mathlib.Core.List.{List};
 ghost use mathlib.Core.Path.{_≡_};
-ghost use lib.IntN.{ℤ};
-ghost use Rattle.thread.specs.InnerStep.{Due, Marked, Stackable, acting, cleared, committed, dueOp, enoughFor, firstStaleIn, handed, logged, noteAfter, numberOp, outsideTurn, overAtOnce, performed, plainIn, plainOp, planOf, ruleAt, sourceNumber, stackEvent, stackTurn, stackedBy, stackedOp, staleIn, staleRead, stepped, storedIn, summing, takesOp, unacted, valueOf};
+ghost use Rattle.stm.specs.Counted.{Table};
+ghost use Rattle.thread.specs.InnerStep.{Due, Marked, Stackable, acting, cleared, committed, dueOp, enoughFor, firstStaleIn, handed, logged, noteAfter, numberOp, outsideTurn, overAtOnce, performed, plainIn, plainOp, planOf, recountedIn, risenBy, ruleAt, sizedBy, sourceNumber, stackEvent, stackTurn, stackedBy, stackedOp, staleIn, staleRead, stepped, storedIn, summing, tableFrom, takesOp, unacted, valueOf};
 ghost use Rattle.thread.specs.Threads as threads;
 ghost use Rattle.word.specs.Sum.{wrapping};
 
@@ -27,6 +26,8 @@ pub struct Thread {
     // the read log and the write log: the set of registers that each marks, and their values
     pub reads: u64,
     pub readlog: [i32; 64],
+    // how often commits had written each register of the read log when it entered it
+    pub readcounts: [u32; 64],
     pub writes: u64,
     pub writelog: [i32; 64],
     // the last rule that moved it: 0 none, 1 push, 2 sum, 3 fork, 4 begin, 5, 6, 7 read from the write log, the read log, the table, 8 write,
@@ -53,18 +54,13 @@ pub struct Action {
     pub end: usize,
 }
 
-// Whether the set marks the register and its logged value differs from the table's.
-fn is_stale(reads: u64, readlog: &[i32; 64], registers: &[i32], v: usize) -> bool
-    requires { ⌜ (v < 64) × (length (now registers) ≡ 64) ⌝ }
-    ensures { λ r. ⌜ r ≡ staleIn reads (now (readlog .entry)) (now (registers .entry)) v ⌝ }
+// Whether the set marks the register and commits have written it since it was logged.
+fn is_stale(reads: u64, readcounts: &[u32; 64], counts: &[u32], v: usize) -> bool
+    requires { ⌜ (v < 64) × (length (now counts) ≡ 64) ⌝ }
+    ensures { λ r. ⌜ r ≡ staleIn reads (now (readcounts .entry)) (now (counts .entry)) v ⌝ }
 {
     if word::has(reads, v as u8) {
-        let old = readlog[v];
-        let new = registers[v];
-        if old < new {
-            return true;
-        }
-        return new < old;
+        return readcounts[v] != counts[v];
     }
     false
 }
@@ -84,16 +80,16 @@ fn marked(set: u64, from: usize) -> usize
 }
 
 // The first stale register, or 64. Registers that the set does not mark are passed over.
-fn first_stale(reads: u64, readlog: &[i32; 64], registers: &[i32]) -> usize
-    requires { ⌜ length (now registers) ≡ 64 ⌝ }
-    ensures { λ r. ⌜ r ≡ firstStaleIn 64 0 reads (now (readlog .entry)) (now (registers .entry)) ⌝ }
+fn first_stale(reads: u64, readcounts: &[u32; 64], counts: &[u32]) -> usize
+    requires { ⌜ length (now counts) ≡ 64 ⌝ }
+    ensures { λ r. ⌜ r ≡ firstStaleIn 64 0 reads (now (readcounts .entry)) (now (counts .entry)) ⌝ }
 {
     let mut v: usize = marked(reads, 0);
     let found = loop {
         if v > 63 {
             break 64;
         }
-        if is_stale(reads, readlog, registers, v) {
+        if is_stale(reads, readcounts, counts, v) {
             break v;
         }
         v = marked(reads, v + 1);
@@ -111,6 +107,39 @@ fn store(writes: u64, writelog: &[i32; 64], registers: &mut [i32])
         registers[v] = writelog[v];
         v = marked(writes, v + 1);
     }
+}
+
+// One more; the greatest number stays.
+fn risen(n: u32) -> u32
+    ensures { λ r. ⌜ r ≡ risenBy n ⌝ }
+{
+    if n < 4294967295 {
+        return n + 1;
+    }
+    n
+}
+
+// Each marked register is written once more.
+fn recount(writes: u64, counts: &mut [u32])
+    requires { ⌜ length (now counts) ≡ 64 ⌝ }
+    ensures { λ _. ⌜ now (counts .exit) ≡ recountedIn 64 0 writes (now (counts .entry)) ⌝ }
+{
+    let mut v: usize = marked(writes, 0);
+    while v < 64 {
+        let n = counts[v];
+        counts[v] = risen(n);
+        v = marked(writes, v + 1);
+    }
+}
+
+// The number of registers, if there are 64 counts beside them, else 0.
+fn sized(registers: usize, counts: usize) -> usize
+    ensures { λ r. ⌜ r ≡ sizedBy registers counts ⌝ }
+{
+    if counts == 64 {
+        return registers;
+    }
+    0
 }
 
 // The cells, those from a height on being 0.
@@ -440,6 +469,7 @@ impl Thread {
         self.over = 0;
         self.reads = word::empty();
         self.readlog = [0; 64];
+        self.readcounts = [0; 64];
         self.writes = word::empty();
         self.writelog = [0; 64];
         self.place = place + 1;
@@ -447,19 +477,22 @@ impl Thread {
     }
 
     // READ of a register that neither log marks: its value is logged and pushed.
-    fn log(mut self, v: u8, n: i32) -> Thread
+    fn log(mut self, v: u8, n: i32, count: u32) -> Thread
         requires { ⌜ (v < 64) × (self .height < 64) × (self .place + 2 < 2 ^ 64) ⌝ }
-        ensures { λ r. ⌜ r ≡ logged v n self ⌝ }
+        ensures { λ r. ⌜ r ≡ logged v n count self ⌝ }
     {
         let i = v as usize;
         let height = self.height;
         let place = self.place;
         let mut readlog = self.readlog;
         readlog[i] = n;
+        let mut readcounts = self.readcounts;
+        readcounts[i] = count;
         let mut cells = self.cells;
         cells[height] = n;
         self.reads = word::insert(self.reads, v);
         self.readlog = readlog;
+        self.readcounts = readcounts;
         self.cells = cells;
         self.height = height + 1;
         self.place = place + 2;
@@ -467,9 +500,9 @@ impl Thread {
     }
 
     // READ
-    fn read(self, registers: &[i32], v: u8) -> Thread
-        requires { ⌜ (v < 64) × (self .height < 64) × (self .place + 2 < 2 ^ 64) × (length (now registers) ≡ 64) ⌝ }
-        ensures { λ r. ⌜ r ≡ threads.read (now (registers .entry)) v self ⌝ }
+    fn read(self, registers: &[i32], counts: &[u32], v: u8) -> Thread
+        requires { ⌜ (v < 64) × (self .height < 64) × (self .place + 2 < 2 ^ 64) × (length (now registers) ≡ 64) × (length (now counts) ≡ 64) ⌝ }
+        ensures { λ r. ⌜ r ≡ threads.read (tableFrom (now (registers .entry)) (now (counts .entry))) v self ⌝ }
     {
         let i = v as usize;
         let next = self.place + 2;
@@ -484,7 +517,8 @@ impl Thread {
             return self.push(n, next);
         }
         let n = registers[i];
-        self.log(v, n)
+        let count = counts[i];
+        self.log(v, n, count)
     }
 
     // WRITE
@@ -523,6 +557,7 @@ impl Thread {
             over: 0, // the notes go, also those of an attempt that is sent back
             reads: word::empty(),
             readlog: [0; 64],
+            readcounts: [0; 64],
             writes: word::empty(),
             writelog: [0; 64],
             rule: self.rule,
@@ -530,24 +565,24 @@ impl Thread {
         }
     }
 
-    // Whether a register of the read log is stale; in a table of other than 64 registers none is.
-    pub fn has_stale(self, registers: &[i32]) -> bool
-        ensures { λ r. ⌜ r ≡ staleRead (now (registers .entry)) self ⌝ }
+    // Whether a register of the read log is stale; in a table of other than 64 counts none is.
+    pub fn has_stale(self, counts: &[u32]) -> bool
+        ensures { λ r. ⌜ r ≡ staleRead (now (counts .entry)) self ⌝ }
     {
-        if registers.len() != 64 {
+        if counts.len() != 64 {
             return false;
         }
-        let readlog = self.readlog;
-        first_stale(self.reads, &readlog, registers) < 64
+        let readcounts = self.readcounts;
+        first_stale(self.reads, &readcounts, counts) < 64
     }
 
     // COMMIT
-    fn commit(self, registers: &mut [i32]) -> Action
-        requires { ⌜ (self .height ≤ 64) × (self .base ≤ 64) × (self .place + 1 < 2 ^ 64) × (length (now registers) ≡ 64) ⌝ }
-        ensures { λ r. ⌜ handed r (now (registers .exit)) ≡ committed (now (registers .entry)) self ⌝ }
+    fn commit(self, registers: &mut [i32], counts: &mut [u32]) -> Action
+        requires { ⌜ (self .height ≤ 64) × (self .base ≤ 64) × (self .place + 1 < 2 ^ 64) × (length (now registers) ≡ 64) × (length (now counts) ≡ 64) ⌝ }
+        ensures { λ r. ⌜ handed r (tableFrom (now (registers .exit)) (now (counts .exit))) ≡ committed (tableFrom (now (registers .entry)) (now (counts .entry))) self ⌝ }
     {
-        let readlog = self.readlog;
-        let v = first_stale(self.reads, &readlog, registers);
+        let readcounts = self.readcounts;
+        let v = first_stale(self.reads, &readcounts, counts);
         if v < 64 {
             let mut t = self.closed(self.begin, self.base);
             t.rule = 10 + v;
@@ -564,6 +599,7 @@ impl Thread {
         }
         let writelog = self.writelog;
         store(self.writes, &writelog, registers);
+        recount(self.writes, counts);
         let over = self.over;
         let t = self.closed(self.place + 1, self.height);
         did(t, 9, 1, over)
@@ -594,9 +630,9 @@ impl Thread {
     }
 
     // An instruction that is due.
-    fn act(self, op: ops::Op, registers: &mut [i32]) -> Action
-        requires { ⌜ Due op (length (now registers)) self ⌝ }
-        ensures { λ r. ⌜ handed r (now (registers .exit)) ≡ performed wrapping (now (registers .entry)) self op ⌝ }
+    fn act(self, op: ops::Op, registers: &mut [i32], counts: &mut [u32]) -> Action
+        requires { ⌜ Due op (sizedBy (length (now registers)) (length (now counts))) self ⌝ }
+        ensures { λ r. ⌜ handed r (tableFrom (now (registers .exit)) (now (counts .exit))) ≡ performed wrapping (tableFrom (now (registers .entry)) (now (counts .entry))) self op ⌝ }
     {
         let place = self.place;
         match op {
@@ -607,7 +643,7 @@ impl Thread {
             ops::Op::Add => self.add(),
             ops::Op::Read(v) => {
                 let event = source(self.writes, self.reads, v);
-                let t = self.read(registers, v);
+                let t = self.read(registers, counts, v);
                 did(t, event, 0, 0)
             }
             ops::Op::Write(v) => {
@@ -618,7 +654,7 @@ impl Thread {
                 let t = self.begin();
                 did(t, 4, 0, 0)
             }
-            ops::Op::Commit => self.commit(registers),
+            ops::Op::Commit => self.commit(registers, counts),
             ops::Op::Fork(size) => {
                 let mut t = self.push(0, place + 3 + size);
                 t.rule = 3;
@@ -637,11 +673,11 @@ impl Thread {
     }
 
     // One instruction, the one at the record's place. Total: where there is none, or the record has not what it takes, it is handed back idle.
-    pub fn step(self, code: &[u8], registers: &mut [i32]) -> Action
-        ensures { λ r. ⌜ handed r (now (registers .exit)) ≡ stepped wrapping (now (code .entry)) (now (registers .entry)) self ⌝ }
+    pub fn step(self, code: &[u8], registers: &mut [i32], counts: &mut [u32]) -> Action
+        ensures { λ r. ⌜ handed r (tableFrom (now (registers .exit)) (now (counts .exit))) ≡ stepped wrapping (now (code .entry)) (tableFrom (now (registers .entry)) (now (counts .entry))) self ⌝ }
     {
-        let op = self.due(code, registers.len());
-        self.act(op, registers)
+        let op = self.due(code, sized(registers.len(), counts.len()));
+        self.act(op, registers, counts)
     }
 
     // The instruction at the record's place if it is PUSH or ADD and the record has what it takes, else Foreign.
@@ -706,7 +742,7 @@ impl Thread {
 
     // One instruction if it is PUSH or ADD; else the record is handed back idle.
     pub fn plain(self, code: &[u8]) -> Action
-        ensures { λ r. ⌜ ((table : List ℤ) → handed r table ≡ performed wrapping table self (plainOp (now (code .entry)) self)) ⌝ }
+        ensures { λ r. ⌜ ((table : Table) → handed r table ≡ performed wrapping table self (plainOp (now (code .entry)) self)) ⌝ }
     {
         let op = self.plain_op(code);
         let event = stack_event(op);

@@ -8,14 +8,14 @@ use native.Mathlib.Omega.{arith}
 use native.Mathlib.Decide.{decLt}
 use borrow.Author.Tests.{eqb-true, eqb-false}
 use lib.Dec.{eqb, ltb}
-use lib.IntN.{ℤ}
 use lib.ListN.{length, getD, set, List·getD-eq-default, length-set}
 use lib.Seq.{getD-set-same, getD-set-other}
+use Rattle.stm.specs.Counted.{Table}
 use Rattle.code.specs.Bytes.{IsCode}
 use Rattle.code.specs.Ops.{Op}
 use Rattle.code.specs.Ops as code
 use Rattle.machine.specs.Fits.{Walked, nextPlace, Walks, ownCode, Exists, ThreadOf, Fits, Typed}
-use Rattle.machine.specs.Steps.{State, Stepped, Acted, Child, threadAt, numberOf, committing, commit, movedBy, ruled, act, perform, seated, settle, instruction, pick, fresh, run, DoesOne}
+use Rattle.machine.specs.Steps.{State, Stepped, Acted, Child, threadAt, numberOf, committing, commit, movedBy, ruled, act, perform, seated, settle, instruction, pick, fresh, run, DoesOne, tableIn}
 use Rattle.machine.proofs.Agrees.{step-fits, does-one}
 use Rattle.machine.proofs.Fresh.{no-record}
 use Rattle.machine.proofs.Picks.{missing-idle, ended-idle}
@@ -35,7 +35,7 @@ record Moved (t : Thread) (op : Op) (t′ : Thread) : Type 0 where
   own : ownCode t′ ≡ ownCode t
   place : (t′ .place ≡ nextPlace op (t .place)) ⊎ (t′ .place ≡ t .begin)
 
-acts : (sum : Rule) (table : List ℤ) (t : Thread) (op : Op) → Moved t op (act sum table t op .thread)
+acts : (sum : Rule) (table : Table) (t : Thread) (op : Op) → Moved t op (act sum table t op .thread)
 unfolding act perform push add begin read write commit closed nextPlace
 acts sum table t (code.push n) = record { own = refl; place = inl refl }
 acts sum table t code.add = record { own = refl; place = inl refl }
@@ -91,7 +91,7 @@ data Left (s : State) (i : ℕ) (op : Op) (s′ : State) (k : ℕ) : Type 0 wher
 
 leaves : (sum : Rule) (s : State) (i : ℕ) (op : Op) (k : ℕ) → Left s i op (instruction sum s i (threadAt s i) op .state) k
 unfolding settle
-leaves sum s i op k = go (act sum (s .registers) (threadAt s i) op) (acts sum (s .registers) (threadAt s i) op)
+leaves sum s i op k = go (act sum (tableIn s) (threadAt s i) op) (acts sum (tableIn s) (threadAt s i) op)
   where
     go : (a : Acted) → Moved (threadAt s i) op (a .thread) → Left s i op (settle (numberOf (s .threads)) s i a .state) k
     go a m = which (seated-either (numberOf (s .threads)) (a .children) (set (s .threads) i (a .thread)) k) (set-either (s .threads) i (a .thread) k)

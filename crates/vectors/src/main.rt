@@ -18,15 +18,16 @@
 //     COMMAND label: JOB; SETUP; CHANGES; PICKS
 //
 // COMMAND is `fresh`, `step`, `run`, `cut` or `calls`. JOB is a job in hex, which is compiled, or `code` and code in hex. All registers are -7
-// beforehand and all numbers of all records 7; then, but for `fresh`, a fresh state is laid down and the picks of SETUP are run. CHANGES stand
-// between commas: `records N`, `registers N` (so many are lent to the call), `code P B` (byte P becomes B), `register R V`,
-// `thread T start V` (or end, place, height, begin, base, over, reads, writes, rule, backs), `thread T cell I V` (or readlog, writelog). PICKS are thread numbers, with
-// `*N` behind one that is repeated. At each ';' and ',' a space follows.
+// beforehand, all counts and all numbers of all records 7; then, but for `fresh`, a fresh state is laid down and the picks of SETUP are run. CHANGES
+// stand between commas: `records N`, `registers N`, `counts N` (so many are lent to the call), `code P B` (byte P becomes B), `register R V`,
+// `count R N` (the table's count of register R), `thread T start V` (or end, place, height, begin, base, over, reads, writes, rule, backs),
+// `thread T cell I V` (or readlog, readcount, writelog, I being a register then). PICKS are thread numbers, with `*N` behind one that is repeated.
+// At each ';' and ',' a space follows.
 //
-// What is written: the answer, each thread with its last rule and its send-backs, each register that is not 0, and a checksum over all registers
-// and records; of a refusal whether the memory was `kept`. `cut` runs the picks in one call and in two, cut at each place: `same` if both leave the same and the counts add up, else
-// `differs at` the first such place. `calls` runs the lists of picks between '|', each in a call on the state that is there, and writes the
-// answer of each, and at the end the state.
+// What is written: the answer, each thread with its last rule and its send-backs, each register that is not 0, each of the table's counts that is
+// not 0, and a checksum over all registers, counts and records; of a refusal whether the memory was `kept`. `cut` runs the picks in one call and in
+// two, cut at each place: `same` if both leave the same and the counts add up, else `differs at` the first such place. `calls` runs the lists of
+// picks between '|', each in a call on the state that is there, and writes the answer of each with the table's counts, and at the end the state.
 mod outputs;
 mod states;
 

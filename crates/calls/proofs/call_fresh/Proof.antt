@@ -11,7 +11,7 @@ taken-fresh-requires : tie.Need-taken-fresh-requires
 taken-fresh-requires c κs = search needs
 
 returns : tie.Need-returns
-returns c = left-by _ _ _ _ _ _ (c .taken-fresh .ensures) (c .before .fresh .ensures)
+returns c = left-by _ _ _ _ _ _ _ (c .taken-fresh .ensures) (c .before .fresh .ensures)
 
 pub call-fresh-spec : {M : Type 1} → statement M
 call-fresh-spec = tie.close (tie.spec fresh-requires taken-fresh-requires returns)

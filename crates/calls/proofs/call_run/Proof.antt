@@ -11,7 +11,7 @@ taken-run-requires : tie.Need-taken-run-requires
 taken-run-requires c κs = search needs
 
 returns : tie.Need-returns
-returns c = left-by _ _ _ _ _ _ (c .taken-run .ensures) (c .before .run .ensures)
+returns c = left-by _ _ _ _ _ _ _ (c .taken-run .ensures) (c .before .run .ensures)
 
 pub call-run-spec : {M : Type 1} → statement M
 call-run-spec = tie.close (tie.spec run-requires taken-run-requires returns)

@@ -16,7 +16,7 @@ admitted-requires c κs = search needs
 
 -- its progress, and the bytes
 returns : tie.Need-returns
-returns c = record { progress = c .admitted .ensures; bytes = bytes-of _ (c .before .shared-slice-known .given) }
+returns c = record { progress = c .admitted .ensures; bytes = bytes-of _ (c .before .before .shared-slice-known .given) }
 
 -- the function meets its contract
 pub admit-spec : {M : Type 1} → statement M

@@ -8,7 +8,6 @@ use mathlib.Core.List.{[], _∷_, List}
 use native.Mathlib.Omega.{arith}
 use native.Mathlib.Numerals.{add-one}
 use lib.Dec.{ltb, lit<}
-use lib.IntN.{ℤ}
 use lib.ListN.{length, getD, drop as dropL, drop-of-length-le, List·getD-eq-default}
 use lib.Seq.{drop-cons}
 use lib.WfN.{Nat·lt-wfRel}
@@ -33,7 +32,7 @@ use denote.RattleType.{owns}
 use denote.Memory.{pointee, shares}
 use denote.Laws.{Is, shows}
 use denote.Ref.{RefT}
-use denote.Builtin.{i32}
+use denote.Builtin.{u32}
 use denote.Slice.{sliceTy, sliceVal, ShrSlice, Room, slice-vals, shr-slice-tells, shr-slice-copy}
 use denote.Index.{row, place-is, elem-out, elem-back, looks-slice, shuts-slice}
 use denote.Signature.{plain, shrSliceOf}
@@ -54,6 +53,7 @@ use Rattle.survey.specs.declared.Survey.{Survey}
 use Rattle.survey.specs.InnerRecords.{emptySurvey, withTo, surveyFrom, surveyOf}
 use Rattle.engine.specs.InnerEngine.{Gathered}
 use Rattle.engine.proofs.Rows.{ThreadR, SurveyR, thread-vals, survey-val, survey-vals, thread-tells, survey-tells, Known, known-thread, known-blank, thread-makes, survey-makes, thread-typed, survey-typed}
+use Rattle.engine.proofs.Literal.{big}
 use Rattle.engine.proofs.Told.{told}
 use Rattle.thread.proofs.Thread as T
 use Rattle.thread.proofs.Thread.Laws as T′
@@ -74,7 +74,7 @@ use Rattle.engine.proofs.gather.Code.Mir as mir′
 
 -- of the slices nothing has to be had at the end
 abbrev stayed : Stays (gather.ended .signature .params) (gather.ended .kept)
-stayed = (stay-dropped (shrSliceOf (0 ∷ []) tt (plain (λ _. ThreadR))) yes, (stay-dropped (shrSliceOf (1 ∷ []) tt (plain (λ _. i32))) yes, tt))
+stayed = (stay-dropped (shrSliceOf (0 ∷ []) tt (plain (λ _. ThreadR))) yes, (stay-dropped (shrSliceOf (1 ∷ []) tt (plain (λ _. u32))) yes, tt))
 
 -- the contract of `Survey::start`
 abbrev Start : {M : Type 1} (𝓤 : URA M) (H : Heap 𝓤) (A : Atoms 𝓤) (mem : Memory → SProp 𝓤) (rn : Routine → Fun 𝓤) → Contract 𝓤
@@ -85,7 +85,7 @@ abbrev With : {M : Type 1} (𝓤 : URA M) (H : Heap 𝓤) (A : Atoms 𝓤) (mem 
 With 𝓤 H A mem rn = tripleOf 𝓤 H A more-of.signature (more-of.spec 𝓤 H A mem rn)
 
 -- the loop's states over the registers rs and the records ys, with the invariant's facts
-record St (rs : List ℤ) (ys : List Thread) : Type 0 where
+record St (rs : List ℕ) (ys : List Thread) : Type 0 where
   i : ℕ
   s : Survey
   is-s : Is SurveyR s (survey-vals s)
@@ -93,29 +93,29 @@ record St (rs : List ℤ) (ys : List Thread) : Type 0 where
   known : (j : ℕ) → j < i → Known (getD ys j blank)
 
 -- how many records are left
-abbrev μ : {rs : List ℤ} {ys : List Thread} → St rs ys → ℕ
+abbrev μ : {rs : List ℕ} {ys : List Thread} → St rs ys → ℕ
 μ {ys = ys} st = length ys - st .i
 
 -- fewer are left
-abbrev ≺ : {rs : List ℤ} {ys : List Thread} → St rs ys → St rs ys → Type 0
+abbrev ≺ : {rs : List ℕ} {ys : List Thread} → St rs ys → St rs ys → Type 0
 ≺ s t = μ s < μ t
 
 -- the loop ends
-≺-wf : {rs : List ℤ} {ys : List Thread} → WellFounded (≺ {rs = rs} {ys = ys})
+≺-wf : {rs : List ℕ} {ys : List Thread} → WellFounded (≺ {rs = rs} {ys = ys})
 ≺-wf = InvImage·wf μ (Nat·lt-wfRel .wf)
 
 -- the survey goes on after a turn as its definition does
-goes-on : (rs : List ℤ) (ys : List Thread) (i : ℕ) (s : Survey) → i < length ys → surveyFrom (withTo s rs (getD ys i blank)) rs (dropL (i + 1) ys) ≡ surveyFrom s rs (dropL i ys)
+goes-on : (rs : List ℕ) (ys : List Thread) (i : ℕ) (s : Survey) → i < length ys → surveyFrom (withTo s rs (getD ys i blank)) rs (dropL (i + 1) ys) ≡ surveyFrom s rs (dropL i ys)
 unfolding surveyFrom
 goes-on rs ys i s h = ap (λ (j : ℕ). surveyFrom (withTo s rs (getD ys i blank)) rs (dropL j ys)) (add-one i) ∙ sym (ap (surveyFrom s rs) (drop-cons ys i blank h))
 
 -- at the start all records are left
-all-left : (rs : List ℤ) (ys : List Thread) → surveyFrom emptySurvey rs (dropL 0 ys) ≡ surveyOf rs ys
+all-left : (rs : List ℕ) (ys : List Thread) → surveyFrom emptySurvey rs (dropL 0 ys) ≡ surveyOf rs ys
 unfolding surveyOf
 all-left rs ys = refl
 
 -- at the end none is left
-none-left : (rs : List ℤ) (ys : List Thread) (i : ℕ) (s : Survey) → length ys ≤ i → s ≡ surveyFrom s rs (dropL i ys)
+none-left : (rs : List ℕ) (ys : List Thread) (i : ℕ) (s : Survey) → length ys ≤ i → s ≡ surveyFrom s rs (dropL i ys)
 unfolding surveyFrom
 none-left rs ys i s out = sym (ap (surveyFrom s rs) (drop-of-length-le ys out))
 
@@ -140,7 +140,7 @@ none : (j : ℕ) → j < 0 → ⊥
 none j h = omega (arith, h)
 
 -- at the end the contract holds
-all-gathered : (rs : List ℤ) (ys : List Thread) (st : St rs ys) → length ys ≤ st .i → Gathered rs ys (st .s)
+all-gathered : (rs : List ℕ) (ys : List Thread) (st : St rs ys) → length ys ≤ st .i → Gathered rs ys (st .s)
 all-gathered rs ys st out = record { survey = none-left rs ys (st .i) (st .s) out ∙ st .same; typed = λ j. every j .typed; ranged = λ j. every j .ranged }
   where
     every : (j : ℕ) → Known (getD ys j blank)
@@ -154,17 +154,17 @@ word = tyInt w64
 abbrev Th : Ty
 Th = pointee (T.the-row .written)
 
-module _ {M : Type 1} (𝓤 : URA M) (H : Heap 𝓤) (A : Atoms 𝓤) (W : Given 𝓤 H A) (mem : Memory → SProp 𝓤) (rn : Routine → Fun 𝓤) (κ κ₁ : Lft) (q q₁ : Share) (b o : ℕ) (γ : GName) (ys : List Thread) (b₁ o₁ : ℕ) (γ₁ : GName) (rs : List ℤ) where
+module _ {M : Type 1} (𝓤 : URA M) (H : Heap 𝓤) (A : Atoms 𝓤) (W : Given 𝓤 H A) (mem : Memory → SProp 𝓤) (rn : Routine → Fun 𝓤) (κ κ₁ : Lft) (q q₁ : Share) (b o : ℕ) (γ : GName) (ys : List Thread) (b₁ o₁ : ℕ) (γ₁ : GName) (rs : List ℕ) where
   -- the records
   abbrev x : RefT (List Thread)
   x = record { ptr = (b, o); name = γ; now = ys }
 
   -- the registers
-  abbrev x₁ : RefT (List ℤ)
+  abbrev x₁ : RefT (List ℕ)
   x₁ = record { ptr = (b₁, o₁); name = γ₁; now = rs }
 
   -- the parameters
-  abbrev a : RefT (List Thread) × (RefT (List ℤ) × Unit {0})
+  abbrev a : RefT (List Thread) × (RefT (List ℕ) × Unit {0})
   a = (x, (x₁, tt))
 
   -- the records' machine value
@@ -189,7 +189,7 @@ module _ {M : Type 1} (𝓤 : URA M) (H : Heap 𝓤) (A : Atoms 𝓤) (W : Given
 
   -- what the registers own
   abbrev Own₁ : Fml
-  Own₁ = ShrSlice (named 1) κ₁ i32 .own x₁ (s₂ ∷ [])
+  Own₁ = ShrSlice (named 1) κ₁ u32 .own x₁ (s₂ ∷ [])
 
   -- the loop's states
   abbrev State : Type 0
@@ -233,7 +233,7 @@ module _ {M : Type 1} (𝓤 : URA M) (H : Heap 𝓤) (A : Atoms 𝓤) (W : Given
       nothing ! $ move ! (2 ∷ 0 ∷ []) $ join ! $ move ! (1 ∷ 0 ∷ []) $ join ! $ frame ! $ nothing ! $ nothing ! $ fjoin ! $ nothing ! $ fjoin ! $ frame ! $
       owned ! SurveyR (Is SurveyR) (survey-makes 𝓤 H A) (st .s) _ (st .is-s) $ done !
 
-  module _ (𝓣 : Tables 𝓤 H) (known-start : Triple 𝓤 (𝓣 .C #start) (Start 𝓤 H A mem rn)) (known-with : Triple 𝓤 (𝓣 .C #with) (With 𝓤 H A mem rn)) (room : Room ThreadR (length ys)) (room₁ : Room i32 (length rs)) where
+  module _ (𝓣 : Tables 𝓤 H) (known-start : Triple 𝓤 (𝓣 .C #start) (Start 𝓤 H A mem rn)) (known-with : Triple 𝓤 (𝓣 .C #with) (With 𝓤 H A mem rn)) (room : Room ThreadR (length ys)) (room₁ : Room u32 (length rs)) where
     -- the functions that can be called
     abbrev C : Calls 𝓤 H
     C = 𝓣 .C
@@ -266,15 +266,15 @@ module _ {M : Type 1} (𝓤 : URA M) (H : Heap 𝓤) (A : Atoms 𝓤) (W : Given
           assigns ! (of-opd ! (load ! (from ! (fld ! refl (stop !))) (look-in ! 4 (sub ! 1 refl (whole !))))) (from ! (stop !)) (init ! 6 refl (tt, record { fits = room .0 })) $
           assigns ! (bin ! (load ! (from ! (stop !)) (look ! 3 refl)) (load ! (from ! (stop !)) (look ! 6 refl)) tt) (from ! (stop !)) (init ! 7 refl (tt, tt)) $
           rewrite ! 7 (λ (t : Bool). ‵ (fat fullShare tyBool l₇ 0 (vbool t))) (lt-ltb _ _ within) refl $ stays ! (load ! (from ! (stop !)) (look ! 7 refl)) $
-          assigns ! (bin ! (load ! (from ! (stop !)) (look ! 3 refl)) (lit ! tt) (record { fits = omega (arith, room .1, within) })) (from ! (stop !)) (store ! 6 refl (tt, record { fits = omega (arith, room .1, within) })) $
+          assigns ! (bin ! (load ! (from ! (stop !)) (look ! 3 refl)) (big ! (record { fits = lit< tt })) (record { fits = omega (arith, room .1, within) })) (from ! (stop !)) (store ! 6 refl (tt, record { fits = omega (arith, room .1, within) })) $
           assigns ! (bin ! (load ! (from ! (fld ! refl (stop !))) (look-in ! 4 (sub ! 0 refl (whole !)))) (load ! (from ! (stop !)) (look ! 6 refl)) tt) (from ! (stop !)) (init ! 8 refl (tt, tt)) $
-          rewrite ! 8 (λ (p : ℕ). ‵ (fat fullShare tyPtr l₈ 0 (vptr b p))) (sym (place-is 856 o (st .i))) refl $
+          rewrite ! 8 (λ (p : ℕ). ‵ (fat fullShare tyPtr l₈ 0 (vptr b p))) (sym (place-is 1112 o (st .i))) refl $
           elem-out ! ThreadR (Is ThreadR) (shows 𝓤 H A ThreadR) thread-vals thread-tells q′ ys (st .i) blank b o within (λ ge.
           assigns ! (of-opd ! (load ! (from ! (hop ! (look ! 10 refl) (stop !))) (look-raw ! 0 refl))) (from ! (stop !)) (init ! 11 refl (thread-typed 𝓤 H A W e _ ge .0)) $
           assigns ! (of-opd ! (load ! (from ! (stop !)) (look ! 11 refl))) (from ! (stop !)) (init ! 7 refl (thread-typed 𝓤 H A W e _ ge .0)) $
           elem-back ! ThreadR q′ ys (st .i) blank (thread-vals e) b o within $
           -- of the registers a copy is passed
-          move ! (23 ∷ []) $ use1 W (‵ Own₁ ⊛ ‵ Own₁) (shr-slice-copy 𝓤 H A W (named 1) κ₁ i32 .twice x₁ (s₂ ∷ [])) $ split ! $ move ! (24 ∷ 0 ∷ []) $
+          move ! (23 ∷ []) $ use1 W (‵ Own₁ ⊛ ‵ Own₁) (shr-slice-copy 𝓤 H A W (named 1) κ₁ u32 .twice x₁ (s₂ ∷ [])) $ split ! $ move ! (24 ∷ 0 ∷ []) $
           use2 W (raw (With 𝓤 H A mem rn .pre (to-with (st .s) e))) (asks-with (st .s) e (st .is-s) ge) $
           -- [what `with` asks; what the registers own; the row; what shuts it; _3; _4; …]
           calls-at ! (fmOf 𝓤 H (W .laws) 𝓣) (With 𝓤 H A mem rn) known-with (to-with (st .s) e) (and-then ! (load ! (from ! (stop !)) (look ! 4 refl)) (and-then ! (load ! (from ! (stop !)) (look ! 7 refl)) (and-then ! (load ! (from ! (stop !)) (look ! 23 refl)) (no-more !)))) (λ w.
@@ -327,7 +327,7 @@ module _ {M : Type 1} (𝓤 : URA M) (H : Heap 𝓤) (A : Atoms 𝓤) (W : Given
     -- the whole body
     walk : ent 𝓤 (onEntry 𝓤 H A gather.signature (κ, (κ₁, tt)) (q, (q₁, tt)) a at) (WpFn 𝓤 H C Λ code.function (s₁ ∷ s₂ ∷ []) Post)
     walk =
-        qed W ((‵ (flft κ q) ⊛ ‵ (flft κ₁ q₁) ⊛ ‵ ftrue) ∷ ‵ (owns (ShrSlice (named 0) κ ThreadR ∷ ShrSlice (named 1) κ₁ i32 ∷ []) a at) ∷ []) ∵ enter ! C Λ code.function (s₁ ∷ s₂ ∷ []) _ $
+        qed W ((‵ (flft κ q) ⊛ ‵ (flft κ₁ q₁) ⊛ ‵ ftrue) ∷ ‵ (owns (ShrSlice (named 0) κ ThreadR ∷ ShrSlice (named 1) κ₁ u32 ∷ []) a at) ∷ []) ∵ enter ! C Λ code.function (s₁ ∷ s₂ ∷ []) _ $
         alloc1 ! (λ l₀. alloc1 ! (λ l₁. alloc1 ! (λ l₂. alloc1 ! (λ l₃. alloc1 ! (λ l₄. alloc1 ! (λ l₅. alloc1 ! (λ l₆. alloc1 ! (λ l₇. alloc1 ! (λ l₈. alloc1 ! (λ l₉. alloc0 ! $ params1 ! $
         pass1 ! (init ! 16 refl (tt, (tt, (record { fits = room .0 }, tt)))) $ pass1 ! (init ! 14 refl (tt, (tt, (record { fits = room₁ .0 }, tt)))) $ pass0 ! $
         -- [_9; …; _0; …; the tokens; what all own]: _i at 18 - 2 i
@@ -346,7 +346,7 @@ module _ {M : Type 1} (𝓤 : URA M) (H : Heap 𝓤) (A : Atoms 𝓤) (W : Given
   -- the walk, at every parameter
   gather-walks : (𝓣 : Tables 𝓤 H) → Triple 𝓤 (𝓣 .C #start) (Start 𝓤 H A mem rn) → Triple 𝓤 (𝓣 .C #with) (With 𝓤 H A mem rn) → Walks 𝓤 H A gather.ended stayed (WpFn 𝓤 H (𝓣 .C) (𝓣 .Λ) code.function) (gather.clauses 𝓤 H A mem rn)
   gather-walks 𝓣 known-start known-with = walked 𝓤 H A gather.ended stayed (gather.clauses 𝓤 H A mem rn) (WpFn 𝓤 H (𝓣 .C) (𝓣 .Λ) code.function)
-      (λ κs. (slice-vals, (slice-vals, tt))) (λ κs. (shr-slice-tells (named 0) (κs .0) ThreadR, (shr-slice-tells (named 1) (κs .1 .0) i32, tt)))
+      (λ κs. (slice-vals, (slice-vals, tt))) (λ κs. (shr-slice-tells (named 0) (κs .0) ThreadR, (shr-slice-tells (named 1) (κs .1 .0) u32, tt)))
       (λ κs qs bounds a g are. via 𝓤 _ (fst∗ 𝓤 _ (emp 𝓤))
       (walk 𝓤 H A W mem rn (κs .0) (κs .1 .0) (qs .0) (qs .1 .0) (a .0 .ptr .0) (a .0 .ptr .1) (a .0 .name) (a .0 .now) (a .1 .0 .ptr .0) (a .1 .0 .ptr .1) (a .1 .0 .name) (a .1 .0 .now) 𝓣 known-start known-with (are .0 .0 .1) (are .1 .0 .0 .1)))
 
@@ -354,7 +354,7 @@ module _ {M : Type 1} (𝓤 : URA M) (H : Heap 𝓤) (A : Atoms 𝓤) (W : Given
 gather-meets : {M : Type 1} (𝓤 : URA M) (H : Heap 𝓤) (A : Atoms 𝓤) → Given 𝓤 H A → (mem : Memory → SProp 𝓤) (rn : Routine → Fun 𝓤) (𝓣 : Tables 𝓤 H) → Triple 𝓤 (𝓣 .C #start) (Start 𝓤 H A mem rn) → Triple 𝓤 (𝓣 .C #with) (With 𝓤 H A mem rn)
     → Meets 𝓤 H A gather.signature (WpFn 𝓤 H (𝓣 .C) (𝓣 .Λ) code.function) (gather.spec 𝓤 H A mem rn)
 gather-meets 𝓤 H A W mem rn 𝓣 known-start known-with =
-    walk-meets 𝓤 H A gather.ended stayed W (goes-dropped 𝓤 H A W 2 (shrSliceOf (0 ∷ []) tt (plain (λ _. ThreadR))) yes (λ κs x f. refl), (goes-dropped 𝓤 H A W 2 (shrSliceOf (1 ∷ []) tt (plain (λ _. i32))) yes (λ κs x f. refl), tt)) (gather.clauses 𝓤 H A mem rn)
+    walk-meets 𝓤 H A gather.ended stayed W (goes-dropped 𝓤 H A W 2 (shrSliceOf (0 ∷ []) tt (plain (λ _. ThreadR))) yes (λ κs x f. refl), (goes-dropped 𝓤 H A W 2 (shrSliceOf (1 ∷ []) tt (plain (λ _. u32))) yes (λ κs x f. refl), tt)) (gather.clauses 𝓤 H A mem rn)
     (WpFn 𝓤 H (𝓣 .C) (𝓣 .Λ) code.function) (WpFn-mono 𝓤 H (W .laws) 𝓣 code.function) (gather-walks 𝓤 H A W mem rn 𝓣 known-start known-with)
 
 -- the function meets its contract

@@ -51,6 +51,7 @@ use Rattle.thread.specs.Threads.{blank}
 use Rattle.engine.specs.InnerEngine.{leastOf, overwritten, recordOf, laid}
 use Rattle.engine.proofs.Laying.{least-first, least-second, overwritten-none, overwritten-more, overwritten-least}
 use Rattle.engine.proofs.Rows.{ThreadR, thread-vals, thread-tells, thread-makes, thread-typed}
+use Rattle.engine.proofs.Literal.{big}
 use Rattle.engine.proofs.Told.{told}
 use Rattle.thread.proofs.Thread as T
 use Rattle.thread.proofs.Thread.Laws as T′
@@ -238,9 +239,9 @@ module _ {M : Type 1} (𝓤 : URA M) (H : Heap 𝓤) (A : Atoms 𝓤) (W : Given
           calls-at ! (fmOf 𝓤 H (W .laws) 𝓣) (New 𝓤 H A mem rn) known-new (to-new (st .i)) (and-then ! (load ! (from ! (stop !)) (look ! 5 refl)) (and-then ! (load ! (from ! (stop !)) (look ! 7 refl)) (no-more !))) (λ w.
           use1 W (later (given (Is ThreadR t (w ∷ [])) (‵ ftrue))) (told 𝓤 H A W ThreadR w (emp 𝓤) (λ r. ensured 𝓤 H A new.ended (new.clauses 𝓤 H A mem rn) tt (st .i, (en, tt)) tt r) t (tells-new (st .i))) $ await ! tt $ learn ! (λ is.
           land ! (from ! (stop !)) (init ! 12 refl (thread-typed 𝓤 H A W t _ is .0)) $ rewrite ! 12 (λ (u : Val). ‵ (fat fullShare T′.mir l₈ 0 u)) (ap only (thread-tells t _ is)) refl $ drop ! $
-          assigns ! (bin ! (load ! (from ! (stop !)) (look ! 4 refl)) (lit ! tt) (record { fits = omega (arith, room .1, here) })) (from ! (stop !)) (init ! 12 refl (tt, record { fits = omega (arith, room .1, here) })) $
+          assigns ! (bin ! (load ! (from ! (stop !)) (look ! 4 refl)) (big ! (record { fits = lit< tt })) (record { fits = omega (arith, room .1, here) })) (from ! (stop !)) (init ! 12 refl (tt, record { fits = omega (arith, room .1, here) })) $
           assigns ! (bin ! (load ! (from ! (fld ! refl (stop !))) (look-in ! 5 (sub ! 0 refl (whole !)))) (load ! (from ! (stop !)) (look ! 12 refl)) tt) (from ! (stop !)) (init ! 13 refl (tt, tt)) $
-          rewrite ! 13 (λ (p : ℕ). ‵ (fat fullShare tyPtr l₁₀ 0 (vptr b p))) (sym (place-is 856 o (st .i))) refl $
+          rewrite ! 13 (λ (p : ℕ). ‵ (fat fullShare tyPtr l₁₀ 0 (vptr b p))) (sym (place-is 1112 o (st .i))) refl $
           elem-out ! ThreadR (Is ThreadR) (shows 𝓤 H A ThreadR) thread-vals thread-tells fullShare (st .ys) (st .i) blank b o there (λ _.
           assigns ! (of-opd ! (load ! (from ! (stop !)) (look ! 13 refl))) (from ! (hop ! (look ! 15 refl) (stop !))) (store-raw ! 0 refl (thread-typed 𝓤 H A W t _ (known-is is) .0)) $
           move ! (1 ∷ []) $ drop ! $ owned ! ThreadR (Is ThreadR) (thread-makes 𝓤 H A) t _ (known-is is) $ move ! (1 ∷ 0 ∷ []) $ elem-put ! ThreadR fullShare (st .ys) (st .i) t (thread-vals t) b o there $

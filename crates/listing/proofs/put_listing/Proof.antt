@@ -31,7 +31,7 @@ same-length c = search needs
 
 -- src/lib.rt:177:1
 returns : tie.Need-returns
-returns c = put-same (listing-is _ _ _) (put-put (put-put (c .before .before .before .before .before .before .before .before .before .before .put-counts .ensures .0) (c .before .before .before .before .before .before .put-threads .ensures .0)) (c .before .before .put-registers .ensures .0))
+returns c = put-same (listing-is _ _ _ _) (put-put (put-put (c .before .before .before .before .before .before .before .before .before .before .put-counts .ensures .0) (c .before .before .before .before .before .before .put-threads .ensures .0)) (c .before .before .put-registers .ensures .0))
 
 pub put-listing-spec : {M : Type 1} → statement M
 put-listing-spec =

@@ -27,7 +27,7 @@ same-length c = search needs
 
 -- src/lib.rt:197:9
 returns : tie.Need-returns
-returns c = put-same (listing-text _ _ (c .before .before .before .before .before .before .before .before .before .before .before .pre .1 .0) (c .before .before .before .before .before .before .before .before .before .before .before .pre .1 .1) _ _ _ (c .before .before .before .before .before .before .before .shown .ensures) (c .before .before .before .before .if1 .taken)) (c .before .before .put-listing .ensures)
+returns c = put-same (listing-text _ _ (c .before .before .before .before .before .before .before .before .before .before .before .pre .1 .0) (c .before .before .before .before .before .before .before .before .before .before .before .pre .1 .1) _ _ _ _ (c .before .before .before .before .before .before .before .shown .ensures) (c .before .before .before .before .if1 .taken)) (c .before .before .put-listing .ensures)
 
 -- src/lib.rt:199:5
 put-refusal-requires : tie.Need-put-refusal-requires
@@ -39,7 +39,7 @@ same-length-2 c = search needs
 
 -- src/lib.rt:190:1
 returns-2 : tie.Need-returns-2
-returns-2 c = put-same (refusal-text _ _ (c .before .before .before .before .before .before .before .before .before .before .before .pre .1 .0) (c .before .before .before .before .before .before .before .before .before .before .before .pre .1 .1) _ _ _ (c .before .before .before .before .before .before .before .shown .ensures) (c .before .before .before .before .if1 .left)) (c .before .before .put-refusal .ensures)
+returns-2 c = put-same (refusal-text _ _ (c .before .before .before .before .before .before .before .before .before .before .before .pre .1 .0) (c .before .before .before .before .before .before .before .before .before .before .before .pre .1 .1) _ _ _ _ (c .before .before .before .before .before .before .before .shown .ensures) (c .before .before .before .before .if1 .left)) (c .before .before .put-refusal .ensures)
 
 pub put-run-spec : {M : Type 1} → statement M
 put-run-spec =

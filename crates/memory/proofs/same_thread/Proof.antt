@@ -1,14 +1,14 @@
--- `memory::same_thread` is safe and ends. The loop's invariant: k is at most 203. The measure is what is left up to there. Assumes nothing.
+-- `memory::same_thread` is safe and ends. The loop's invariant: k is at most 267. The measure is what is left up to there. Assumes nothing.
 use native.Mathlib.Omega.{arith}
 use Prim.Native.Nat.{_≤_, _-_}
 use Rattle.memory.proofs.same_thread.Statement.{statement}
 use Rattle.memory.proofs.same_thread.Tie as tie
 
 abbrev Inv-loop : tie.InvT-loop
-Inv-loop a b k₀ k = k ≤ 203
+Inv-loop a b k₀ k = k ≤ 267
 
 abbrev μ-loop : tie.MeasureT-loop
-μ-loop a b k₀ k = 203 - k
+μ-loop a b k₀ k = 267 - k
 
 loop-holds : tie.Need-loop-holds Inv-loop μ-loop
 loop-holds c = omega arith

@@ -1,14 +1,14 @@
--- `memory::sum_thread` is safe and ends. The loop's invariant: k is at most 203. The measure is what is left up to there. Assumes nothing.
+-- `memory::sum_thread` is safe and ends. The loop's invariant: k is at most 267. The measure is what is left up to there. Assumes nothing.
 use native.Mathlib.Omega.{arith}
 use Prim.Native.Nat.{_≤_, _-_}
 use Rattle.memory.proofs.sum_thread.Statement.{statement}
 use Rattle.memory.proofs.sum_thread.Tie as tie
 
 abbrev Inv-loop : tie.InvT-loop
-Inv-loop t s₀ k₀ s k = k ≤ 203
+Inv-loop t s₀ k₀ s k = k ≤ 267
 
 abbrev μ-loop : tie.MeasureT-loop
-μ-loop t s₀ k₀ s k = 203 - k
+μ-loop t s₀ k₀ s k = 267 - k
 
 loop-holds : tie.Need-loop-holds Inv-loop μ-loop
 loop-holds c = omega arith

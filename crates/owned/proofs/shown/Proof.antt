@@ -9,6 +9,7 @@ use Rattle.machine.specs.Answers.{answered, freshCall}
 use Rattle.thread.specs.Threads.{blank}
 use Rattle.thread.specs.declared.Thread.{Thread}
 use Rattle.owned.specs.Owned.{onFirst}
+use Rattle.owned.specs.declared.Laid.{Laid}
 use Rattle.owned.proofs.Freshly.{freshly}
 use Rattle.owned.proofs.shown.Statement.{statement}
 use Rattle.owned.proofs.shown.Tie as tie
@@ -31,9 +32,11 @@ run-requires c κs = search needs
 -- the two calls are one
 returns : tie.Need-returns
 returns c =
-    freshly _ _ (replicate 65 (pos 0)) (replicate 17 blank) refl refl _ _ (c .before .before .before .fresh .result .reply)
-    (subst (λ (t : Thread). answered (c .before .before .before .fresh .result .registers) (c .before .before .before .fresh .result .threads) (c .before .before .before .fresh .result .reply) ≡ onFirst 64 16 (freshCall (now (c .before .before .before .before .before .before .before .args .code))) (replicate 65 (pos 0)) (replicate 17 t))
-    (c .before .before .before .before .spawned .ensures ∙ unspawned) (c .before .before .before .fresh .ensures)) _ (c .run .ensures)
+    let laid : Laid = c .before .before .before .before .fresh .result in
+    freshly _ _ (replicate 65 (pos 0)) (replicate 65 0) (replicate 17 blank) refl refl refl _ _ _ (laid .reply)
+    (subst (λ (t : Thread). answered (laid .registers) (laid .counts) (laid .threads) (laid .reply) ≡
+    onFirst 64 64 16 (freshCall (now (c .before .before .before .before .before .before .before .before .args .code))) (replicate 65 (pos 0)) (replicate 65 0) (replicate 17 t))
+    (c .before .before .before .before .before .spawned .ensures ∙ unspawned) (c .before .before .before .before .fresh .ensures)) _ (c .run .ensures)
 
 -- the function meets its contract
 pub shown-spec : {M : Type 1} → statement M

@@ -15,7 +15,7 @@ reach-requires c κs = search needs
 
 -- src/lib.rt:135:20
 slice-aggregate-step : tie.Need-slice-aggregate-step
-slice-aggregate-step c = reach-length (c .before .before .before .args .code .now) (c .before .before .before .args .pick) _ (c .before .reach .ensures)
+slice-aggregate-step c = reach-length (c .before .before .before .before .args .code .now) (c .before .before .before .before .args .pick) _ (c .before .reach .ensures)
 
 -- src/lib.rt:135:9
 step-requires : tie.Need-step-requires
@@ -33,11 +33,14 @@ after-requires c κs = search needs
 same-length : tie.Need-same-length
 same-length c = search needs
 
+same-length-2 : tie.Need-same-length-2
+same-length-2 c = search needs
+
 -- src/lib.rt:124:1
 returns : tie.Need-returns
 returns c =
-    let e = c .before .before .before .before in
-    a-pick _ _ _ _ _ _ (e .before .before .before .reach .ensures) _ _ (e .step .ensures) _ (c .before .seat .ensures) _ (c .after2 .ensures)
+    let e = c .before .before .before .before .before .before in
+    a-pick _ _ _ _ _ _ (e .before .before .before .before .reach .ensures) _ _ (e .step .ensures) _ (c .before .seat .ensures) _ (c .after2 .ensures)
 
 pub perform-spec : {M : Type 1} → statement M
 perform-spec =
@@ -49,4 +52,5 @@ perform-spec =
     seat-requires
     after-requires
     same-length
+    same-length-2
     returns)

@@ -15,7 +15,7 @@ reach-requires c κs = search needs
 
 -- src/lib.rt:163:21
 slice-aggregate-plain : tie.Need-slice-aggregate-plain
-slice-aggregate-plain c = reach-length (c .before .before .before .args .code .now) (c .before .before .before .args .pick) _ (c .before .reach .ensures)
+slice-aggregate-plain c = reach-length (c .before .before .before .before .args .code .now) (c .before .before .before .before .args .pick) _ (c .before .reach .ensures)
 
 -- src/lib.rt:163:9
 plain-requires : tie.Need-plain-requires

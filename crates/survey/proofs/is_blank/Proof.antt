@@ -2,7 +2,7 @@
 use mathlib.Core.Path.{sym, _∙_}
 use borrow.Author.Tests.{not-true, not-false}
 use Rattle.survey.proofs.Yes.{is-false, alike, clash}
-use Rattle.survey.proofs.Records.{zeros-of, all-zero}
+use Rattle.survey.proofs.Records.{none-marked, zeros-of, all-zero}
 use borrow.Author.Needs.{needs}
 use Rattle.survey.proofs.is_blank.Statement.{statement}
 use Rattle.survey.proofs.is_blank.Tie as tie
@@ -56,7 +56,13 @@ is-zero-from-requires-3 : tie.Need-is-zero-from-requires-3
 is-zero-from-requires-3 c κs = search needs
 
 returns-14 : tie.Need-returns-14
-returns-14 c = alike _ _ (λ e. all-zero (c .before .before .before .before .before .before .before .before .before .before .before .before .before .before .before .before .before .before .before .before .before .before .before .before .before .before .before .before .before .before .before .before .before .args .t) (record { start = c .before .before .before .before .before .before .before .before .before .before .before .before .before .before .before .before .before .before .before .before .before .before .before .before .before .before .before .before .before .before .before .if1 .left; end = c .before .before .before .before .before .before .before .before .before .before .before .before .before .before .before .before .before .before .before .before .before .before .before .before .before .before .before .before .before .if2 .left; place = c .before .before .before .before .before .before .before .before .before .before .before .before .before .before .before .before .before .before .before .before .before .before .before .before .before .before .before .if3 .left; height = c .before .before .before .before .before .before .before .before .before .before .before .before .before .before .before .before .before .before .before .before .before .before .before .before .before .if4 .left; begin = c .before .before .before .before .before .before .before .before .before .before .before .before .before .before .before .before .before .before .before .before .before .before .before .if5 .left; base = c .before .before .before .before .before .before .before .before .before .before .before .before .before .before .before .before .before .before .before .before .before .if6 .left; over = c .before .before .before .before .before .before .before .before .before .before .before .before .before .before .before .before .before .before .before .if7 .left; reads = c .before .before .before .before .before .before .before .before .before .before .before .before .before .before .before .before .before .if8 .left; writes = c .before .before .before .before .before .before .before .before .before .before .before .before .before .before .before .if9 .left; rule = c .before .before .before .before .before .before .before .before .before .before .before .before .before .if10 .left; backs = c .before .before .before .before .before .before .before .before .before .before .before .if11 .left; cells = sym (c .before .before .before .before .before .before .before .before .is-zero-from .ensures) ∙ not-false _ (c .before .before .before .before .before .before .before .if12 .left); readlog = sym (c .before .before .before .before .is-zero-from2 .ensures) ∙ not-false _ (c .before .before .before .if13 .left); writelog = sym (c .is-zero-from3 .ensures) ∙ e })) (λ e. c .is-zero-from3 .ensures ∙ zeros-of (c .before .before .before .before .before .before .before .before .before .before .before .before .before .before .before .before .before .before .before .before .before .before .before .before .before .before .before .before .before .before .before .before .before .args .t) e .writelog)
+returns-14 c = is-false _ (λ e. clash (sym (c .before .is-zero-from3 .ensures) ∙ not-true _ (c .if14 .taken)) (zeros-of (c .before .before .before .before .before .before .before .before .before .before .before .before .before .before .before .before .before .before .before .before .before .before .before .before .before .before .before .before .before .before .before .before .before .before .args .t) e .writelog))
+
+is-uncounted-requires : tie.Need-is-uncounted-requires
+is-uncounted-requires c κs = search needs
+
+returns-15 : tie.Need-returns-15
+returns-15 c = alike _ _ (λ e. all-zero (c .before .before .before .before .before .before .before .before .before .before .before .before .before .before .before .before .before .before .before .before .before .before .before .before .before .before .before .before .before .before .before .before .before .before .before .before .before .args .t) (record { start = c .before .before .before .before .before .before .before .before .before .before .before .before .before .before .before .before .before .before .before .before .before .before .before .before .before .before .before .before .before .before .before .before .before .before .before .if1 .left; end = c .before .before .before .before .before .before .before .before .before .before .before .before .before .before .before .before .before .before .before .before .before .before .before .before .before .before .before .before .before .before .before .before .before .if2 .left; place = c .before .before .before .before .before .before .before .before .before .before .before .before .before .before .before .before .before .before .before .before .before .before .before .before .before .before .before .before .before .before .before .if3 .left; height = c .before .before .before .before .before .before .before .before .before .before .before .before .before .before .before .before .before .before .before .before .before .before .before .before .before .before .before .before .before .if4 .left; begin = c .before .before .before .before .before .before .before .before .before .before .before .before .before .before .before .before .before .before .before .before .before .before .before .before .before .before .before .if5 .left; base = c .before .before .before .before .before .before .before .before .before .before .before .before .before .before .before .before .before .before .before .before .before .before .before .before .before .if6 .left; over = c .before .before .before .before .before .before .before .before .before .before .before .before .before .before .before .before .before .before .before .before .before .before .before .if7 .left; reads = c .before .before .before .before .before .before .before .before .before .before .before .before .before .before .before .before .before .before .before .before .before .if8 .left; writes = c .before .before .before .before .before .before .before .before .before .before .before .before .before .before .before .before .before .before .before .if9 .left; rule = c .before .before .before .before .before .before .before .before .before .before .before .before .before .before .before .before .before .if10 .left; backs = c .before .before .before .before .before .before .before .before .before .before .before .before .before .before .before .if11 .left; cells = sym (c .before .before .before .before .before .before .before .before .before .before .before .before .is-zero-from .ensures) ∙ not-false _ (c .before .before .before .before .before .before .before .before .before .before .before .if12 .left); readlog = sym (c .before .before .before .before .before .before .before .before .is-zero-from2 .ensures) ∙ not-false _ (c .before .before .before .before .before .before .before .if13 .left); writelog = sym (c .before .before .before .before .is-zero-from3 .ensures) ∙ not-false _ (c .before .before .before .if14 .left); readcounts = sym (c .is-uncounted .ensures ∙ none-marked (c .before .before .before .before .before .before .before .before .before .before .before .before .before .before .before .before .before .before .before .before .before .before .before .before .before .before .before .before .before .before .before .before .before .before .before .before .before .args .t .readcounts)) ∙ e })) (λ e. (c .is-uncounted .ensures ∙ none-marked (c .before .before .before .before .before .before .before .before .before .before .before .before .before .before .before .before .before .before .before .before .before .before .before .before .before .before .before .before .before .before .before .before .before .before .before .before .before .args .t .readcounts)) ∙ zeros-of (c .before .before .before .before .before .before .before .before .before .before .before .before .before .before .before .before .before .before .before .before .before .before .before .before .before .before .before .before .before .before .before .before .before .before .before .before .before .args .t) e .readcounts)
 
 pub is-blank-spec : {M : Type 1} → statement M
 is-blank-spec =
@@ -78,4 +84,6 @@ is-blank-spec =
     is-zero-from-requires-2
     returns-13
     is-zero-from-requires-3
-    returns-14)
+    returns-14
+    is-uncounted-requires
+    returns-15)

@@ -29,7 +29,13 @@ is-zero-from-requires : tie.Need-is-zero-from-requires
 is-zero-from-requires c κs = search needs
 
 returns-4 : tie.Need-returns-4
-returns-4 c = alike _ _ (λ e. is-tidy (c .before .before .before .before .before .before .before .before .before .before .before .before .before .args .t) (record { shut = sym (c .before .before .before .before .before .before .before .before .before .before .before .before .is-shut .ensures) ∙ not-false _ (c .before .before .before .before .before .before .before .before .before .before .before .if1 .left); readlog = sym (c .before .before .before .before .before .before .before .before .is-log-free .ensures) ∙ not-false _ (c .before .before .before .before .before .before .before .if2 .left); writelog = sym (c .before .before .before .before .is-log-free2 .ensures) ∙ not-false _ (c .before .before .before .if3 .left); cells = sym (c .is-zero-from .ensures) ∙ e })) (λ e. c .is-zero-from .ensures ∙ tidy-of (c .before .before .before .before .before .before .before .before .before .before .before .before .before .args .t) e .cells)
+returns-4 c = is-false _ (λ e. clash (sym (c .before .is-zero-from .ensures) ∙ not-true _ (c .if4 .taken)) (tidy-of (c .before .before .before .before .before .before .before .before .before .before .before .before .before .before .args .t) e .cells))
+
+is-uncounted-requires : tie.Need-is-uncounted-requires
+is-uncounted-requires c κs = search needs
+
+returns-5 : tie.Need-returns-5
+returns-5 c = alike _ _ (λ e. is-tidy (c .before .before .before .before .before .before .before .before .before .before .before .before .before .before .before .before .before .args .t) (record { shut = sym (c .before .before .before .before .before .before .before .before .before .before .before .before .before .before .before .before .is-shut .ensures) ∙ not-false _ (c .before .before .before .before .before .before .before .before .before .before .before .before .before .before .before .if1 .left); readlog = sym (c .before .before .before .before .before .before .before .before .before .before .before .before .is-log-free .ensures) ∙ not-false _ (c .before .before .before .before .before .before .before .before .before .before .before .if2 .left); writelog = sym (c .before .before .before .before .before .before .before .before .is-log-free2 .ensures) ∙ not-false _ (c .before .before .before .before .before .before .before .if3 .left); cells = sym (c .before .before .before .before .is-zero-from .ensures) ∙ not-false _ (c .before .before .before .if4 .left); readcounts = sym (c .is-uncounted .ensures) ∙ e })) (λ e. c .is-uncounted .ensures ∙ tidy-of (c .before .before .before .before .before .before .before .before .before .before .before .before .before .before .before .before .before .args .t) e .readcounts)
 
 pub is-tidy-spec : {M : Type 1} → statement M
 is-tidy-spec =
@@ -42,4 +48,6 @@ is-tidy-spec =
     is-log-free-requires-2
     returns-3
     is-zero-from-requires
-    returns-4)
+    returns-4
+    is-uncounted-requires
+    returns-5)

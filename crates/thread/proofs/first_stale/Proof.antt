@@ -8,10 +8,10 @@ use Rattle.thread.proofs.first_stale.Statement.{statement}
 use Rattle.thread.proofs.first_stale.Tie as tie
 
 abbrev Inv-loop : tie.InvT-loop
-Inv-loop reads readlog registers v₀ v = (v ≤ 64) × (firstStaleIn (64 - v) v reads readlog registers ≡ firstStaleIn 64 0 reads readlog registers)
+Inv-loop reads readcounts counts v₀ v = (v ≤ 64) × (firstStaleIn (64 - v) v reads readcounts counts ≡ firstStaleIn 64 0 reads readcounts counts)
 
 abbrev μ-loop : tie.MeasureT-loop
-μ-loop reads readlog registers v₀ v = 64 - v
+μ-loop reads readcounts counts v₀ v = 64 - v
 
 marked-requires : tie.Need-marked-requires Inv-loop μ-loop
 marked-requires c κs = search needs
@@ -22,7 +22,7 @@ loop-holds c =
     (m .low, sym (found-past _ _ _ 0 _ (m .far (omega arith)) (m .low) (m .past)))
 
 is-stale-requires : tie.Need-is-stale-requires Inv-loop μ-loop
-is-stale-requires c κs = (omega arith, c .before .before .before .pre)
+is-stale-requires c κs = (omega arith, c .before .before .before .before .pre)
 
 add-marked : tie.Need-add-marked Inv-loop μ-loop
 add-marked c = omega arith

@@ -1,8 +1,6 @@
 use mathlib.Core.Path.{sym, _∙_}
-use mir.Facts.{toZ-ofZ}
-use borrow.Author.Needs.{sfits-of}
-use Rattle.thread.proofs.Loops.{stale-less, stale-more, stale-none}
 use borrow.Author.Needs.{needs}
+use Rattle.thread.proofs.Loops.{stale-marked, stale-none}
 use Rattle.thread.proofs.is_stale.Statement.{statement}
 use Rattle.thread.proofs.is_stale.Tie as tie
 
@@ -12,31 +10,23 @@ cast-has c = search needs
 has-requires : tie.Need-has-requires
 has-requires c κs = search needs
 
-mul-old : tie.Need-mul-old
-mul-old c = search needs
+mul-result : tie.Need-mul-result
+mul-result c = search needs
 
-element-copy-out-old : tie.Need-element-copy-out-old
-element-copy-out-old c = search needs
+element-copy-out-result : tie.Need-element-copy-out-result
+element-copy-out-result c = search needs
 
-mul-new : tie.Need-mul-new
-mul-new c = search needs
+mul-result-2 : tie.Need-mul-result-2
+mul-result-2 c = search needs
 
-shared-slice-copy-out-new : tie.Need-shared-slice-copy-out-new
-shared-slice-copy-out-new c = search needs
+shared-slice-read-result : tie.Need-shared-slice-read-result
+shared-slice-read-result c = search needs
 
 returns : tie.Need-returns
-returns c =
-    stale-less _ _ _ _ (sym (c .before .before .before .before .has .ensures) ∙ c .before .before .before .if1 .taken)
-    (rw (toZ-ofZ (sfits-of (c .before .before .old .given)), toZ-ofZ (sfits-of (c .before .new .given))) at (c .if2 .taken))
+returns c = stale-marked _ _ _ _ (sym (c .before .before .before .has .ensures) ∙ c .before .before .if1 .taken)
 
 returns-2 : tie.Need-returns-2
-returns-2 c =
-    rw (toZ-ofZ (sfits-of (c .before .new .given)), toZ-ofZ (sfits-of (c .before .before .old .given)))
-    (stale-more _ _ _ _ (sym (c .before .before .before .before .has .ensures) ∙ c .before .before .before .if1 .taken)
-    (rw (toZ-ofZ (sfits-of (c .before .before .old .given)), toZ-ofZ (sfits-of (c .before .new .given))) at (c .if2 .left)))
-
-returns-3 : tie.Need-returns-3
-returns-3 c = stale-none _ _ _ _ (sym (c .before .has .ensures) ∙ c .if1 .left)
+returns-2 c = stale-none _ _ _ _ (sym (c .before .has .ensures) ∙ c .if1 .left)
 
 pub is-stale-spec : {M : Type 1} → statement M
 is-stale-spec =
@@ -44,10 +34,9 @@ is-stale-spec =
     (tie.spec
     cast-has
     has-requires
-    mul-old
-    element-copy-out-old
-    mul-new
-    shared-slice-copy-out-new
+    mul-result
+    element-copy-out-result
+    mul-result-2
+    shared-slice-read-result
     returns
-    returns-2
-    returns-3)
+    returns-2)

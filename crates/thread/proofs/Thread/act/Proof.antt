@@ -4,7 +4,7 @@ use mir.Facts.{toZ-ofZ}
 use borrow.Author.Needs.{sfits-of}
 use Rattle.thread.specs.InnerStep.{performed}
 use Rattle.thread.specs.Threads.{push}
-use Rattle.thread.proofs.Attempts.{push-due, add-due, read-due, write-due, begin-due, commit-due, fork-due}
+use Rattle.thread.proofs.Attempts.{push-due, add-due, read-due, write-due, begin-due, commit-due, fork-due, sized-both}
 use borrow.Author.Needs.{needs}
 use Rattle.thread.proofs.Thread.act.Statement.{statement}
 use Rattle.thread.proofs.Thread.act.Tie as tie
@@ -14,12 +14,12 @@ enum-known-op c = search needs
 
 add-push : tie.Need-add-push
 add-push c =
-    let f = push-due _ _ _ (c .before .before .before .pre) _ (c .before .op .given .1) in
+    let f = push-due _ _ _ (c .before .before .before .before .pre) _ (c .before .op .given .1) in
     let g = f .1 in
     omega arith
 
 push-requires : tie.Need-push-requires
-push-requires c κs = push-due _ _ _ (c .before .before .before .pre) _ (c .before .op .given .1) .0
+push-requires c κs = push-due _ _ _ (c .before .before .before .before .pre) _ (c .before .op .given .1) .0
 
 did-requires : tie.Need-did-requires
 did-requires c κs = search needs
@@ -28,7 +28,7 @@ enum-told : tie.Need-enum-told
 enum-told c = search needs
 
 add-requires : tie.Need-add-requires
-add-requires c κs = add-due _ _ _ (c .before .before .pre) (c .enum-told .given .1)
+add-requires c κs = add-due _ _ _ (c .before .before .before .pre) (c .enum-told .given .1)
 
 did-requires-2 : tie.Need-did-requires-2
 did-requires-2 c κs = search needs
@@ -40,7 +40,10 @@ source-requires : tie.Need-source-requires
 source-requires c κs = search needs
 
 read-requires : tie.Need-read-requires
-read-requires c κs = read-due _ _ _ (c .before .before .before .before .before .pre) _ (c .before .before .before .op2 .given .1)
+read-requires c κs =
+    let f = read-due _ _ _ (c .before .before .before .before .before .before .before .pre) _ (c .before .before .before .before .op2 .given .1) in
+    let g = sized-both _ _ (f .3) in
+    (f .0, f .1, f .2, g .0, g .1)
 
 did-requires-3 : tie.Need-did-requires-3
 did-requires-3 c κs = search needs
@@ -49,7 +52,7 @@ enum-known-op-3 : tie.Need-enum-known-op-3
 enum-known-op-3 c = search needs
 
 write-requires : tie.Need-write-requires
-write-requires c κs = write-due _ _ _ (c .before .before .before .pre) _ (c .before .op3 .given .1)
+write-requires c κs = write-due _ _ _ (c .before .before .before .before .pre) _ (c .before .op3 .given .1)
 
 did-requires-4 : tie.Need-did-requires-4
 did-requires-4 c κs = search needs
@@ -58,40 +61,43 @@ enum-told-2 : tie.Need-enum-told-2
 enum-told-2 c = search needs
 
 begin-requires : tie.Need-begin-requires
-begin-requires c κs = begin-due _ _ _ (c .before .before .pre) (c .enum-told2 .given .1)
+begin-requires c κs = begin-due _ _ _ (c .before .before .before .pre) (c .enum-told2 .given .1)
 
 enum-told-3 : tie.Need-enum-told-3
 enum-told-3 c = search needs
 
 commit-requires : tie.Need-commit-requires
-commit-requires c κs = commit-due _ _ _ (c .before .before .before .pre) (c .before .enum-told3 .given .1)
+commit-requires c κs =
+    let f = commit-due _ _ _ (c .before .before .before .before .before .pre) (c .before .before .enum-told3 .given .1) in
+    let g = sized-both _ _ (f .3) in
+    (f .0, f .1, f .2, g .0, g .1)
 
 enum-known-op-4 : tie.Need-enum-known-op-4
 enum-known-op-4 c = search needs
 
 add-push-2 : tie.Need-add-push-2
 add-push-2 c =
-    let f = fork-due _ _ _ (c .before .before .before .pre) _ (c .before .op4 .given .1) in
+    let f = fork-due _ _ _ (c .before .before .before .before .pre) _ (c .before .op4 .given .1) in
     let g = f .1 in
     omega arith
 
 add-push-3 : tie.Need-add-push-3
 add-push-3 c =
-    let f = fork-due _ _ _ (c .before .before .before .pre) _ (c .before .op4 .given .1) in
+    let f = fork-due _ _ _ (c .before .before .before .before .pre) _ (c .before .op4 .given .1) in
     let g = f .1 in
     omega arith
 
 push-requires-2 : tie.Need-push-requires-2
-push-requires-2 c κs = fork-due _ _ _ (c .before .before .before .pre) _ (c .before .op4 .given .1) .0
+push-requires-2 c κs = fork-due _ _ _ (c .before .before .before .before .pre) _ (c .before .op4 .given .1) .0
 
-add-t21 : tie.Need-add-t21
-add-t21 c = add-push-2 (c .before)
+add-t26 : tie.Need-add-t26
+add-t26 c = add-push-2 (c .before)
 
-add-t22 : tie.Need-add-t22
-add-t22 c = add-push-2 (c .before)
+add-t27 : tie.Need-add-t27
+add-t27 c = add-push-2 (c .before)
 
-add-t23 : tie.Need-add-t23
-add-t23 c = add-push-3 (c .before)
+add-t28 : tie.Need-add-t28
+add-t28 c = add-push-3 (c .before)
 
 enum-told-4 : tie.Need-enum-told-4
 enum-told-4 c = search needs
@@ -112,7 +118,7 @@ same-length c = search needs
 
 returns-3 : tie.Need-returns-3
 unfolding performed
-returns-3 c = rw (c .did2 .ensures, c .before .read .ensures, c .before .before .before .source .ensures, c .before .before .before .before .before .op2 .given .1)
+returns-3 c = rw (c .did2 .ensures, c .before .read .ensures, c .before .before .before .before .source .ensures, c .before .before .before .before .before .before .op2 .given .1)
 
 returns-4 : tie.Need-returns-4
 unfolding performed
@@ -125,9 +131,15 @@ returns-5 c = rw (c .did4 .ensures, c .before .begin .ensures, c .before .before
 same-length-2 : tie.Need-same-length-2
 same-length-2 c = search needs
 
+same-length-3 : tie.Need-same-length-3
+same-length-3 c = search needs
+
+same-length-4 : tie.Need-same-length-4
+same-length-4 c = search needs
+
 returns-6 : tie.Need-returns-6
 unfolding performed
-returns-6 c = c .before .commit .ensures ∙ rw (c .before .before .before .enum-told3 .given .1)
+returns-6 c = c .before .before .before .commit .ensures ∙ rw (c .before .before .before .before .before .before .enum-told3 .given .1)
 
 returns-7 : tie.Need-returns-7
 unfolding performed push
@@ -163,18 +175,20 @@ act-spec =
     add-push-2
     add-push-3
     push-requires-2
-    add-t21
-    add-t22
-    add-t23
+    add-t26
+    add-t27
+    add-t28
     enum-told-4
     idle-requires
     returns
     returns-2
     same-length
+    same-length-2
     returns-3
     returns-4
     returns-5
-    same-length-2
+    same-length-3
+    same-length-4
     returns-6
     returns-7
     returns-8)

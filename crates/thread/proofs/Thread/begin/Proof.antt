@@ -14,7 +14,7 @@ add-self c = search needs
 
 returns : tie.Need-returns
 unfolding begin
-returns c = rw (c .before .before .before .empty .ensures, c .before .empty2 .ensures)
+returns c = rw (c .before .before .before .before .empty .ensures, c .before .empty2 .ensures)
 
 pub begin-spec : {M : Type 1} → statement M
 begin-spec = tie.close (tie.spec empty-requires empty-requires-2 add-self returns)

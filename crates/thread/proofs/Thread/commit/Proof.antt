@@ -26,6 +26,9 @@ returns c =
 store-requires : tie.Need-store-requires
 store-requires c κs = search needs
 
+recount-requires : tie.Need-recount-requires
+recount-requires c κs = search needs
+
 add-closed : tie.Need-add-closed
 add-closed c = search needs
 
@@ -38,10 +41,13 @@ did-requires c κs = search needs
 same-length-2 : tie.Need-same-length-2
 same-length-2 c = search needs
 
+same-length-3 : tie.Need-same-length-3
+same-length-3 c = search needs
+
 returns-2 : tie.Need-returns-2
 returns-2 c =
-    let e = c .before .before .before .before .before .before .before .before in
-    rw (c .did .ensures) (commit-done _ _ _ (e .before .first-stale .ensures) (e .if1 .left) _ (c .before .closed2 .ensures) _ (c .before .before .before .before .store .ensures))
+    let e = c .before .before .before .before .before .before .before .before .before .before .before .before in
+    rw (c .did .ensures) (commit-done _ _ _ (e .before .first-stale .ensures) (e .if1 .left) _ (c .before .closed2 .ensures) _ (c .before .before .before .before .before .before .before .before .store .ensures) _ (c .before .before .before .before .before .recount .ensures))
 
 pub commit-spec : {M : Type 1} → statement M
 commit-spec =
@@ -54,8 +60,10 @@ commit-spec =
     same-length
     returns
     store-requires
+    recount-requires
     add-closed
     closed-requires-2
     did-requires
     same-length-2
+    same-length-3
     returns-2)

@@ -4,7 +4,6 @@ use Prim.Native.Nat.{ℕ}
 use lib.Dec.{ltb}
 use borrow.Author.Needs.{needs}
 use Rattle.thread.specs.InnerStep.{staleRead}
-use Rattle.thread.proofs.Loops.{first-in}
 use Rattle.thread.proofs.Thread.has_stale.Statement.{statement}
 use Rattle.thread.proofs.Thread.has_stale.Tie as tie
 
@@ -17,7 +16,7 @@ first-stale-requires c κs = search needs
 
 returns-2 : tie.Need-returns-2
 unfolding staleRead
-returns-2 c = rw (eq-eqb _ 64 (c .before .before .before .if1 .left)) (ap (λ (n : ℕ). ltb n 64) (c .first-stale .ensures ∙ first-in 64 0 _ _))
+returns-2 c = rw (eq-eqb _ 64 (c .before .before .before .if1 .left)) (ap (λ (n : ℕ). ltb n 64) (c .first-stale .ensures))
 
 pub has-stale-spec : {M : Type 1} → statement M
 has-stale-spec = tie.close (tie.spec returns first-stale-requires returns-2)

@@ -11,6 +11,12 @@ mul-readlog c = search needs
 array-set-from-readlog : tie.Need-array-set-from-readlog
 array-set-from-readlog c = search needs
 
+mul-readcounts : tie.Need-mul-readcounts
+mul-readcounts c = search needs
+
+array-write-readcounts : tie.Need-array-write-readcounts
+array-write-readcounts c = search needs
+
 mul-cells : tie.Need-mul-cells
 mul-cells c = search needs
 
@@ -28,7 +34,7 @@ add-self-2 c = search needs
 
 returns : tie.Need-returns
 unfolding push
-returns c = rw (toZ-ofZ (c .before .before .before .fits .n), c .insert .ensures, add-one)
+returns c = rw (toZ-ofZ (c .before .before .before .before .fits .n), c .insert .ensures, add-one)
 
 pub log-spec : {M : Type 1} → statement M
 log-spec =
@@ -36,6 +42,8 @@ log-spec =
     (tie.spec
     mul-readlog
     array-set-from-readlog
+    mul-readcounts
+    array-write-readcounts
     mul-cells
     array-set-from-cells
     insert-requires

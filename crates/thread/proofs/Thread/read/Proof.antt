@@ -49,14 +49,20 @@ mul-n-3 c = search needs
 shared-slice-copy-out-n : tie.Need-shared-slice-copy-out-n
 shared-slice-copy-out-n c = search needs
 
+mul-count : tie.Need-mul-count
+mul-count c = search needs
+
+shared-slice-read-count : tie.Need-shared-slice-read-count
+shared-slice-read-count c = search needs
+
 log-requires : tie.Need-log-requires
 log-requires c κs = search needs
 
 returns-3 : tie.Need-returns-3
 unfolding read sourceOf
 returns-3 c =
-    let m = c .before .before .before in
-    rw (c .log3 .ensures, toZ-ofZ (sfits-of (c .before .n3 .given)), ← (m .before .before .has .ensures), m .before .if1 .left, ← (m .has2 .ensures), c .before .before .if2 .left)
+    let m = c .before .before .before .before in
+    rw (c .log3 .ensures, toZ-ofZ (sfits-of (c .before .before .n3 .given)), ← (m .before .before .has .ensures), m .before .if1 .left, ← (m .has2 .ensures), c .before .before .before .if2 .left)
 
 pub read-spec : {M : Type 1} → statement M
 read-spec =
@@ -75,5 +81,7 @@ read-spec =
     returns-2
     mul-n-3
     shared-slice-copy-out-n
+    mul-count
+    shared-slice-read-count
     log-requires
     returns-3)
