@@ -21,7 +21,7 @@ extern "C" {
 
 /* The version of this interface. A change of a record, an answer or a function that a program built before does not know
  * of gives it another number. */
-#define KUSPIGO_API 1
+#define KUSPIGO_API 2
 
 /* The library's own version. The function's name holds the number, kuspigo_api_ with KUSPIGO_API behind it, and every
  * file that includes this header refers to it: with the archive of another version the program does not link. (A
@@ -87,7 +87,19 @@ static inline const char *kuspigo_refusal_sentence(size_t refusal) {
 }
 #undef KUSPIGO_SENTENCE_
 
-/* A state is 64 registers and 16 thread records. */
+/* A state is 64 registers, a count for each of them, and 16 thread records.
+ *
+ * A register's count is how often commits have written it: a commit that takes effect adds 1 for each register of its
+ * write log, once and whatever the value. A register that enters a thread's read log enters with its count. From then on it
+ * is stale for that thread if the two counts differ, also if its value is the same; the values decide nothing.
+ *
+ * Of these counts, a state does not fit its code (refusal 12)
+ * - if a register's count is above the COMMITs that all threads together have passed,
+ * - if a count in a read log is above the register's,
+ * - if a count in a read log is not 0 and its register is not marked there,
+ * - if a thread that has a stale register in its read log was sent back as often as COMMITs were passed,
+ * - or if there are other than 64 counts, also where a fresh state is to be laid down.
+ * Any other counts fit. */
 #define KUSPIGO_REGISTERS 64
 #define KUSPIGO_THREADS 16
 /* No code of an accepted job is longer than this, no accepted job, and no listing. */
@@ -102,30 +114,31 @@ static inline const char *kuspigo_refusal_sentence(size_t refusal) {
 #define KUSPIGO_STACK_FORECAST 784
 #define KUSPIGO_STACK_COMPILE 15472
 #define KUSPIGO_STACK_READ_BACK 1088
-#define KUSPIGO_STACK_REPORT 69104
-#define KUSPIGO_STACK_FRESH 400
-#define KUSPIGO_STACK_STEP 4360
-#define KUSPIGO_STACK_RUN 4360
+#define KUSPIGO_STACK_REPORT 83744
+#define KUSPIGO_STACK_FRESH 416
+#define KUSPIGO_STACK_STEP 5912
+#define KUSPIGO_STACK_RUN 5928
 
-/* A thread's record. Places count from the code's first byte, so 0 is no place. */
+/* A thread's record. Places count from the code's first byte, so 0 is no place. A record of no thread is 0 throughout. */
 typedef struct kuspigo_thread {
-    size_t start;         /* its own code: from start, which is 0 if there is no such thread, */
-    size_t end;           /* up to end, less the child code of the FORKs in it */
-    size_t place;         /* the next instruction; at end the thread has ended, and cells[0] is its result */
-    size_t height;        /* so many cells of the stack are in use */
+    size_t start;            /* its own code: from start, which is 0 if there is no such thread, */
+    size_t end;              /* up to end, less the child code of the FORKs in it */
+    size_t place;            /* the next instruction; at end the thread has ended, and cells[0] is its result */
+    size_t height;           /* so many cells of the stack are in use */
     int32_t cells[64];
-    size_t begin;         /* the open transaction's notes, 0 if none is open: its BEGIN's place, */
-    size_t base;          /* the stack height there, */
-    size_t over;          /* and how many sums of this attempt left the 32-bit range */
-    uint64_t reads;       /* the registers that the read log marks, bit 0 being register 0, */
-    int32_t readlog[64];  /* and their values */
-    uint64_t writes;      /* the write log, likewise */
-    int32_t writelog[64];
-    size_t rule;          /* the last rule that moved the thread, 0 if none has; idle picks leave it: 1 to 9 an enum
-                             kuspigo_event, KUSPIGO_SENT_BACK + v if it was sent back with the lowest stale register v. Any number
-                             fits in a thread's record; in a record of no thread both of these are 0 */
-    size_t backs;         /* how often it was sent back: at most as often as all threads together have passed COMMITs, and
-                             less often while a value in its read log is not the register's; else the state does not fit */
+    size_t begin;            /* the open transaction's notes, 0 if none is open: its BEGIN's place, */
+    size_t base;             /* the stack height there, */
+    size_t over;             /* and how many sums of this attempt left the 32-bit range */
+    uint64_t reads;          /* the registers that the read log marks, bit 0 being register 0, */
+    int32_t readlog[64];     /* their values, */
+    uint32_t readcounts[64]; /* and their counts, as the table had them when they entered the log; 0 if not marked */
+    uint64_t writes;         /* the registers that the write log marks, */
+    int32_t writelog[64];    /* and their values */
+    size_t rule;             /* the last rule that moved the thread, 0 if none has; idle picks leave it: 1 to 9 an enum
+                                kuspigo_event, KUSPIGO_SENT_BACK + v if it was sent back with the lowest stale register
+                                v. Any number fits in a thread's record */
+    size_t backs;            /* how often it was sent back: at most as often as all threads together have passed COMMITs,
+                                and less often while a register of its read log is stale; else the state does not fit */
 } kuspigo_thread;
 
 typedef struct kuspigo_written {
@@ -151,7 +164,7 @@ enum kuspigo_event {
     KUSPIGO_READ_TABLE = 7,
     KUSPIGO_WRITE = 8,
     KUSPIGO_COMMIT = 9, /* one that took effect */
-    KUSPIGO_SENT_BACK = 10 /* a COMMIT that found a stale register */
+    KUSPIGO_SENT_BACK = 10 /* a COMMIT that found a stale register: one that a commit wrote since it was read */
 };
 
 typedef struct kuspigo_step_reply {
@@ -175,8 +188,8 @@ typedef struct kuspigo_run_reply {
 } kuspigo_run_reply;
 
 /* What a job will need; on a refusal the rest is 0. A run is here all steps and runs with this job's code on one state,
- * from kuspigo_fresh on, nothing else writing it meanwhile; counts are added up over it, and the picks may be any. It is
- * finished when every thread has ended. */
+ * from kuspigo_fresh on, nothing else writing it meanwhile; steps and commits are added up over it, and the picks may be
+ * any. It is finished when every thread has ended. */
 typedef struct kuspigo_forecast_reply {
     size_t refusal;
     size_t place;
@@ -194,7 +207,7 @@ typedef struct kuspigo_forecast_reply {
 
 /* The records as the library was built with them; on a machine where they differ the header is not taken. */
 #define KUSPIGO_SIZE_(type, bytes) typedef char type##_has_##bytes##_bytes[sizeof(type) == bytes ? 1 : -1]
-KUSPIGO_SIZE_(kuspigo_thread, 856);
+KUSPIGO_SIZE_(kuspigo_thread, 1112);
 KUSPIGO_SIZE_(kuspigo_written, 24);
 KUSPIGO_SIZE_(kuspigo_fresh_reply, 16);
 KUSPIGO_SIZE_(kuspigo_step_reply, 48);
@@ -215,17 +228,20 @@ kuspigo_written kuspigo_read_back(const uint8_t *code, size_t code_count, uint8_
  * refusal of the job or the picks is printed; the only refusal of this call is 10. */
 kuspigo_written kuspigo_report(const uint8_t *input, size_t input_count, uint8_t *out, size_t out_count);
 
-/* A fresh state for the code, over whatever was there. Refusals 11, then 12 (not 64 registers or not 16 records). */
+/* A fresh state for the code, over whatever was there: thread 0 alone, every register and every count 0. Refusals 11, then
+ * 12 (not 64 registers, not 64 counts or not 16 records). */
 kuspigo_fresh_reply kuspigo_fresh(const uint8_t *code, size_t code_count, int32_t *registers, size_t register_count,
-                                  kuspigo_thread *threads, size_t thread_count);
+                                  uint32_t *counts, size_t count_count, kuspigo_thread *threads, size_t thread_count);
 
 /* One pick: one instruction of that thread. Refusals 11, then 12. */
 kuspigo_step_reply kuspigo_step(const uint8_t *code, size_t code_count, int32_t *registers, size_t register_count,
-                                kuspigo_thread *threads, size_t thread_count, uint8_t pick);
+                                uint32_t *counts, size_t count_count, kuspigo_thread *threads, size_t thread_count,
+                                uint8_t pick);
 
 /* A list of picks, one after the other. Refusals 11, then 12, then 13. */
 kuspigo_run_reply kuspigo_run(const uint8_t *code, size_t code_count, int32_t *registers, size_t register_count,
-                              kuspigo_thread *threads, size_t thread_count, const uint8_t *picks, size_t pick_count);
+                              uint32_t *counts, size_t count_count, kuspigo_thread *threads, size_t thread_count,
+                              const uint8_t *picks, size_t pick_count);
 
 #ifdef __cplusplus
 }

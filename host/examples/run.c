@@ -11,6 +11,7 @@ static const uint8_t picks[] = {0, 0, 0, 1, 1, 2, 2, 2, 2, 2, 2, 1, 1, 1, 1, 1, 
 
 static uint8_t code[KUSPIGO_LONGEST_CODE];
 static int32_t registers[KUSPIGO_REGISTERS];
+static uint32_t counts[KUSPIGO_REGISTERS];
 static kuspigo_thread threads[KUSPIGO_THREADS];
 
 static int refused(size_t number, size_t place) {
@@ -24,9 +25,9 @@ int main(void) {
     kuspigo_written compiled = kuspigo_compile(job, sizeof job, code, sizeof code);
     if (refused(compiled.refusal, compiled.place)) return 1;
     kuspigo_fresh_reply laid = kuspigo_fresh(code, compiled.length, registers, KUSPIGO_REGISTERS,
-                                             threads, KUSPIGO_THREADS);
+                                             counts, KUSPIGO_REGISTERS, threads, KUSPIGO_THREADS);
     if (refused(laid.refusal, laid.place)) return 1;
-    kuspigo_run_reply ran = kuspigo_run(code, compiled.length, registers, KUSPIGO_REGISTERS,
+    kuspigo_run_reply ran = kuspigo_run(code, compiled.length, registers, KUSPIGO_REGISTERS, counts, KUSPIGO_REGISTERS,
                                         threads, KUSPIGO_THREADS, picks, sizeof picks);
     if (refused(ran.refusal, ran.place)) return 1;
     printf("steps %zu idle %zu commits %zu back %zu over %zu\n", ran.steps, ran.idle, ran.commits, ran.back, ran.over);

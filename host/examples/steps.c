@@ -11,6 +11,7 @@ static const uint8_t picks[] = {0, 0, 0, 1, 1, 2, 2, 2, 2, 2, 2, 1, 1, 1, 1, 1, 
 
 static uint8_t code[KUSPIGO_LONGEST_CODE];
 static int32_t registers[KUSPIGO_REGISTERS];
+static uint32_t counts[KUSPIGO_REGISTERS];
 static kuspigo_thread threads[KUSPIGO_THREADS];
 
 static const char *const names[] = {"none", "push", "sum", "fork", "begin", "read from write log",
@@ -34,11 +35,11 @@ int main(void) {
     kuspigo_written compiled = kuspigo_compile(job, sizeof job, code, sizeof code);
     if (refused(compiled.refusal, compiled.place)) return 1;
     kuspigo_fresh_reply laid = kuspigo_fresh(code, compiled.length, registers, KUSPIGO_REGISTERS,
-                                             threads, KUSPIGO_THREADS);
+                                             counts, KUSPIGO_REGISTERS, threads, KUSPIGO_THREADS);
     if (refused(laid.refusal, laid.place)) return 1;
     for (size_t i = 0; i < sizeof picks; i++) {
         kuspigo_step_reply did = kuspigo_step(code, compiled.length, registers, KUSPIGO_REGISTERS,
-                                              threads, KUSPIGO_THREADS, picks[i]);
+                                              counts, KUSPIGO_REGISTERS, threads, KUSPIGO_THREADS, picks[i]);
         if (refused(did.refusal, did.place)) return 1;
         printf("thread %d: ", picks[i]);
         if (did.event == KUSPIGO_IDLE) printf("idle");

@@ -19,13 +19,13 @@ pub enum Event {
     ReadWriteLog = 5,
     /// READ, with the read log's value.
     ReadReadLog = 6,
-    /// READ, with the table's value, which entered the read log.
+    /// READ, with the table's value, which entered the read log with its count.
     ReadTable = 7,
     /// WRITE.
     Write = 8,
     /// A COMMIT that took effect.
     Commit = 9,
-    /// A COMMIT that found a stale register.
+    /// A COMMIT that found a stale register: one that a commit wrote since it entered the read log.
     SentBack = 10,
 }
 
@@ -172,7 +172,7 @@ impl Step {
     }
 }
 
-/// The counts of one call's picks.
+/// The counts of one call's picks; those of a state's registers are [`State::counts`](crate::State::counts).
 #[derive(Clone, Copy, PartialEq, Eq, Hash, Debug, Default)]
 pub struct Counts {
     /// Picks that were not idle.
@@ -220,8 +220,8 @@ impl fmt::Debug for RegisterSet {
 }
 
 /// What a job will need. A run is here all steps and runs with the job's code on one state, from a fresh one on, nothing
-/// else writing it meanwhile; counts are added up over it, and the picks may be any. It is finished when every thread has
-/// ended.
+/// else writing it meanwhile; steps and commits are added up over it, and the picks may be any. It is finished when every
+/// thread has ended.
 #[derive(Clone, Copy, PartialEq, Eq, Hash, Debug)]
 pub struct Forecast {
     /// Bytes of its code, mark and version included.

@@ -26,8 +26,10 @@ pub struct Thread {
     pub over: usize,
     /// The registers that the read log marks, bit 0 being register 0,
     pub reads: u64,
-    /// and their values.
+    /// their values,
     pub readlog: [i32; 64],
+    /// and their counts, as the table had them when they entered the log; 0 where the log does not mark the register.
+    pub readcounts: [u32; 64],
     /// The registers that the write log marks,
     pub writes: u64,
     /// and their values.
@@ -37,7 +39,7 @@ pub struct Thread {
     /// this and `backs` are 0.
     pub rule: usize,
     /// How often it was sent back: at most as often as all threads together have passed COMMITs, and less often while a
-    /// value in its read log is not the register's; else the state does not fit.
+    /// register of its read log is stale; else the state does not fit.
     pub backs: usize,
 }
 
@@ -155,6 +157,8 @@ extern "C" {
         code_count: usize,
         registers: *mut i32,
         register_count: usize,
+        counts: *mut u32,
+        count_count: usize,
         threads: *mut Thread,
         thread_count: usize,
     ) -> FreshReply;
@@ -164,6 +168,8 @@ extern "C" {
         code_count: usize,
         registers: *mut i32,
         register_count: usize,
+        counts: *mut u32,
+        count_count: usize,
         threads: *mut Thread,
         thread_count: usize,
         pick: u8,
@@ -174,6 +180,8 @@ extern "C" {
         code_count: usize,
         registers: *mut i32,
         register_count: usize,
+        counts: *mut u32,
+        count_count: usize,
         threads: *mut Thread,
         thread_count: usize,
         picks: *const u8,

@@ -30,7 +30,7 @@ use ffi::Written;
 #[doc = include_str!("../README.md")]
 struct Readme;
 
-/// A state has so many registers,
+/// A state has so many registers, each with its count,
 pub const REGISTERS: usize = 64;
 /// and so many thread records.
 pub const THREADS: usize = 16;
@@ -90,15 +90,21 @@ pub fn report_into(input: &[u8], out: &mut [u8]) -> Result<usize, Refusal> {
     written(raw::report(input, out))
 }
 
-/// Lays a fresh state down. There have to be 64 registers and 16 records, else it is refused with 12.
-pub fn fresh(code: &[u8], registers: &mut [i32], threads: &mut [Thread]) -> Result<(), Refusal> {
-    let reply = raw::fresh(code, registers, threads);
+/// Lays a fresh state down. There have to be 64 registers, 64 counts and 16 records, else it is refused with 12.
+pub fn fresh(code: &[u8], registers: &mut [i32], counts: &mut [u32], threads: &mut [Thread]) -> Result<(), Refusal> {
+    let reply = raw::fresh(code, registers, counts, threads);
     taken(reply.refusal, reply.place)
 }
 
 /// One pick.
-pub fn step(code: &[u8], registers: &mut [i32], threads: &mut [Thread], pick: u8) -> Result<Step, Refusal> {
-    let reply = raw::step(code, registers, threads, pick);
+pub fn step(
+    code: &[u8],
+    registers: &mut [i32],
+    counts: &mut [u32],
+    threads: &mut [Thread],
+    pick: u8,
+) -> Result<Step, Refusal> {
+    let reply = raw::step(code, registers, counts, threads, pick);
     taken(reply.refusal, reply.place)?;
     let event = Event::from_number(reply.event).expect("the library names an event");
     let stale = (event == Event::SentBack).then_some(reply.register as u8);
@@ -106,37 +112,51 @@ pub fn step(code: &[u8], registers: &mut [i32], threads: &mut [Thread], pick: u8
 }
 
 /// A list of picks, one after the other.
-pub fn run(code: &[u8], registers: &mut [i32], threads: &mut [Thread], picks: &[u8]) -> Result<Counts, Refusal> {
-    let reply = raw::run(code, registers, threads, picks);
+pub fn run(
+    code: &[u8],
+    registers: &mut [i32],
+    counts: &mut [u32],
+    threads: &mut [Thread],
+    picks: &[u8],
+) -> Result<Counts, Refusal> {
+    let reply = raw::run(code, registers, counts, threads, picks);
     taken(reply.refusal, reply.place)?;
     Ok(Counts { steps: reply.steps, idle: reply.idle, commits: reply.commits, back: reply.back, over: reply.over })
 }
 
-/// A state: the registers and the thread records.
+/// A state: the registers with their counts, and the thread records.
 #[derive(Clone, PartialEq, Eq, Debug)]
 pub struct State {
     /// The register table.
     pub registers: [i32; REGISTERS],
+    /// Beside each register how often commits have written it: a commit that takes effect adds 1 for each register of its
+    /// write log, once and whatever the value. A register that enters a thread's read log enters with its count, and is stale
+    /// for that thread if the two counts differ, also if its value is the same.
+    ///
+    /// A lent state does not fit if one of these is above the COMMITs that all threads together have passed, if a count in a
+    /// read log is above the one here or is not 0 where the log does not mark the register, or if a thread that has a stale
+    /// register in its read log was sent back as often as COMMITs were passed. Any other counts fit.
+    pub counts: [u32; REGISTERS],
     /// The thread records. Threads are numbered without gaps; a record behind the last one is [`Thread::ABSENT`].
     pub threads: [Thread; THREADS],
 }
 
 impl State {
-    /// Thread 0 alone, at the start of the code, and every register 0.
+    /// Thread 0 alone, at the start of the code, and every register and count 0.
     pub fn fresh(code: &[u8]) -> Result<State, Refusal> {
-        let mut state = State { registers: [0; REGISTERS], threads: [Thread::ABSENT; THREADS] };
-        fresh(code, &mut state.registers, &mut state.threads)?;
+        let mut state = State { registers: [0; REGISTERS], counts: [0; REGISTERS], threads: [Thread::ABSENT; THREADS] };
+        fresh(code, &mut state.registers, &mut state.counts, &mut state.threads)?;
         Ok(state)
     }
 
     /// One pick.
     pub fn step(&mut self, code: &[u8], pick: u8) -> Result<Step, Refusal> {
-        step(code, &mut self.registers, &mut self.threads, pick)
+        step(code, &mut self.registers, &mut self.counts, &mut self.threads, pick)
     }
 
     /// A list of picks, one after the other.
     pub fn run(&mut self, code: &[u8], picks: &[u8]) -> Result<Counts, Refusal> {
-        run(code, &mut self.registers, &mut self.threads, picks)
+        run(code, &mut self.registers, &mut self.counts, &mut self.threads, picks)
     }
 
     /// Whether every thread that exists has ended; so it is in a state without threads too, which fits no code.
@@ -176,6 +196,7 @@ impl Thread {
         over: 0,
         reads: 0,
         readlog: [0; 64],
+        readcounts: [0; 64],
         writes: 0,
         writelog: [0; 64],
         rule: 0,

@@ -29,7 +29,7 @@ pub fn report(input: &[u8], out: &mut [u8]) -> Written {
 }
 
 /// A fresh state, over whatever was there.
-pub fn fresh(code: &[u8], registers: &mut [i32], threads: &mut [Thread]) -> FreshReply {
+pub fn fresh(code: &[u8], registers: &mut [i32], counts: &mut [u32], threads: &mut [Thread]) -> FreshReply {
     // SAFETY: all pointers come from slices of the counts beside them; what is written is lent to this call alone, and
     // every bit pattern is a value of its type.
     unsafe {
@@ -38,6 +38,8 @@ pub fn fresh(code: &[u8], registers: &mut [i32], threads: &mut [Thread]) -> Fres
             code.len(),
             registers.as_mut_ptr(),
             registers.len(),
+            counts.as_mut_ptr(),
+            counts.len(),
             threads.as_mut_ptr(),
             threads.len(),
         )
@@ -45,7 +47,7 @@ pub fn fresh(code: &[u8], registers: &mut [i32], threads: &mut [Thread]) -> Fres
 }
 
 /// One pick.
-pub fn step(code: &[u8], registers: &mut [i32], threads: &mut [Thread], pick: u8) -> StepReply {
+pub fn step(code: &[u8], registers: &mut [i32], counts: &mut [u32], threads: &mut [Thread], pick: u8) -> StepReply {
     // SAFETY: as for `fresh`.
     unsafe {
         ffi::kuspigo_step(
@@ -53,6 +55,8 @@ pub fn step(code: &[u8], registers: &mut [i32], threads: &mut [Thread], pick: u8
             code.len(),
             registers.as_mut_ptr(),
             registers.len(),
+            counts.as_mut_ptr(),
+            counts.len(),
             threads.as_mut_ptr(),
             threads.len(),
             pick,
@@ -61,7 +65,7 @@ pub fn step(code: &[u8], registers: &mut [i32], threads: &mut [Thread], pick: u8
 }
 
 /// A list of picks, one after the other.
-pub fn run(code: &[u8], registers: &mut [i32], threads: &mut [Thread], picks: &[u8]) -> RunReply {
+pub fn run(code: &[u8], registers: &mut [i32], counts: &mut [u32], threads: &mut [Thread], picks: &[u8]) -> RunReply {
     // SAFETY: as for `fresh`; `picks` is a slice of its count too.
     unsafe {
         ffi::kuspigo_run(
@@ -69,6 +73,8 @@ pub fn run(code: &[u8], registers: &mut [i32], threads: &mut [Thread], picks: &[
             code.len(),
             registers.as_mut_ptr(),
             registers.len(),
+            counts.as_mut_ptr(),
+            counts.len(),
             threads.as_mut_ptr(),
             threads.len(),
             picks.as_ptr(),

@@ -1,5 +1,6 @@
 //! The library beside the plain implementation, on random cases of each call: answers and all memory must be equal. And
-//! its forecasts beside its own code and finished runs, its last rules and send-backs beside what its steps tell.
+//! its forecasts beside its own code and finished runs, its last rules and send-backs beside what its steps tell, its
+//! registers' counts beside the write logs of its commits.
 //!
 //! KUSPIGO_SEED and KUSPIGO_CASES (for each call) choose the cases. An argument runs only the calls whose name has it.
 
@@ -36,7 +37,7 @@ const JOB_READER: [&str; 11] = [
     "refused 14",
 ];
 /// What steps and runs come across.
-const ON_A_STATE: [&str; 17] = [
+const ON_A_STATE: [&str; 30] = [
     "over: outside",
     "over: noted",
     "over: a lent note counted",
@@ -46,9 +47,22 @@ const ON_A_STATE: [&str; 17] = [
     "state and code of a long transaction: 11",
     "state with other rules and send-backs: fits",
     "state with too many send-backs: 12",
-    "state with a stale read too many: 12",
-    "state with a stale read, no COMMIT passed: 12",
+    "state with a stale read, backs at the COMMITs passed: 12",
+    "state with a stale read, backs one below them: fits",
     "state with a rule of no thread: 12",
+    "state with other counts: fits",
+    "state with counts at the COMMITs passed: fits",
+    "state with a count above them: 12",
+    "state with a log's count the table's: fits",
+    "state with a log's count above the table's: 12",
+    "state with a count not marked: 12",
+    "state with a count of no thread: 12",
+    "state with another value, backs at their limit: fits",
+    "lent 0 counts: 12",
+    "lent 63 counts: 12",
+    "lent 65 counts: 12",
+    "stale: though the value is the table's",
+    "not stale: though a value is not the table's",
     "rule: left by an idle pick",
     "rule: one without a name replaced",
     "rule: the lowest of several stale registers",
@@ -64,7 +78,7 @@ struct Call {
     reaches: &'static [&'static [&'static str]],
 }
 
-const CALLS: [Call; 10] = [
+const CALLS: [Call; 11] = [
     Call {
         name: "compile",
         case: compile,
@@ -89,7 +103,16 @@ const CALLS: [Call; 10] = [
     Call {
         name: "fresh",
         case: fresh,
-        reaches: &[&["accepted", "refused 11", "refused 12", "taken: 200 nodes in a transaction", LONG_CODE]],
+        reaches: &[&[
+            "accepted",
+            "refused 11",
+            "refused 12",
+            "taken: 200 nodes in a transaction",
+            LONG_CODE,
+            "lent 0 counts: 12",
+            "lent 63 counts: 12",
+            "lent 65 counts: 12",
+        ]],
     },
     Call {
         name: "step",
@@ -245,6 +268,22 @@ const CALLS: [Call; 10] = [
             &["taken: 15 FORKs", "taken: 200 nodes in a transaction", "refused: damaged, in the second half"],
         ],
     },
+    Call {
+        name: "followed",
+        case: followed,
+        reaches: &[&[
+            "commits: wrote nothing",
+            "commits: wrote a register",
+            "commits: wrote several registers",
+            "commits: wrote a register by two WRITEs",
+            "commits: wrote the value that was there",
+            "commits: had read a register that commits wrote before",
+            "sent back: the value is another",
+            "sent back: the same value was written",
+            "sent back: the value went away and came back",
+            "sent back: register 63",
+        ]],
+    },
 ];
 
 /// How often each thing came.
@@ -289,14 +328,25 @@ impl Tally {
         Ok(())
     }
 
+    /// That a state of other lengths is refused; by the number of its counts alone is told.
+    fn lengths(&mut self, lent: Lent, refusal: usize) -> Result<(), String> {
+        if lent != WHOLE && refusal != 11 && refusal != 12 {
+            return Err(format!("a state of the lengths {lent:?} is answered with {refusal}"));
+        }
+        if let (64, counts, 16) = lent {
+            self.add_if(counts != 64 && refusal == 12, &format!("lent {counts} counts: 12"));
+        }
+        Ok(())
+    }
+
     /// What became of a state; some are made so that they fit, and some so that they do not.
     fn scene(&mut self, what: &str, refusal: usize) -> Result<(), String> {
         if FITTING.contains(&what) && refusal != 0 {
             return Err(format!("a state is refused with {refusal} that was made to fit: {what}"));
         }
         let expected = match what {
-            TOO_HIGH | TOO_OFTEN | STALE | STALE_AT_FIRST | OF_NO_THREAD => 12,
             TOO_LONG => 11,
+            _ if FOREIGN.contains(&what) => 12,
             _ => refusal,
         };
         if refusal != expected {
@@ -312,12 +362,13 @@ impl Tally {
     /// What picks that were taken show of sums that leave the range: told outside a transaction, noted inside, and what
     /// became of the notes, those that were lent with the state apart.
     fn overs(&mut self, code: &[u8], state: &State, picks: &[u8]) {
-        let State { mut registers, mut threads } = *state;
+        let State { mut registers, mut counts, mut threads } = *state;
         let mut lent = threads.map(|thread| thread.over > 0);
         for &pick in picks {
             let note = |threads: &[Thread; 16]| threads.get(usize::from(pick)).map_or(0, |thread| thread.over);
             let before = note(&threads);
-            let step = plain::step(code, &mut registers, &mut threads, pick).expect("the picks were taken");
+            let step =
+                plain::step(code, &mut registers, &mut counts, &mut threads, pick).expect("the picks were taken");
             let ended = matches!(step.event, Event::Commit | Event::SentBack);
             let was_lent = ended && std::mem::take(&mut lent[usize::from(pick)]);
             match step.event {
@@ -332,14 +383,17 @@ impl Tally {
         }
     }
 
-    /// What picks that were taken show of last rules and send-backs.
+    /// What picks that were taken show of last rules, send-backs and stale registers.
     fn rules(&mut self, code: &[u8], state: &State, picks: &[u8]) {
-        let State { mut registers, mut threads } = *state;
+        let State { mut registers, mut counts, mut threads } = *state;
         let lent = threads.map(|thread| thread.backs);
         for &pick in picks {
             let before = threads.get(usize::from(pick)).copied().unwrap_or(Thread::ABSENT);
-            let stale = (0..64).filter(|&register| is_stale(&before, &registers, register)).count();
-            let step = plain::step(code, &mut registers, &mut threads, pick).expect("the picks were taken");
+            let stale = (0..64).filter(|&register| is_stale(&before, &counts, register)).count();
+            let same: [bool; 64] = std::array::from_fn(|register| before.readlog[register] == registers[register]);
+            let all_same = (RegisterSet { bits: before.reads }).iter().all(|register| same[usize::from(register)]);
+            let step =
+                plain::step(code, &mut registers, &mut counts, &mut threads, pick).expect("the picks were taken");
             if step.event == Event::Idle {
                 self.add_if(before.rule > 0, "rule: left by an idle pick");
                 continue;
@@ -349,6 +403,41 @@ impl Tally {
             self.add_if(step.event == Event::SentBack && stale > 1, "rule: the lowest of several stale registers");
             self.add_if(step.event == Event::SentBack && lent, "backs: a lent number goes on");
             self.add_if(step.event == Event::Commit && lent, "backs: a lent number kept by a commit");
+            self.add_if(step.event == Event::Commit && !all_same, "not stale: though a value is not the table's");
+            let stale = step.stale.map(usize::from);
+            self.add_if(stale.is_some_and(|register| same[register]), "stale: though the value is the table's");
+        }
+    }
+
+    /// What a step shows of registers that are written, from the state before it and what was followed up to it.
+    fn writings(&mut self, followed: &Followed, before: &kuspigo::State, i: usize, step: Step) {
+        let was = &before.threads[i];
+        let [reads, writes] = [was.reads, was.writes].map(|bits| RegisterSet { bits });
+        if step.event == Event::Commit {
+            let is_same = |register: usize| was.writelog[register] == before.registers[register];
+            self.add_if(was.writes == 0, "commits: wrote nothing");
+            self.add_if(was.writes != 0, "commits: wrote a register");
+            self.add_if(was.writes.count_ones() > 1, "commits: wrote several registers");
+            self.add_if(followed.twice[i].bits != 0, "commits: wrote a register by two WRITEs");
+            self.add_if(writes.iter().any(|v| is_same(v.into())), "commits: wrote the value that was there");
+            let is_written = |register: usize| was.readcounts[register] > 0;
+            self.add_if(
+                reads.iter().any(|v| is_written(v.into())),
+                "commits: had read a register that commits wrote before",
+            );
+        }
+        if let Some(register) = step.stale {
+            let values = followed.since(i, register);
+            let (first, last) = (values[0], values[values.len() - 1]);
+            self.add_if(register == 63, "sent back: register 63");
+            self.add(
+                match values.iter().all(|&value| value == first) {
+                    _ if first != last => "sent back: the value is another",
+                    true => "sent back: the same value was written",
+                    false => "sent back: the value went away and came back",
+                },
+                1,
+            );
         }
     }
 }
@@ -378,7 +467,7 @@ fn main() {
         }
         println!("{}: {cases} cases, {differing} differences, {:.1} s", call.name, started.elapsed().as_secs_f64());
         for (what, count) in &tally.0 {
-            println!("    {what:<42} {count:>10}");
+            println!("    {what:<56} {count:>10}");
         }
         for what in call.reaches.concat().into_iter().filter(|what| cases >= ENOUGH && tally.of(what) == 0) {
             println!("    NOT REACHED: {what}");
@@ -389,7 +478,11 @@ fn main() {
     println!("{differences} differences, {missing} not reached\n");
     // one test, told as cargo's own are, so that the gate counts it
     let failed = u8::from(differences + missing > 0);
-    println!("test result: {}. {} passed; {failed} failed; 0 ignored", if failed == 0 { "ok" } else { "FAILED" }, 1 - failed);
+    println!(
+        "test result: {}. {} passed; {failed} failed; 0 ignored",
+        if failed == 0 { "ok" } else { "FAILED" },
+        1 - failed
+    );
     std::process::exit(failed.into());
 }
 
@@ -661,46 +754,57 @@ fn written(result: Result<usize, Refusal>) -> Written {
 #[derive(Clone, PartialEq)]
 struct Memory {
     registers: Vec<i32>,
+    counts: Vec<u32>,
     threads: Vec<Thread>,
 }
 
 /// What lies in front of the lent parts and behind them.
 const AROUND: usize = 2;
 
+/// How many registers, counts and records are lent.
+type Lent = (usize, usize, usize);
+const WHOLE: Lent = (64, 64, 16);
+
 impl Memory {
     /// A state with other values around it, and more of them if more are to be lent.
-    fn around(rng: &mut Rng, state: &State, counts: (usize, usize)) -> Memory {
-        let mut registers: Vec<i32> = (0..counts.0.max(64) + 2 * AROUND).map(|_| rng.draw() as i32).collect();
-        let mut threads = vec![garbage(rng); counts.1.max(16) + 2 * AROUND];
+    fn around(rng: &mut Rng, state: &State, lent: Lent) -> Memory {
+        let mut registers: Vec<i32> = (0..lent.0.max(64) + 2 * AROUND).map(|_| rng.draw() as i32).collect();
+        let mut counts: Vec<u32> = (0..lent.1.max(64) + 2 * AROUND).map(|_| rng.draw() as u32).collect();
+        let mut threads = vec![garbage(rng); lent.2.max(16) + 2 * AROUND];
         registers[AROUND..AROUND + 64].copy_from_slice(&state.registers);
+        counts[AROUND..AROUND + 64].copy_from_slice(&state.counts);
         threads[AROUND..AROUND + 16].copy_from_slice(&state.threads);
-        Memory { registers, threads }
+        Memory { registers, counts, threads }
     }
 
-    fn lend(&mut self, (registers, threads): (usize, usize)) -> (&mut [i32], &mut [Thread]) {
-        (&mut self.registers[AROUND..AROUND + registers], &mut self.threads[AROUND..AROUND + threads])
+    fn lend(&mut self, (registers, counts, threads): Lent) -> (&mut [i32], &mut [u32], &mut [Thread]) {
+        (
+            &mut self.registers[AROUND..AROUND + registers],
+            &mut self.counts[AROUND..AROUND + counts],
+            &mut self.threads[AROUND..AROUND + threads],
+        )
     }
 }
-
-/// How many registers and records are lent.
-type Lent = (usize, usize);
 
 fn fresh(rng: &mut Rng, tally: &mut Tally) -> Result<(), String> {
     let long = rng.one_in(40);
     let code = if long { long_tree(rng).code() } else { any_code(rng) };
-    let garbage = State { registers: [0; 64].map(|_: i32| rng.draw() as i32), threads: [garbage(rng); 16] };
-    let lent = if rng.one_in(4) { wrong_counts(rng) } else { (64, 16) };
+    let registers = [0; 64].map(|_: i32| rng.draw() as i32);
+    let counts = [0; 64].map(|_: u32| rng.draw() as u32);
+    let garbage = State { registers, counts, threads: [garbage(rng); 16] };
+    let lent = if rng.one_in(4) { wrong_lengths(rng) } else { WHOLE };
     let answer = states(
         rng,
         &garbage,
         lent,
         &[
-            ("plain", &|registers, threads| fresh_reply(plain::fresh(&code, registers, threads))),
-            ("library", &|registers, threads| raw::fresh(&code, registers, threads)),
+            ("plain", &|registers, counts, threads| fresh_reply(plain::fresh(&code, registers, counts, threads))),
+            ("library", &|registers, counts, threads| raw::fresh(&code, registers, counts, threads)),
         ],
         |reply| reply.refusal,
         || format!("code {}", hex(&code)),
     )?;
+    tally.lengths(lent, answer.refusal)?;
     tally.code(&code, long, answer.refusal)
 }
 
@@ -712,14 +816,17 @@ fn step(rng: &mut Rng, tally: &mut Tally) -> Result<(), String> {
         &state,
         lent,
         &[
-            ("plain", &|registers, threads| step_reply(plain::step(&code, registers, threads, pick))),
-            ("plain by value", &|registers, threads| step_reply(by_value::step(&code, registers, threads, pick))),
-            ("library", &|registers, threads| raw::step(&code, registers, threads, pick)),
+            ("plain", &|registers, counts, threads| step_reply(plain::step(&code, registers, counts, threads, pick))),
+            ("plain by value", &|registers, counts, threads| {
+                step_reply(by_value::step(&code, registers, counts, threads, pick))
+            }),
+            ("library", &|registers, counts, threads| raw::step(&code, registers, counts, threads, pick)),
         ],
         |reply| reply.refusal,
         || format!("code {}\npick {pick}", hex(&code)),
     )?;
     tally.refusal(answer.refusal);
+    tally.lengths(lent, answer.refusal)?;
     tally.scene(what, answer.refusal)?;
     if answer.refusal == 0 {
         let event = Event::from_number(answer.event).ok_or("an unknown event")?;
@@ -749,15 +856,18 @@ fn run(rng: &mut Rng, tally: &mut Tally) -> Result<(), String> {
         &state,
         lent,
         &[
-            ("plain", &|registers, threads| run_reply(plain::run(&code, registers, threads, &picks))),
-            ("plain by value", &|registers, threads| run_reply(by_value::run(&code, registers, threads, &picks))),
-            ("library", &|registers, threads| raw::run(&code, registers, threads, &picks)),
+            ("plain", &|registers, counts, threads| run_reply(plain::run(&code, registers, counts, threads, &picks))),
+            ("plain by value", &|registers, counts, threads| {
+                run_reply(by_value::run(&code, registers, counts, threads, &picks))
+            }),
+            ("library", &|registers, counts, threads| raw::run(&code, registers, counts, threads, &picks)),
         ],
         |reply| reply.refusal,
         || format!("code {}\n{} picks {}", hex(&code), picks.len(), hex(&picks)),
     )?;
     tally.refusal(answer.refusal);
     if answer.refusal != 13 {
+        tally.lengths(lent, answer.refusal)?;
         tally.scene(what, answer.refusal)?;
     }
     if answer.refusal == 0 {
@@ -775,7 +885,7 @@ fn run(rng: &mut Rng, tally: &mut Tally) -> Result<(), String> {
     Ok(())
 }
 
-type Acts<'a, R> = (&'a str, &'a dyn Fn(&mut [i32], &mut [Thread]) -> R);
+type Acts<'a, R> = (&'a str, &'a dyn Fn(&mut [i32], &mut [u32], &mut [Thread]) -> R);
 
 /// Lends each call the same part of the same memory, and compares what is answered and left.
 fn states<R: Copy + PartialEq + Debug>(
@@ -790,8 +900,8 @@ fn states<R: Copy + PartialEq + Debug>(
     let mut first: Option<(R, Memory)> = None;
     for (name, call) in calls {
         let mut memory = before.clone();
-        let (registers, threads) = memory.lend(lent);
-        let answer = call(registers, threads);
+        let (registers, counts, threads) = memory.lend(lent);
+        let answer = call(registers, counts, threads);
         if refusal(&answer) != 0 && memory != before {
             return Err(format!("{name}: memory is altered by a refused call\n{}", shown(&before, lent, input())));
         }
@@ -811,17 +921,23 @@ fn states<R: Copy + PartialEq + Debug>(
     Ok(first.unwrap().0)
 }
 
-/// The input of a call on a state, for a reader; records and registers with 0 throughout are left out.
+/// The input of a call on a state, for a reader; records, registers and counts with 0 throughout are left out.
 fn shown(memory: &Memory, lent: Lent, input: String) -> String {
-    let mut text = format!("{input}\nlent {} registers, {} records", lent.0, lent.1);
-    for i in AROUND..AROUND + lent.1 {
+    let (registers, counts, threads) = lent;
+    let mut text = format!("{input}\nlent {registers} registers, {counts} counts, {threads} records");
+    for i in AROUND..AROUND + threads {
         if memory.threads[i] != Thread::ABSENT {
             write!(text, "\nrecord {}: {:?}", i - AROUND, memory.threads[i]).unwrap();
         }
     }
-    for i in AROUND..AROUND + lent.0 {
+    for i in AROUND..AROUND + registers {
         if memory.registers[i] != 0 {
             write!(text, "\nregister {}: {}", i - AROUND, memory.registers[i]).unwrap();
+        }
+    }
+    for i in AROUND..AROUND + counts {
+        if memory.counts[i] != 0 {
+            write!(text, "\ncount {}: {}", i - AROUND, memory.counts[i]).unwrap();
         }
     }
     text
@@ -834,6 +950,9 @@ fn contrast(first: &Memory, second: &Memory) -> String {
     }
     for (i, pair) in first.registers.iter().zip(&second.registers).enumerate().filter(|(_, pair)| pair.0 != pair.1) {
         write!(text, "\nregister {i}: {} beside {}", pair.0, pair.1).unwrap();
+    }
+    for (i, pair) in first.counts.iter().zip(&second.counts).enumerate().filter(|(_, pair)| pair.0 != pair.1) {
+        write!(text, "\ncount {i}: {} beside {}", pair.0, pair.1).unwrap();
     }
     text
 }
@@ -1122,7 +1241,7 @@ fn is_open(thread: &Thread) -> bool {
 fn against(rng: &mut Rng, code: &[u8], state: &kuspigo::State, open: &[u8]) -> u8 {
     let (waiting, going): (Vec<u8>, Vec<u8>) =
         open.iter().partition(|&&i| code[state.threads[usize::from(i)].place] == 6);
-    let stale = |&&i: &&u8| has_stale(&state.threads[usize::from(i)], &state.registers);
+    let stale = |&&i: &&u8| has_stale(&state.threads[usize::from(i)], &state.counts);
     if let Some(&pick) = waiting.iter().find(stale) {
         return pick;
     }
@@ -1280,7 +1399,11 @@ fn recounted(rng: &mut Rng, tally: &mut Tally) -> Result<(), String> {
             let before = state.clone();
             let refused = match rng.one_in(2) {
                 true => state.run(&code, &[0; 32_769]),
-                false => kuspigo::run(&code, &mut state.registers, &mut state.threads[..15], &list),
+                false => {
+                    let (counts, threads) = rng.choose(&[(64, 15), (63, 16), (0, 16)]);
+                    let (counts, threads) = (&mut state.counts[..counts], &mut state.threads[..threads]);
+                    kuspigo::run(&code, &mut state.registers, counts, threads, &list)
+                }
             };
             if refused.is_ok() || state != before {
                 return differs(format!("a call that has to be refused: {refused:?}"));
@@ -1358,6 +1481,151 @@ fn tangled(rng: &mut Rng) -> Process {
         let child = Process::Fork(Box::new(several(rng)));
         let at = rng.below(parts.len() + 1);
         parts.insert(at, child);
+    }
+    sum(parts)
+}
+
+// The registers' counts beside the write logs of commits.
+
+/// A run's registers, followed from its steps and its threads' logs alone.
+struct Followed {
+    /// The values that each register has had: one more for each commit that wrote it.
+    values: Vec<Vec<i32>>,
+    /// Of each thread the registers of its read log, and how many values they had had when they entered it.
+    entered: [BTreeMap<u8, usize>; 16],
+    /// Of each thread the registers that its attempt wrote by more than one WRITE.
+    twice: [RegisterSet; 16],
+}
+
+impl Followed {
+    /// How often commits have written each register.
+    fn counts(&self) -> [u32; 64] {
+        std::array::from_fn(|register| self.values[register].len() as u32 - 1)
+    }
+
+    /// The values that a register has had since it entered a thread's read log, and the one that was read before them.
+    fn since(&self, thread: usize, register: u8) -> &[i32] {
+        &self.values[usize::from(register)][self.entered[thread][&register] - 1..]
+    }
+
+    /// Follows a step of a thread, which is not idle, from the state before it; says what is not as it has to be.
+    fn add(&mut self, code: &[u8], before: &kuspigo::State, i: usize, step: Step) -> Result<(), String> {
+        let was = &before.threads[i];
+        let named = code.get(was.place + 1).copied().unwrap_or(0);
+        match step.event {
+            Event::ReadTable => {
+                self.entered[i].insert(named, self.values[usize::from(named)].len());
+            }
+            Event::Write if (RegisterSet { bits: was.writes }).contains(named) => self.twice[i].insert(named),
+            Event::Commit | Event::SentBack => {
+                let stale = self.entered[i].keys().copied().find(|&register| self.since(i, register).len() > 1);
+                if (step.stale, step.event == Event::Commit) != (stale, stale.is_none()) {
+                    return Err(format!("{step:?}, and by the write logs {stale:?} is stale"));
+                }
+                if step.event == Event::Commit {
+                    let is_other =
+                        |&register: &u8| was.readlog[usize::from(register)] != before.registers[usize::from(register)];
+                    if let Some(register) = (RegisterSet { bits: was.reads }).iter().find(is_other) {
+                        return Err(format!("a commit took effect, and register {register} is not what was read"));
+                    }
+                    for register in (RegisterSet { bits: was.writes }).iter() {
+                        self.values[usize::from(register)].push(was.writelog[usize::from(register)]);
+                    }
+                }
+                self.entered[i].clear();
+                self.twice[i] = RegisterSet::default();
+            }
+            _ => {}
+        }
+        Ok(())
+    }
+
+    /// Whether a state has these registers and counts, and each read log these registers with their counts.
+    fn is_in(&self, state: &kuspigo::State) -> bool {
+        let logs = state.threads.iter().zip(&self.entered).all(|(thread, entered)| {
+            let mut marks = RegisterSet::default();
+            let mut counts = [0; 64];
+            for (&register, &values) in entered {
+                marks.insert(register);
+                counts[usize::from(register)] = values as u32 - 1;
+            }
+            (thread.reads, thread.readcounts) == (marks.bits, counts)
+        });
+        let last: Vec<i32> = self.values.iter().map(|values| values[values.len() - 1]).collect();
+        logs && state.counts == self.counts() && state.registers[..] == last
+    }
+}
+
+/// Picks from a fresh state: after each one every register's count is the number of commits that wrote it, by the write
+/// logs before them; a COMMIT is sent back exactly if one of them wrote a register since it entered the read log, with the
+/// lowest such; and one that takes effect finds each value that was read in the table.
+fn followed(rng: &mut Rng, tally: &mut Tally) -> Result<(), String> {
+    let tree = match rng.below(8) {
+        0 => accepted(rng, any_tree),
+        1 => contested(rng),
+        2 | 3 => tangled(rng),
+        _ => swinging(rng),
+    };
+    let code = kuspigo::compile(&tree.job()).map_err(|refusal| refusal.to_string())?;
+    let mut state = kuspigo::State::fresh(&code).map_err(|refusal| refusal.to_string())?;
+    let mut whole = state.clone();
+    let mut followed = Followed {
+        values: vec![vec![0]; 64],
+        entered: std::array::from_fn(|_| BTreeMap::new()),
+        twice: [RegisterSet::default(); 16],
+    };
+    let count = rng.choose(&[20, 40, 80, 160]);
+    let list = picks(rng, count, tree.forks() + 1);
+    let differs = |what: String| Err(format!("code {}\npicks {}\n{what}", hex(&code), hex(&list)));
+    for (at, &pick) in list.iter().enumerate() {
+        let before = state.clone();
+        let step = state.step(&code, pick).map_err(|refusal| refusal.to_string())?;
+        if step.event != Event::Idle {
+            let i = usize::from(pick);
+            tally.writings(&followed, &before, i, step);
+            if let Err(what) = followed.add(&code, &before, i, step) {
+                return differs(format!("pick {}: {what}", at + 1));
+            }
+        }
+        if !followed.is_in(&state) {
+            return differs(format!(
+                "pick {} leaves the counts {:?}, and {:?} is right",
+                at + 1,
+                state.counts,
+                followed.counts()
+            ));
+        }
+    }
+    whole.run(&code, &list).map_err(|refusal| refusal.to_string())?;
+    match whole == state {
+        true => Ok(()),
+        false => differs(String::from("one run leaves another state than steps")),
+    }
+}
+
+/// Threads that set the same few registers to 0 and 1 again and again, and others that read them.
+fn swinging(rng: &mut Rng) -> Process {
+    let registers = rng.choose(&[&[0][..], &[0, 1], &[63], &[0, 63]]);
+    let one = |rng: &mut Rng| {
+        let register = rng.choose(registers);
+        let value = |rng: &mut Rng| Box::new(Transaction::Val(rng.below(2) as i32));
+        let read = |rng: &mut Rng| Box::new(Transaction::Read(rng.choose(registers)));
+        Process::Atomic(Box::new(match rng.below(8) {
+            0 => Transaction::Val(1),
+            1 => Transaction::Add(read(rng), read(rng)),
+            2 => Transaction::Write(register, read(rng)),
+            3 => Transaction::Write(register, Box::new(Transaction::Write(rng.choose(registers), value(rng)))),
+            4 => Transaction::Write(2, Box::new(Transaction::Add(read(rng), read(rng)))),
+            _ => Transaction::Write(register, value(rng)),
+        }))
+    };
+    let several = |rng: &mut Rng| {
+        let count = rng.between(1, 4);
+        sum((0..count).map(|_| one(rng)).collect())
+    };
+    let mut parts = vec![several(rng)];
+    for _ in 0..rng.between(1, 4) {
+        parts.insert(0, Process::Fork(Box::new(several(rng))));
     }
     sum(parts)
 }
@@ -1750,6 +2018,7 @@ fn any_input(rng: &mut Rng) -> Vec<u8> {
 #[derive(Clone)]
 struct State {
     registers: [i32; 64],
+    counts: [u32; 64],
     threads: [Thread; 16],
 }
 
@@ -1775,16 +2044,32 @@ const MADE: &str = "made up";
 const BUSY: &str = "of a busy job";
 const NOTED: &str = "with another note";
 const RULED: &str = "with other rules and send-backs";
-/// States that fit whatever the implementations say.
-const FITTING: [&str; 7] = [REACHED, FREE, RENUMBERED, MADE, BUSY, NOTED, RULED];
-/// States that do not, by the note alone.
+const COUNTED: &str = "with other counts";
+/// By the note alone.
 const TOO_HIGH: &str = "with a note too high";
-/// States that do not, by a number of send-backs above the COMMITs passed, by one equal to them and a stale read of that
-/// thread, by a stale read where no COMMIT is passed, and by a last rule or a send-back in a record of no thread.
+/// By a number of send-backs above the COMMITs passed, and by a last rule or a send-back in a record of no thread.
 const TOO_OFTEN: &str = "with too many send-backs";
-const STALE: &str = "with a stale read too many";
-const STALE_AT_FIRST: &str = "with a stale read, no COMMIT passed";
 const OF_NO_THREAD: &str = "with a rule of no thread";
+/// Both sides of each limit of counts: a register's, of which the COMMITs passed are the most, a read log's, of which the
+/// register's is the most, and send-backs while a read is stale, one below the COMMITs passed being the most. A count where
+/// the log does not mark the register, or in a record of no thread. A value in a read log that is not the table's.
+const AT_COMMITS: &str = "with counts at the COMMITs passed";
+const ABOVE_COMMITS: &str = "with a count above them";
+const AT_TABLE: &str = "with a log's count the table's";
+const ABOVE_TABLE: &str = "with a log's count above the table's";
+const BELOW_STALE: &str = "with a stale read, backs one below them";
+const AT_STALE: &str = "with a stale read, backs at the COMMITs passed";
+const UNMARKED: &str = "with a count not marked";
+const COUNT_OF_NONE: &str = "with a count of no thread";
+const OTHER_VALUE: &str = "with another value, backs at their limit";
+const LIMITS: [&str; 9] =
+    [AT_COMMITS, ABOVE_COMMITS, AT_TABLE, ABOVE_TABLE, BELOW_STALE, AT_STALE, UNMARKED, COUNT_OF_NONE, OTHER_VALUE];
+/// States that fit whatever the implementations say,
+const FITTING: [&str; 12] =
+    [REACHED, FREE, RENUMBERED, MADE, BUSY, NOTED, RULED, COUNTED, AT_COMMITS, AT_TABLE, BELOW_STALE, OTHER_VALUE];
+/// and states that do not.
+const FOREIGN: [&str; 8] =
+    [TOO_HIGH, TOO_OFTEN, OF_NO_THREAD, ABOVE_COMMITS, ABOVE_TABLE, AT_STALE, UNMARKED, COUNT_OF_NONE];
 /// States that would fit their code if its transactions were not too long.
 const TOO_LONG: &str = "and code of a long transaction";
 
@@ -1794,13 +2079,14 @@ fn any_scene(rng: &mut Rng) -> Scene {
     let made = rng.one_in(2);
     let state = if made { make_up(rng, &code) } else { reach(rng, &code, 400) };
     let what = if made { MADE } else { REACHED };
-    let mut scene = Scene { what, code, state, lent: (64, 16) };
+    let mut scene = Scene { what, code, state, lent: WHOLE };
     let Scene { what, code, state, lent } = &mut scene;
-    match rng.below(27) {
+    match rng.below(36) {
         0..=5 => {}
         6 | 7 => {
             *what = FREE;
             free_values(rng, state);
+            free_counts(rng, code, state);
             free_backs(rng, code, state);
         }
         8 => {
@@ -1815,9 +2101,9 @@ fn any_scene(rng: &mut Rng) -> Scene {
             *what = "with other records";
             alter_records(rng, code, state);
         }
-        17 => {
+        17 | 26 => {
             *what = "of other lengths";
-            *lent = wrong_counts(rng);
+            *lent = wrong_lengths(rng);
             if rng.one_in(4) {
                 damage(rng, code, 3);
             }
@@ -1854,9 +2140,24 @@ fn any_scene(rng: &mut Rng) -> Scene {
             let i = rng.below(state.existing());
             state.threads[i].backs = rng.choose(&[most + 1, most + 1, most + 1, most + 2, most + 256, usize::MAX]);
         }
-        24 | 25 => {
-            if let Some(word) = make_foreign(rng, code, state) {
-                *what = word;
+        24 => {
+            if let Some(thread) = of_no_thread(rng, state) {
+                *what = OF_NO_THREAD;
+                match rng.one_in(2) {
+                    true => thread.rule = rng.choose(&[1, 9, 10, 255, usize::MAX]),
+                    false => thread.backs = rng.choose(&[1, 2, usize::MAX]),
+                }
+            }
+        }
+        25 => {
+            *what = COUNTED;
+            free_counts(rng, code, state);
+            free_backs(rng, code, state);
+        }
+        27..=34 => {
+            let limit = rng.choose(&LIMITS);
+            if put_at(rng, code, state, limit).is_some() {
+                *what = limit;
             }
         }
         _ => {
@@ -1873,7 +2174,7 @@ fn busy_scene(rng: &mut Rng) -> Scene {
     let threads = rng.between(1, 16);
     let code = many_small(nodes, threads).code();
     let state = reach(rng, &code, 1);
-    Scene { what: BUSY, code, state, lent: (64, 16) }
+    Scene { what: BUSY, code, state, lent: WHOLE }
 }
 
 fn any_accepted(rng: &mut Rng) -> Vec<u8> {
@@ -1897,20 +2198,21 @@ fn accepted(rng: &mut Rng, tree: fn(&mut Rng) -> Process) -> Process {
 
 /// A state that fewer picks than this reach from the fresh one.
 fn reach(rng: &mut Rng, code: &[u8], most: usize) -> State {
-    let mut state = State { registers: [0; 64], threads: [Thread::ABSENT; 16] };
-    plain::fresh(code, &mut state.registers, &mut state.threads).expect("the code is a job's");
+    let mut state = State { registers: [0; 64], counts: [0; 64], threads: [Thread::ABSENT; 16] };
+    plain::fresh(code, &mut state.registers, &mut state.counts, &mut state.threads).expect("the code is a job's");
     let places = instructions(code);
     let forks = places.iter().filter(|&&at| code[at] == 7).count();
     let count = rng.below(most.min(2 * places.len()));
     let list = picks(rng, count, 1 + forks);
-    plain::run(code, &mut state.registers, &mut state.threads, &list).expect("a fresh state fits");
+    plain::run(code, &mut state.registers, &mut state.counts, &mut state.threads, &list).expect("a fresh state fits");
     state
 }
 
 /// A state that fits, by the rules alone: each thread stands anywhere in its code, each FORK behind it has a thread.
 fn make_up(rng: &mut Rng, code: &[u8]) -> State {
     let mut threads = vec![(5, code.len())];
-    let mut state = State { registers: [0; 64].map(|_| rng.number()), threads: [Thread::ABSENT; 16] };
+    let registers = [0; 64].map(|_| rng.number());
+    let mut state = State { registers, counts: [0; 64], threads: [Thread::ABSENT; 16] };
     let mut made = 0;
     while made < threads.len() {
         let (start, end) = threads[made];
@@ -1955,6 +2257,7 @@ fn make_up(rng: &mut Rng, code: &[u8]) -> State {
     }
     renumber(rng, &mut state);
     free_values(rng, &mut state);
+    free_counts(rng, code, &mut state);
     free_notes(rng, code, &mut state);
     free_backs(rng, code, &mut state);
     state
@@ -1988,7 +2291,8 @@ fn one_pick(rng: &mut Rng, state: &State) -> u8 {
     }
 }
 
-/// Other values wherever they are free: in registers, on stacks and in the logs of open transactions.
+/// Other values wherever they are free: in registers, on stacks and in the logs of open transactions, which mark other
+/// registers. The counts have to follow.
 fn free_values(rng: &mut Rng, state: &mut State) {
     let ends = rng.one_in(2);
     let number = if ends { Rng::far_number } else { Rng::number };
@@ -2018,8 +2322,7 @@ fn free_values(rng: &mut Rng, state: &mut State) {
         }
         [thread.reads, thread.writes] = marks;
         for register in 0..64 {
-            // the read log often holds what the table has, so that a COMMIT can take effect
-            let value = if rng.one_in(6) { number(rng) } else { state.registers[register] };
+            let value = if rng.one_in(3) { number(rng) } else { state.registers[register] };
             thread.readlog[register] = if thread.reads >> register & 1 == 1 { value } else { 0 };
             thread.writelog[register] = if thread.writes >> register & 1 == 1 { number(rng) } else { 0 };
         }
@@ -2039,56 +2342,133 @@ fn adds_passed(code: &[u8], thread: &Thread) -> usize {
     instructions(code).into_iter().filter(|&at| inside(at) && code[at] == 2).count()
 }
 
-/// Other last rules, and other numbers of send-backs, none above the COMMITs passed, below them if a read is stale. Where
-/// no COMMIT is passed, read logs get the table's values.
+/// Other counts, none of a register above the COMMITs passed, none of a read log above the register's. Often they are the
+/// same in all of a read log, so that a COMMIT can take effect.
+fn free_counts(rng: &mut Rng, code: &[u8], state: &mut State) {
+    let most = commits_passed(code, state);
+    for count in &mut state.counts {
+        match rng.below(6) {
+            0 => *count = most as u32,
+            1 | 2 => *count = rng.below(most + 1) as u32,
+            _ => {}
+        }
+    }
+    for thread in &mut state.threads {
+        let all_same = rng.one_in(2);
+        for (register, &count) in state.counts.iter().enumerate() {
+            thread.readcounts[register] = match thread.reads >> register & 1 == 1 {
+                true if all_same || rng.one_in(2) => count,
+                true => rng.below(count as usize + 1) as u32,
+                false => 0,
+            };
+        }
+    }
+}
+
+/// Other last rules, and other numbers of send-backs, none above the COMMITs passed, below them if a read is stale.
 fn free_backs(rng: &mut Rng, code: &[u8], state: &mut State) {
     let commits = commits_passed(code, state);
     for thread in state.threads.iter_mut().filter(|thread| thread.exists()) {
         if rng.one_in(2) {
             thread.rule = rng.choose(&[0, 1, 9, 10, 42, 73, 74, 255, usize::MAX]);
         }
-        for register in (0..64).filter(|_| commits == 0) {
-            if is_stale(thread, &state.registers, register) {
-                thread.readlog[register] = state.registers[register];
-            }
-        }
-        let most = commits - usize::from(has_stale(thread, &state.registers));
+        let most = commits - usize::from(has_stale(thread, &state.counts));
         thread.backs = if rng.one_in(2) { most } else { rng.below(most + 1) };
     }
 }
 
-/// A state that fits made foreign: by a stale read in an open transaction and as many send-backs as there are COMMITs
-/// passed, or by a last rule or a send-back in a record of no thread. Which one, or nothing if there is no such record.
-fn make_foreign(rng: &mut Rng, code: &[u8], state: &mut State) -> Option<&'static str> {
+/// A record of no thread, if there is one.
+fn of_no_thread<'a>(rng: &mut Rng, state: &'a mut State) -> Option<&'a mut Thread> {
+    let first = state.existing();
+    (first < 16).then(|| &mut state.threads[rng.between(first, 15)])
+}
+
+/// A state that fits put at a limit or beyond it, beyond no other one where that can be; nothing if there is no thread for
+/// it, or no COMMIT passed that it needs.
+fn put_at(rng: &mut Rng, code: &[u8], state: &mut State, limit: &str) -> Option<()> {
     let commits = commits_passed(code, state);
+    let register = rng.below(64);
+    let above = |rng: &mut Rng, count: u32| rng.choose(&[count + 1, count + 1, count + 2, count + 256, u32::MAX]);
+    // a count with which the register is not stale, above 0 if there can be one
+    let written = |rng: &mut Rng, state: &mut State| {
+        let count = rng.between(commits.min(1), commits) as u32;
+        recount(state, register, count);
+        count as usize
+    };
     let open: Vec<usize> = (0..16).filter(|&i| state.threads[i].begin > 0).collect();
-    if open.is_empty() || rng.one_in(3) {
-        let i = rng.between(state.existing().min(15), 15);
-        let thread = &mut state.threads[i];
-        if thread.exists() {
-            return None;
+    let chosen = |rng: &mut Rng| (!open.is_empty()).then(|| rng.choose(&open));
+    match limit {
+        AT_COMMITS if commits > 0 => {
+            let all = rng.one_in(4);
+            for register in if all { 0..64 } else { register..register + 1 } {
+                recount(state, register, commits as u32);
+            }
         }
-        match rng.one_in(2) {
-            true => thread.rule = rng.choose(&[1, 9, 10, 255, usize::MAX]),
-            false => thread.backs = rng.choose(&[1, commits.max(1), usize::MAX]),
+        ABOVE_COMMITS => recount(state, register, above(rng, commits as u32)),
+        AT_TABLE if commits > 0 => {
+            let i = chosen(rng)?;
+            let count = written(rng, state);
+            mark(&mut state.threads[i], register, rng.number(), count as u32);
         }
-        return Some(OF_NO_THREAD);
+        ABOVE_TABLE => {
+            let i = chosen(rng)?;
+            let count = above(rng, state.counts[register]);
+            let thread = &mut state.threads[i];
+            mark(thread, register, rng.number(), count);
+            thread.backs = thread.backs.min(commits.saturating_sub(1));
+        }
+        AT_STALE | BELOW_STALE if commits > 0 => {
+            let i = chosen(rng)?;
+            let count = written(rng, state);
+            let value = if rng.one_in(2) { state.registers[register] } else { rng.number() };
+            let thread = &mut state.threads[i];
+            mark(thread, register, value, rng.below(count) as u32);
+            thread.backs = if limit == AT_STALE { commits } else { commits - 1 };
+        }
+        UNMARKED => {
+            let i = if rng.one_in(2) { rng.below(state.existing()) } else { chosen(rng)? };
+            let count = written(rng, state).max(1);
+            let thread = &mut state.threads[i];
+            thread.reads &= !(1 << register);
+            thread.readlog[register] = 0;
+            thread.readcounts[register] = rng.between(1, count) as u32;
+        }
+        COUNT_OF_NONE => {
+            let count = written(rng, state).max(1);
+            of_no_thread(rng, state)?.readcounts[register] = rng.between(1, count) as u32;
+        }
+        OTHER_VALUE => {
+            let i = chosen(rng)?;
+            let value = state.registers[register].wrapping_add(rng.choose(&[1, -1, 1 << 30]));
+            let thread = &mut state.threads[i];
+            mark(thread, register, value, state.counts[register]);
+            thread.backs = commits - usize::from(has_stale(thread, &state.counts));
+        }
+        _ => return None,
     }
-    let thread = &mut state.threads[rng.choose(&open)];
-    let marked: Vec<usize> = (0..64).filter(|register| thread.reads >> register & 1 == 1).collect();
-    let register = if marked.is_empty() { rng.below(64) } else { rng.choose(&marked) };
+    Some(())
+}
+
+/// Another count of a register; where a read log marks it, that has the same.
+fn recount(state: &mut State, register: usize, count: u32) {
+    state.counts[register] = count;
+    for thread in state.threads.iter_mut().filter(|thread| thread.reads >> register & 1 == 1) {
+        thread.readcounts[register] = count;
+    }
+}
+
+/// A register in a read log, with its value and count.
+fn mark(thread: &mut Thread, register: usize, value: i32, count: u32) {
     thread.reads |= 1 << register;
-    thread.readlog[register] = state.registers[register].wrapping_add(rng.choose(&[1, -1, 1 << 30]));
-    thread.backs = commits;
-    Some(if commits == 0 { STALE_AT_FIRST } else { STALE })
+    (thread.readlog[register], thread.readcounts[register]) = (value, count);
 }
 
-fn is_stale(thread: &Thread, registers: &[i32; 64], register: usize) -> bool {
-    thread.reads >> register & 1 == 1 && thread.readlog[register] != registers[register]
+fn is_stale(thread: &Thread, counts: &[u32; 64], register: usize) -> bool {
+    thread.reads >> register & 1 == 1 && thread.readcounts[register] != counts[register]
 }
 
-fn has_stale(thread: &Thread, registers: &[i32; 64]) -> bool {
-    (0..64).any(|register| is_stale(thread, registers, register))
+fn has_stale(thread: &Thread, counts: &[u32; 64]) -> bool {
+    (0..64).any(|register| is_stale(thread, counts, register))
 }
 
 /// The COMMITs that all threads have passed: those of its own code in front of each one's place.
@@ -2113,8 +2493,8 @@ fn alter_field(rng: &mut Rng, code: &[u8], state: &mut State) {
     let existing = state.existing();
     let i = if existing > 0 && !rng.one_in(6) { rng.below(existing) } else { rng.below(16) };
     let other = state.threads[rng.below(16)];
-    let other_registers = state.registers;
-    let thread = &mut state.threads[i];
+    let State { registers, counts, threads } = state;
+    let thread = &mut threads[i];
     let numbers: [fn(&mut Thread) -> &mut usize; 9] = [
         |t| &mut t.start,
         |t| &mut t.end,
@@ -2126,7 +2506,7 @@ fn alter_field(rng: &mut Rng, code: &[u8], state: &mut State) {
         |t| &mut t.rule,
         |t| &mut t.backs,
     ];
-    match rng.below(17) {
+    match rng.below(19) {
         field @ 0..=10 => {
             // `place` more often
             let field = numbers[if field < 9 { field } else { 2 }];
@@ -2153,11 +2533,12 @@ fn alter_field(rng: &mut Rng, code: &[u8], state: &mut State) {
         13 => thread.writes ^= 1 << rng.below(64),
         14 => thread.readlog[rng.below(64)] = rng.number(),
         15 => thread.writelog[rng.below(64)] = rng.number(),
+        16 => thread.readcounts[rng.below(64)] = rng.choose(&[0, 1, 1, 2, 3, u32::MAX]),
+        17 => counts[rng.below(64)] = rng.choose(&[0, 1, 1, 2, 3, u32::MAX]),
         _ => {
             // a log as if its transaction were still open
             let register = rng.below(4);
-            thread.reads |= 1 << register;
-            thread.readlog[register] = other_registers[register];
+            mark(thread, register, registers[register], counts[register]);
         }
     }
 }
@@ -2212,11 +2593,13 @@ fn renumber(rng: &mut Rng, state: &mut State) {
     }
 }
 
-fn wrong_counts(rng: &mut Rng) -> Lent {
-    match rng.below(3) {
-        0 => (rng.choose(&[0, 1, 63, 65]), 16),
-        1 => (64, rng.choose(&[0, 1, 15, 17])),
-        _ => (rng.choose(&[0, 63, 65]), rng.choose(&[0, 15, 17])),
+fn wrong_lengths(rng: &mut Rng) -> Lent {
+    let (registers, counts, threads) = WHOLE;
+    match rng.below(4) {
+        0 => (rng.choose(&[0, 1, 63, 65]), counts, threads),
+        1 => (registers, rng.choose(&[0, 1, 63, 65]), threads),
+        2 => (registers, counts, rng.choose(&[0, 1, 15, 17])),
+        _ => (rng.choose(&[0, 63, 64, 65]), rng.choose(&[0, 63, 65]), rng.choose(&[0, 15, 16, 17])),
     }
 }
 
@@ -2228,6 +2611,7 @@ fn garbage(rng: &mut Rng) -> Thread {
     }
     thread.reads = rng.draw();
     thread.writes = rng.draw();
+    thread.readcounts = thread.readcounts.map(|_| rng.draw() as u32);
     for values in [&mut thread.cells, &mut thread.readlog, &mut thread.writelog] {
         for value in values {
             *value = rng.draw() as i32;

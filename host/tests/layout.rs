@@ -7,7 +7,7 @@ use plain::tree::{Process, Transaction};
 
 #[test]
 fn thread_record() {
-    assert_eq!((size_of::<Thread>(), align_of::<Thread>()), (856, 8));
+    assert_eq!((size_of::<Thread>(), align_of::<Thread>()), (1_112, 8));
     assert_eq!(offset_of!(Thread, start), 0);
     assert_eq!(offset_of!(Thread, end), 8);
     assert_eq!(offset_of!(Thread, place), 16);
@@ -18,10 +18,11 @@ fn thread_record() {
     assert_eq!(offset_of!(Thread, over), 304);
     assert_eq!(offset_of!(Thread, reads), 312);
     assert_eq!(offset_of!(Thread, readlog), 320);
-    assert_eq!(offset_of!(Thread, writes), 576);
-    assert_eq!(offset_of!(Thread, writelog), 584);
-    assert_eq!(offset_of!(Thread, rule), 840);
-    assert_eq!(offset_of!(Thread, backs), 848);
+    assert_eq!(offset_of!(Thread, readcounts), 576);
+    assert_eq!(offset_of!(Thread, writes), 832);
+    assert_eq!(offset_of!(Thread, writelog), 840);
+    assert_eq!(offset_of!(Thread, rule), 1_096);
+    assert_eq!(offset_of!(Thread, backs), 1_104);
 }
 
 #[test]
@@ -89,24 +90,31 @@ const CODE: [u8; 37] = [
 #[test]
 fn the_library_writes_each_field_at_its_place() {
     let mut registers = [-1; 64];
+    let mut counts = [9; 64];
     let numbers = Thread { start: 1, end: 2, place: 3, height: 4, begin: 5, base: 6, over: 7, ..filled(9) };
     let garbage = Thread { reads: 8, writes: 10, rule: 11, backs: 12, ..numbers };
     let mut threads = [garbage; 16];
 
-    let reply = raw::fresh(&CODE, &mut registers, &mut threads);
+    let reply = raw::fresh(&CODE, &mut registers, &mut counts, &mut threads);
     assert_eq!(reply, FreshReply { refusal: 0, place: 0 });
-    assert_eq!(registers, [0; 64]);
+    assert_eq!((registers, counts), ([0; 64], [0; 64]));
     let mut expected = [filled(0); 16];
     expected[0].start = 5;
     expected[0].end = 37;
     expected[0].place = 5;
     assert_eq!(threads, expected);
 
-    // the first transaction, BEGIN, PUSH, READ 2, ADD, which leaves the range, READ 63, WRITE 3
+    // the first transaction, which writes no register; with a COMMIT passed a count of 1 fits
+    let reply = raw::run(&CODE, &mut registers, &mut counts, &mut threads, &[0; 3]);
+    assert_eq!(reply, RunReply { refusal: 0, place: 0, steps: 3, idle: 0, commits: 1, back: 0, over: 0 });
+    assert_eq!((registers, counts), ([0; 64], [0; 64]));
+
+    // BEGIN, PUSH, READ 2, ADD, which leaves the range, READ 63, WRITE 3
     registers[2] = i32::MAX;
     registers[63] = 630;
-    let reply = raw::run(&CODE, &mut registers, &mut threads, &[0, 0, 0, 0, 0, 0, 0, 0, 0, 99]);
-    assert_eq!(reply, RunReply { refusal: 0, place: 0, steps: 9, idle: 1, commits: 1, back: 0, over: 0 });
+    counts[2] = 1;
+    let reply = raw::run(&CODE, &mut registers, &mut counts, &mut threads, &[0, 0, 0, 0, 0, 0, 99]);
+    assert_eq!(reply, RunReply { refusal: 0, place: 0, steps: 6, idle: 1, commits: 0, back: 0, over: 0 });
     expected[0].place = 25;
     expected[0].height = 3;
     expected[0].cells[0] = 1;
@@ -118,16 +126,18 @@ fn the_library_writes_each_field_at_its_place() {
     expected[0].reads = 1 << 2 | 1 << 63;
     expected[0].readlog[2] = i32::MAX;
     expected[0].readlog[63] = 630;
+    expected[0].readcounts[2] = 1;
     expected[0].writes = 1 << 3;
     expected[0].writelog[3] = 630;
     expected[0].rule = 8;
     assert_eq!(threads, expected);
 
-    // ADD, then a COMMIT that finds register 63 stale
-    let reply = raw::step(&CODE, &mut registers, &mut threads, 0);
+    // ADD, then a COMMIT that finds register 63 stale, by its count
+    let reply = raw::step(&CODE, &mut registers, &mut counts, &mut threads, 0);
     assert_eq!(reply, StepReply { refusal: 0, place: 0, event: 2, register: 0, turn: 0, over: 0 });
     registers[63] = -631;
-    let reply = raw::step(&CODE, &mut registers, &mut threads, 0);
+    counts[63] = 1;
+    let reply = raw::step(&CODE, &mut registers, &mut counts, &mut threads, 0);
     assert_eq!(reply, StepReply { refusal: 0, place: 0, event: 10, register: 63, turn: 0, over: 0 });
     expected[0] = filled(0);
     expected[0].start = 5;
@@ -140,8 +150,8 @@ fn the_library_writes_each_field_at_its_place() {
     assert_eq!(threads, expected);
 
     // the transaction again, both of whose sums now leave the range; COMMIT; ADD, FORK
-    let (mut registers_2, mut threads_2) = (registers, threads);
-    let reply = raw::run(&CODE, &mut registers, &mut threads, &[0; 10]);
+    let (mut registers_2, mut counts_2, mut threads_2) = (registers, counts, threads);
+    let reply = raw::run(&CODE, &mut registers, &mut counts, &mut threads, &[0; 10]);
     assert_eq!(reply, RunReply { refusal: 0, place: 0, steps: 10, idle: 0, commits: 1, back: 0, over: 2 });
     expected[0].place = 36;
     expected[0].height = 2;
@@ -151,16 +161,19 @@ fn the_library_writes_each_field_at_its_place() {
     expected[1].end = 36;
     expected[1].place = 31;
     assert_eq!(threads, expected);
-    assert_eq!(registers[3], -631);
+    let mut written = [0; 64];
+    [written[2], written[3], written[63]] = [1; 3];
+    assert_eq!((registers[3], counts), (-631, written));
 
     // the same in three calls
-    let reply = raw::run(&CODE, &mut registers_2, &mut threads_2, &[0; 7]);
+    let reply = raw::run(&CODE, &mut registers_2, &mut counts_2, &mut threads_2, &[0; 7]);
     assert_eq!((reply.refusal, reply.over, threads_2[0].over), (0, 0, 2));
-    let reply = raw::step(&CODE, &mut registers_2, &mut threads_2, 0);
+    assert_eq!((threads_2[0].readcounts[2], threads_2[0].readcounts[63], counts_2[3]), (1, 1, 0));
+    let reply = raw::step(&CODE, &mut registers_2, &mut counts_2, &mut threads_2, 0);
     assert_eq!(reply, StepReply { refusal: 0, place: 0, event: 9, register: 0, turn: 1, over: 2 });
-    let reply = raw::run(&CODE, &mut registers_2, &mut threads_2, &[0; 2]);
+    let reply = raw::run(&CODE, &mut registers_2, &mut counts_2, &mut threads_2, &[0; 2]);
     assert_eq!((reply.refusal, reply.over), (0, 0));
-    assert_eq!((registers_2, threads_2), (registers, threads));
+    assert_eq!((registers_2, counts_2, threads_2), (registers, counts, threads));
 }
 
 /// A sum of so many processes, each sum the right part of the one before.
@@ -217,13 +230,13 @@ fn the_forecast_has_each_figure_at_its_place() {
 
 #[test]
 fn the_answers_tell_refusals() {
-    let mut registers = [0; 64];
+    let (mut registers, mut counts) = ([0; 64], [0; 64]);
     let mut threads = [filled(0); 16];
     let refused = StepReply { refusal: 12, place: 0, event: 0, register: 0, turn: 0, over: 0 };
-    assert_eq!(raw::step(&CODE, &mut registers, &mut threads, 0), refused);
-    assert_eq!(raw::fresh(&CODE, &mut registers, &mut threads).refusal, 0);
+    assert_eq!(raw::step(&CODE, &mut registers, &mut counts, &mut threads, 0), refused);
+    assert_eq!(raw::fresh(&CODE, &mut registers, &mut counts, &mut threads).refusal, 0);
     let refused = RunReply { refusal: 13, place: 0, steps: 0, idle: 0, commits: 0, back: 0, over: 0 };
-    assert_eq!(raw::run(&CODE, &mut registers, &mut threads, &[0; 32_769]), refused);
+    assert_eq!(raw::run(&CODE, &mut registers, &mut counts, &mut threads, &[0; 32_769]), refused);
 
     let mut out = [0xAA; 40];
     let written = Written { refusal: 0, place: 0, length: 37 };
@@ -242,13 +255,13 @@ fn empty_slices_are_taken() {
     assert_eq!(raw::compile(&[], &mut []), refused);
     assert_eq!(raw::read_back(&[], &mut []), Written { refusal: 11, ..refused });
     assert_eq!(raw::report(&[], &mut []), Written { refusal: 10, ..refused });
-    assert_eq!(raw::fresh(&[], &mut [], &mut []), FreshReply { refusal: 11, place: 0 });
-    assert_eq!(raw::fresh(&CODE, &mut [], &mut []), FreshReply { refusal: 12, place: 0 });
-    assert_eq!(raw::step(&CODE, &mut [], &mut [], 0).refusal, 12);
-    assert_eq!(raw::run(&CODE, &mut [], &mut [], &[]).refusal, 12);
+    assert_eq!(raw::fresh(&[], &mut [], &mut [], &mut []), FreshReply { refusal: 11, place: 0 });
+    assert_eq!(raw::fresh(&CODE, &mut [], &mut [], &mut []), FreshReply { refusal: 12, place: 0 });
+    assert_eq!(raw::step(&CODE, &mut [], &mut [], &mut [], 0).refusal, 12);
+    assert_eq!(raw::run(&CODE, &mut [], &mut [], &mut [], &[]).refusal, 12);
 }
 
 /// A record with one value in all arrays and 0 elsewhere.
 fn filled(n: i32) -> Thread {
-    Thread { cells: [n; 64], readlog: [n; 64], writelog: [n; 64], ..Thread::ABSENT }
+    Thread { cells: [n; 64], readlog: [n; 64], readcounts: [n as u32; 64], writelog: [n; 64], ..Thread::ABSENT }
 }

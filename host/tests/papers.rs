@@ -1,5 +1,5 @@
-//! The cases of documents 01 and 02, and forecasts, sums, the nodes of long transactions and send-backs counted by hand, of
-//! the library through its wrapper and of the plain implementation.
+//! The cases of documents 01 and 02, and forecasts, sums, the nodes of long transactions, send-backs and the registers'
+//! counts worked out by hand, of the library through its wrapper and of the plain implementation.
 
 use kuspigo::{Counts, Event, Forecast, Reason, Refusal, Rule, State, Step, Thread};
 use plain::samples::{chain, Lean, Rng, Shape};
@@ -296,13 +296,13 @@ fn code_of_long_transactions() {
             assert_eq!(tree::read_back(&code, out), refused(11, 0));
         }
         // the state that would be the fresh one
-        let mut state = State { registers: [0; 64], threads: [Thread::ABSENT; 16] };
+        let mut state = State { registers: [0; 64], counts: [0; 64], threads: [Thread::ABSENT; 16] };
         state.threads[0] = Thread { start: 5, end: code.len(), place: 5, ..Thread::ABSENT };
         let mut other = state.clone();
         assert_eq!(State::fresh(&code), refused(11, 0));
-        assert_eq!(plain::fresh(&code, &mut other.registers, &mut other.threads), refused(11, 0));
+        assert_eq!(plain::fresh(&code, &mut other.registers, &mut other.counts, &mut other.threads), refused(11, 0));
         assert_eq!(state.step(&code, 0), refused(11, 0));
-        assert_eq!(plain::step(&code, &mut other.registers, &mut other.threads, 0), refused(11, 0));
+        assert_eq!(plain::step(&code, &mut other.registers, &mut other.counts, &mut other.threads, 0), refused(11, 0));
         assert_eq!(ran(&mut state, &code, &[0; 32_769]), refused(11, 0));
     }
     // one of 200 nodes is sent back once: thread 1 sets register 1 before its COMMIT
@@ -340,8 +340,11 @@ fn sum_inside(left: Transaction, right: Transaction) -> Transaction {
 fn ran(state: &mut State, code: &[u8], picks: &[u8]) -> Result<Counts, Refusal> {
     let (mut plain, mut by_value) = (state.clone(), state.clone());
     let counts = state.run(code, picks);
-    assert_eq!(plain::run(code, &mut plain.registers, &mut plain.threads, picks), counts);
-    assert_eq!(plain::by_value::run(code, &mut by_value.registers, &mut by_value.threads, picks), counts);
+    assert_eq!(plain::run(code, &mut plain.registers, &mut plain.counts, &mut plain.threads, picks), counts);
+    assert_eq!(
+        plain::by_value::run(code, &mut by_value.registers, &mut by_value.counts, &mut by_value.threads, picks),
+        counts
+    );
     assert_eq!((&plain, &by_value), (&*state, &*state));
     counts
 }
@@ -459,8 +462,11 @@ fn whole_case_by_rules() {
     for (&pick, name) in picks.iter().zip(NAMES) {
         let (mut plain, mut by_value) = (state.clone(), state.clone());
         let step = state.step(&code, pick).unwrap();
-        assert_eq!(plain::step(&code, &mut plain.registers, &mut plain.threads, pick), Ok(step));
-        assert_eq!(plain::by_value::step(&code, &mut by_value.registers, &mut by_value.threads, pick), Ok(step));
+        assert_eq!(plain::step(&code, &mut plain.registers, &mut plain.counts, &mut plain.threads, pick), Ok(step));
+        assert_eq!(
+            plain::by_value::step(&code, &mut by_value.registers, &mut by_value.counts, &mut by_value.threads, pick),
+            Ok(step)
+        );
         assert_eq!((&plain, &by_value), (&state, &state));
         assert_eq!(step.rule().to_string(), name);
         if step.rule() != Rule::Idle {
@@ -514,7 +520,7 @@ fn fits(state: &State, code: &[u8]) -> bool {
     let counts = ran(&mut state.clone(), code, &[]);
     let step = state.clone().step(code, 255);
     let mut plain = state.clone();
-    assert_eq!(plain::step(code, &mut plain.registers, &mut plain.threads, 255), step);
+    assert_eq!(plain::step(code, &mut plain.registers, &mut plain.counts, &mut plain.threads, 255), step);
     assert!(counts == refused(12, 0) && step == refused(12, 0) || counts.is_ok() && step.is_ok());
     counts.is_ok()
 }
@@ -560,22 +566,12 @@ fn send_backs_and_commits_passed() {
 
 #[test]
 fn stale_reads_and_lent_numbers() {
-    // no COMMIT passed, and the register changes: 0 equals 0
-    let code = compiled(&atomic(Transaction::Read(5)).job()).unwrap();
-    let mut state = State::fresh(&code).unwrap();
-    ran(&mut state, &code, &[0, 0]).unwrap();
-    assert!(fits(&state, &code));
-    state.registers[5] = 1;
-    assert!(!fits(&state, &code));
-    state.threads[0].readlog[5] = 1;
-    assert!(fits(&state, &code));
-
     // three COMMITs passed: a lent number of two goes on to three, which the commit keeps
     let three = (0..3).fold(atomic(Transaction::Read(5)), |tree, _| sum(atomic(Transaction::Val(1)), tree));
     let code = compiled(&three.job()).unwrap();
     let mut state = State::fresh(&code).unwrap();
     ran(&mut state, &code, &[0; 11]).unwrap();
-    state.registers[5] = 4;
+    (state.registers[5], state.counts[5]) = (4, 1);
     state.threads[0].backs = 3;
     assert!(!fits(&state, &code));
     state.threads[0].backs = 2;
@@ -603,6 +599,242 @@ fn stale_reads_and_lent_numbers() {
         assert!(!fits(&state, &code));
         state.threads[record] = Thread { backs: 1, ..Thread::ABSENT };
         assert!(!fits(&state, &code));
+    }
+}
+
+/// Thread 1 copies register 0 to register 1; thread 2 sets register 0 to 5, and then to 0, which it was.
+const AWAY_AND_BACK: &[u8] = b"WSJ\x00\x01\x00\x0D\x02\
+    \x04\x03\x08\x01\x07\x00\
+    \x04\x02\x03\x08\x00\x05\x00\x00\x00\x05\x03\x08\x00\x05\x00\x00\x00\x00";
+/// Thread 1 does the same; thread 2 sets register 0 to 0, which it is.
+const SAME_VALUE: &[u8] = b"WSJ\x00\x01\x00\x09\x02\
+    \x04\x03\x08\x01\x07\x00\
+    \x04\x03\x08\x00\x05\x00\x00\x00\x00";
+
+/// Thread 1 reads register 0 before both commits of thread 2, and comes to its COMMIT behind them; then all go on to their
+/// ends.
+const AWAY_AND_BACK_PICKS: [u8; 20] = [0, 0, 1, 1, 2, 2, 2, 2, 2, 2, 2, 2, 1, 1, 1, 1, 1, 1, 2, 0];
+
+#[test]
+fn a_value_that_went_away_and_came_back() {
+    let code = compiled(AWAY_AND_BACK).unwrap();
+    let mut state = State::fresh(&code).unwrap();
+    let (first, rest) = AWAY_AND_BACK_PICKS.split_at(14);
+    ran(&mut state, &code, &first[..13]).unwrap();
+    let read = &state.threads[1];
+    assert_eq!((read.reads, read.readlog[0], read.readcounts[0]), (1, 0, 0));
+    assert_eq!((state.registers[0], state.counts[0]), (0, 2));
+
+    let mut state = State::fresh(&code).unwrap();
+    let counts = ran(&mut state, &code, first).unwrap();
+    assert_eq!(counts, Counts { steps: 14, idle: 0, commits: 2, back: 1, over: 0 });
+    assert_eq!((state.threads[1].last_rule(), state.threads[1].backs), (Rule::SentBack(0), 1));
+    assert_eq!((state.threads[1].place, state.threads[1].reads, state.threads[1].writes), (8, 0, 0));
+    let counts = ran(&mut state, &code, rest).unwrap();
+    assert_eq!(counts, Counts { steps: 6, idle: 0, commits: 1, back: 0, over: 0 });
+    assert_eq!(state.threads.map(|thread| thread.result())[..4], [Some(0), Some(0), Some(5), None]);
+    assert_eq!((state.registers, &state.counts[..3]), ([0; 64], &[2, 1, 0][..]));
+}
+
+#[test]
+fn the_same_value_written_again() {
+    let code = compiled(SAME_VALUE).unwrap();
+    let mut state = State::fresh(&code).unwrap();
+    let counts = ran(&mut state, &code, &[0, 0, 1, 1, 2, 2, 2, 2, 1, 1]).unwrap();
+    assert_eq!(counts, Counts { steps: 10, idle: 0, commits: 1, back: 1, over: 0 });
+    assert_eq!((state.threads[1].last_rule(), state.threads[1].backs), (Rule::SentBack(0), 1));
+    // one that is written before it is read is not stale
+    let mut state = State::fresh(&code).unwrap();
+    let counts = ran(&mut state, &code, &[0, 0, 1, 2, 2, 2, 2, 1, 1, 1]).unwrap();
+    assert_eq!(counts, Counts { steps: 10, idle: 0, commits: 2, back: 0, over: 0 });
+    assert_eq!((state.registers, &state.counts[..3]), ([0; 64], &[1, 1, 0][..]));
+}
+
+/// Their listings, of the run program.
+#[test]
+fn listings_by_counts() {
+    let listed = |job: &[u8], picks: &[u8]| {
+        let input = [&[0, job.len() as u8], job, picks].concat();
+        let listing = plain::listing(&input);
+        assert_eq!(String::from_utf8(kuspigo::report(&input).unwrap()).as_ref(), Ok(&listing));
+        listing
+    };
+    let open = "thread 0 open\nthread 1 open\nthread 2 open\n";
+    let first = listed(AWAY_AND_BACK, &AWAY_AND_BACK_PICKS[..14]);
+    assert_eq!(first, format!("steps 14 idle 0 commits 2 back 1 over 0\n{open}"));
+    let all = listed(AWAY_AND_BACK, &AWAY_AND_BACK_PICKS);
+    let done = "thread 0 done 0\nthread 1 done 0\nthread 2 done 5\n";
+    assert_eq!(all, format!("steps 20 idle 0 commits 3 back 1 over 0\n{done}"));
+    let same = listed(SAME_VALUE, &[0, 0, 1, 1, 2, 2, 2, 2, 1, 1]);
+    assert_eq!(same, "steps 10 idle 0 commits 1 back 1 over 0\nthread 0 open\nthread 1 open\nthread 2 done 0\n");
+}
+
+/// The counts that are not 0 when a process has run alone to its end, with their registers.
+fn counts_of(tree: Process) -> Vec<(usize, u32)> {
+    let code = compiled(&tree.job()).unwrap();
+    let mut state = State::fresh(&code).unwrap();
+    ran(&mut state, &code, &[0; 99]).unwrap();
+    assert!(state.is_finished());
+    state.counts.into_iter().enumerate().filter(|&(_, count)| count > 0).collect()
+}
+
+#[test]
+fn how_often_commits_have_written() {
+    let value = || Transaction::Val(1);
+    assert_eq!(counts_of(atomic(write(7, value()))), [(7, 1)]);
+    // two WRITEs of one transaction, with the same value and with another
+    assert_eq!(counts_of(atomic(write(0, write(0, value())))), [(0, 1)]);
+    let other = write(63, Transaction::Val(2));
+    assert_eq!(counts_of(atomic(sum_inside(write(63, value()), other))), [(63, 1)]);
+    // of two transactions
+    assert_eq!(counts_of(sum(atomic(write(0, value())), atomic(write(0, value())))), [(0, 2)]);
+    assert_eq!(counts_of(sum(atomic(write(0, write(5, value()))), atomic(write(5, value())))), [(0, 1), (5, 2)]);
+    // an empty write log, with and without reads
+    assert_eq!(counts_of(atomic(value())), []);
+    assert_eq!(counts_of(sum(atomic(Transaction::Read(0)), atomic(Transaction::Read(63)))), []);
+    // before COMMIT, and when a thread is sent back, nothing is counted: the whole case
+    let code = kuspigo::compile(&whole_case()).unwrap();
+    let mut state = State::fresh(&code).unwrap();
+    let mut seen = Vec::new();
+    for pick in whole_picks() {
+        ran(&mut state, &code, &[pick]).unwrap();
+        seen.push(state.counts[0]);
+        assert_eq!(state.counts[1..], [0; 63]);
+    }
+    assert_eq!(seen, [vec![0; 10], vec![1; 10], vec![2]].concat());
+}
+
+#[test]
+fn values_of_a_read_log_decide_nothing() {
+    let code = compiled(&atomic(Transaction::Read(5)).job()).unwrap();
+    let mut before = State::fresh(&code).unwrap();
+    ran(&mut before, &code, &[0, 0]).unwrap();
+    for (logged, held) in [(7, 0), (0, 1), (i32::MIN, i32::MAX)] {
+        let mut state = before.clone();
+        state.threads[0].readlog[5] = logged;
+        state.registers[5] = held;
+        assert!(fits(&state, &code));
+        let counts = ran(&mut state, &code, &[0]).unwrap();
+        assert_eq!((counts.commits, counts.back, state.registers[5]), (1, 0, held));
+    }
+}
+
+/// A COMMIT passed, and then register 5 read in an open transaction.
+fn one_passed() -> (Vec<u8>, State) {
+    let code = compiled(&sum(atomic(Transaction::Val(1)), atomic(Transaction::Read(5))).job()).unwrap();
+    let mut state = State::fresh(&code).unwrap();
+    ran(&mut state, &code, &[0; 5]).unwrap();
+    assert_eq!((state.threads[0].reads, state.threads[0].readcounts[5]), (1 << 5, 0));
+    (code, state)
+}
+
+#[test]
+fn counts_up_to_the_commits_passed() {
+    // none is passed
+    let code = compiled(&atomic(Transaction::Val(1)).job()).unwrap();
+    let fresh = State::fresh(&code).unwrap();
+    for register in 0..64 {
+        for count in [1, 2, u32::MAX] {
+            let mut state = fresh.clone();
+            state.counts[register] = count;
+            assert!(!fits(&state, &code));
+        }
+    }
+    // one, by thread 0; the register that is read is stale then, and the thread was not sent back yet
+    let (code, before) = one_passed();
+    for register in 0..64 {
+        for (count, fit) in [(1, true), (2, false), (u32::MAX, false)] {
+            let mut state = before.clone();
+            state.counts[register] = count;
+            assert_eq!(fits(&state, &code), fit);
+        }
+    }
+    let mut state = before;
+    state.counts = [1; 64];
+    assert!(fits(&state, &code));
+    // those of all threads together, ended ones too: in the whole case threads 1 and 2 have passed one each
+    let code = kuspigo::compile(&whole_case()).unwrap();
+    let mut state = State::fresh(&code).unwrap();
+    ran(&mut state, &code, &whole_picks()).unwrap();
+    for (count, fit) in [(2, true), (3, false)] {
+        state.counts = [count; 64];
+        assert_eq!(fits(&state, &code), fit);
+    }
+}
+
+#[test]
+fn counts_of_read_logs() {
+    let (code, mut state) = one_passed();
+    // up to the table's, where the log marks the register
+    for (table, logged, fit) in [(0, 0, true), (0, 1, false), (1, 0, true), (1, 1, true), (1, 2, false)] {
+        state.counts[5] = table;
+        state.threads[0].readcounts[5] = logged;
+        assert_eq!(fits(&state, &code), fit, "{table} {logged}");
+        let taken = ran(&mut state.clone(), &code, &[0]).map(|counts| (counts.commits, counts.back));
+        let expected = if table == logged { Ok((1, 0)) } else { Ok((0, 1)) };
+        assert_eq!(taken, if fit { expected } else { refused(12, 0) });
+    }
+    // and 0 where it does not
+    state.counts = [1; 64];
+    state.threads[0].readcounts[5] = 1;
+    for register in (0..64).filter(|&register| register != 5) {
+        let mut other = state.clone();
+        other.threads[0].readcounts[register] = 1;
+        assert!(!fits(&other, &code));
+        other.threads[0].reads |= 1 << register;
+        assert!(fits(&other, &code));
+    }
+    // where no transaction is open, and in a record of no thread
+    ran(&mut state, &code, &[0]).unwrap();
+    assert!(fits(&state, &code));
+    for record in [0, 1, 15] {
+        let mut other = state.clone();
+        other.threads[record].readcounts[5] = 1;
+        assert!(!fits(&other, &code));
+    }
+}
+
+#[test]
+fn send_backs_and_stale_counts() {
+    // as many send-backs as COMMITs passed, and one less
+    let (code, mut state) = one_passed();
+    state.counts[5] = 1;
+    for (logged, backs, fit) in [(0, 0, true), (0, 1, false), (1, 1, true), (1, 2, false)] {
+        state.threads[0].readcounts[5] = logged;
+        state.threads[0].backs = backs;
+        assert_eq!(fits(&state, &code), fit, "{logged} {backs}");
+    }
+    // another value with the table's count is not stale
+    (state.threads[0].readlog[5], state.threads[0].backs) = (7, 1);
+    assert!(fits(&state, &code));
+    // an equal value with another count is
+    let mut other = state.clone();
+    (other.threads[0].readlog[5], other.threads[0].readcounts[5]) = (0, 0);
+    assert!(!fits(&other, &code));
+    other.threads[0].backs = 0;
+    assert_eq!(ran(&mut other, &code, &[0]).map(|counts| counts.back), Ok(1));
+    assert_eq!((other.threads[0].last_rule(), other.threads[0].backs), (Rule::SentBack(5), 1));
+}
+
+#[test]
+fn other_than_64_counts() {
+    let code = kuspigo::compile(&whole_case()).unwrap();
+    let fresh = State::fresh(&code).unwrap();
+    let garbage = State { registers: [3; 64], counts: [0; 64], threads: [Thread { height: 9, ..Thread::ABSENT }; 16] };
+    for length in [0, 1, 63, 65, 128] {
+        let before = vec![4; length];
+        let (mut counts, mut state) = (before.clone(), garbage.clone());
+        let laid = kuspigo::fresh(&code, &mut state.registers, &mut counts, &mut state.threads);
+        assert_eq!(laid, refused(12, 0));
+        let laid = plain::fresh(&code, &mut state.registers, &mut counts, &mut state.threads);
+        assert_eq!((laid, &counts, &state), (refused(12, 0), &before, &garbage));
+        let before = vec![0; length];
+        let (mut counts, mut state) = (before.clone(), fresh.clone());
+        assert_eq!(kuspigo::step(&code, &mut state.registers, &mut counts, &mut state.threads, 0), refused(12, 0));
+        assert_eq!(kuspigo::run(&code, &mut state.registers, &mut counts, &mut state.threads, &[0]), refused(12, 0));
+        assert_eq!(plain::step(&code, &mut state.registers, &mut counts, &mut state.threads, 0), refused(12, 0));
+        assert_eq!(plain::run(&code, &mut state.registers, &mut counts, &mut state.threads, &[0]), refused(12, 0));
+        assert_eq!((&counts, &state), (&before, &fresh));
     }
 }
 

@@ -112,10 +112,9 @@ fn of_writing(function: *const (), call: fn(&[u8], &mut [u8]) -> Written, input:
 
 /// The words that lend code and a state.
 fn lent(code: &[u8], state: &mut State) -> Vec<usize> {
-    let State { registers, threads } = state;
-    let (registers, threads) = (&mut registers[..], &mut threads[..]);
-    let places = [code.as_ptr() as usize, registers.as_mut_ptr() as usize, threads.as_mut_ptr() as usize];
-    vec![places[0], code.len(), places[1], registers.len(), places[2], threads.len()]
+    let State { registers, counts, threads } = state;
+    let table = [registers.as_mut_ptr() as usize, registers.len(), counts.as_mut_ptr() as usize, counts.len()];
+    [&[code.as_ptr() as usize, code.len()], &table[..], &[threads.as_mut_ptr() as usize, threads.len()]].concat()
 }
 
 fn of_fresh(code: &[u8], state: &State) -> usize {
@@ -126,7 +125,7 @@ fn of_fresh(code: &[u8], state: &State) -> usize {
         // SAFETY: all pointers come from slices of the counts beside them; what is written is lent to this call alone.
         let ([refusal, place], taken) = unsafe { on_stack(&mut stack, fill, ffi::kuspigo_fresh as *const (), &words) };
         let mut other = state.clone();
-        let expected = raw::fresh(code, &mut other.registers, &mut other.threads);
+        let expected = raw::fresh(code, &mut other.registers, &mut other.counts, &mut other.threads);
         assert_eq!(FreshReply { refusal, place }, expected);
         taken
     });
@@ -142,7 +141,7 @@ fn of_step(code: &[u8], state: &State, pick: u8) -> usize {
     // SAFETY: as for fresh.
     let (answer, stack) = unsafe { measured::<StepReply>(ffi::kuspigo_step as *const (), words) };
     let mut other = state.clone();
-    assert_eq!(answer, raw::step(code, &mut other.registers, &mut other.threads, pick));
+    assert_eq!(answer, raw::step(code, &mut other.registers, &mut other.counts, &mut other.threads, pick));
     stack
 }
 
@@ -155,7 +154,7 @@ fn of_run(code: &[u8], state: &State, picks: &[u8]) -> usize {
     // SAFETY: as for fresh; `picks` is a slice of its count too.
     let (answer, stack) = unsafe { measured::<RunReply>(ffi::kuspigo_run as *const (), words) };
     let mut other = state.clone();
-    assert_eq!(answer, raw::run(code, &mut other.registers, &mut other.threads, picks));
+    assert_eq!(answer, raw::run(code, &mut other.registers, &mut other.counts, &mut other.threads, picks));
     stack
 }
 

@@ -2,27 +2,39 @@
 //! back.
 
 use super::code::{self, Op};
-use super::machine::{admit, first_stale, marked, starting};
+use super::machine::{admit, first_stale, marked, starting, Table};
 use super::{count, step_of, too_many_picks, IDLE, MOST_PICKS, RECORDS, REGISTERS};
 use kuspigo::{Counts, Event, Refusal, Step, Thread};
 
 /// As [`step`](super::step).
-pub fn step(code: &[u8], registers: &mut [i32], threads: &mut [Thread], pick: u8) -> Result<Step, Refusal> {
-    let (registers, threads) = admit(code, registers, threads)?;
-    Ok(turn(code, registers, threads, pick))
+pub fn step(
+    code: &[u8],
+    registers: &mut [i32],
+    counts: &mut [u32],
+    threads: &mut [Thread],
+    pick: u8,
+) -> Result<Step, Refusal> {
+    let (mut table, threads) = admit(code, registers, counts, threads)?;
+    Ok(turn(code, &mut table, threads, pick))
 }
 
 /// As [`run`](super::run).
-pub fn run(code: &[u8], registers: &mut [i32], threads: &mut [Thread], picks: &[u8]) -> Result<Counts, Refusal> {
-    let (registers, threads) = admit(code, registers, threads)?;
+pub fn run(
+    code: &[u8],
+    registers: &mut [i32],
+    counts: &mut [u32],
+    threads: &mut [Thread],
+    picks: &[u8],
+) -> Result<Counts, Refusal> {
+    let (mut table, threads) = admit(code, registers, counts, threads)?;
     if picks.len() > MOST_PICKS {
         return too_many_picks();
     }
-    let mut counts = Counts::default();
+    let mut told = Counts::default();
     for &pick in picks {
-        count(&mut counts, turn(code, registers, threads, pick));
+        count(&mut told, turn(code, &mut table, threads, pick));
     }
-    Ok(counts)
+    Ok(told)
 }
 
 /// What one instruction hands back.
@@ -34,12 +46,12 @@ struct Action {
 }
 
 /// One pick: the record is taken out, stepped and put back; a forked child takes the next record.
-fn turn(code: &[u8], registers: &mut [i32; REGISTERS], threads: &mut [Thread; RECORDS], pick: u8) -> Step {
+fn turn(code: &[u8], table: &mut Table, threads: &mut [Thread; RECORDS], pick: u8) -> Step {
     let who = usize::from(pick);
     if who >= RECORDS {
         return IDLE;
     }
-    let action = act(threads[who], code, registers);
+    let action = act(threads[who], code, table);
     threads[who] = action.thread;
     if let Some((start, end)) = action.child {
         if let Some(seat) = threads.iter().position(|thread| thread.start == 0) {
@@ -50,7 +62,7 @@ fn turn(code: &[u8], registers: &mut [i32; REGISTERS], threads: &mut [Thread; RE
 }
 
 /// One instruction, in a state that fits.
-fn act(mut thread: Thread, code: &[u8], registers: &mut [i32; REGISTERS]) -> Action {
+fn act(mut thread: Thread, code: &[u8], table: &mut Table) -> Action {
     if thread.place == thread.end {
         return Action { thread, step: IDLE, child: None };
     }
@@ -75,12 +87,12 @@ fn act(mut thread: Thread, code: &[u8], registers: &mut [i32; REGISTERS]) -> Act
             thread.over = 0;
             step_of(Event::Begin)
         }
-        Op::Read(register) => step_of(read(&mut thread, usize::from(register), registers)),
+        Op::Read(register) => step_of(read(&mut thread, usize::from(register), table)),
         Op::Write(register) => {
             write(&mut thread, usize::from(register));
             step_of(Event::Write)
         }
-        Op::Commit => match first_stale(&thread, registers) {
+        Op::Commit => match first_stale(&thread, table.counts) {
             Some(register) => {
                 place = thread.begin;
                 send_back(&mut thread, register);
@@ -88,7 +100,7 @@ fn act(mut thread: Thread, code: &[u8], registers: &mut [i32; REGISTERS]) -> Act
             }
             None => {
                 let over = thread.over;
-                commit(&mut thread, registers);
+                commit(&mut thread, table);
                 Step { turn: true, over, ..step_of(Event::Commit) }
             }
         },
@@ -120,15 +132,16 @@ fn sum(thread: &mut Thread) -> Step {
     step_of(Event::Sum)
 }
 
-fn read(thread: &mut Thread, register: usize, registers: &[i32; REGISTERS]) -> Event {
+fn read(thread: &mut Thread, register: usize, table: &Table) -> Event {
     let (value, event) = if thread.writes >> register & 1 == 1 {
         (thread.writelog[register], Event::ReadWriteLog)
     } else if thread.reads >> register & 1 == 1 {
         (thread.readlog[register], Event::ReadReadLog)
     } else {
         thread.reads |= 1 << register;
-        thread.readlog[register] = registers[register];
-        (registers[register], Event::ReadTable)
+        thread.readlog[register] = table.registers[register];
+        thread.readcounts[register] = table.counts[register];
+        (table.registers[register], Event::ReadTable)
     };
     push(thread, value);
     event
@@ -139,9 +152,10 @@ fn write(thread: &mut Thread, register: usize) {
     thread.writelog[register] = thread.cells[thread.height - 1];
 }
 
-fn commit(thread: &mut Thread, registers: &mut [i32; REGISTERS]) {
+fn commit(thread: &mut Thread, table: &mut Table) {
     for register in marked(thread.writes) {
-        registers[register] = thread.writelog[register];
+        table.registers[register] = thread.writelog[register];
+        table.counts[register] += 1;
     }
     close(thread);
 }
@@ -161,6 +175,7 @@ fn close(thread: &mut Thread) {
     thread.over = 0;
     thread.reads = 0;
     thread.readlog = [0; REGISTERS];
+    thread.readcounts = [0; REGISTERS];
     thread.writes = 0;
     thread.writelog = [0; REGISTERS];
 }

@@ -81,10 +81,10 @@ const fn step_of(event: Event) -> Step {
 const IDLE: Step = step_of(Event::Idle);
 
 /// Adds what a step told.
-fn count(counts: &mut Counts, step: Step) {
-    counts.idle += usize::from(step.event == Event::Idle);
-    counts.steps += usize::from(step.event != Event::Idle);
-    counts.commits += usize::from(step.event == Event::Commit);
-    counts.back += usize::from(step.event == Event::SentBack);
-    counts.over += step.over;
+fn count(told: &mut Counts, step: Step) {
+    told.idle += usize::from(step.event == Event::Idle);
+    told.steps += usize::from(step.event != Event::Idle);
+    told.commits += usize::from(step.event == Event::Commit);
+    told.back += usize::from(step.event == Event::SentBack);
+    told.over += step.over;
 }

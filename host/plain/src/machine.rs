@@ -6,48 +6,73 @@ use super::{count, step_of, too_many_picks, unfit_state, IDLE, INSTRUCTIONS, MOS
 use kuspigo::{Counts, Event, Refusal, Step, Thread};
 
 /// Lays a fresh state down over whatever was there.
-pub fn fresh(code: &[u8], registers: &mut [i32], threads: &mut [Thread]) -> Result<(), Refusal> {
+pub fn fresh(code: &[u8], registers: &mut [i32], counts: &mut [u32], threads: &mut [Thread]) -> Result<(), Refusal> {
     code::outline(code)?;
-    if registers.len() != REGISTERS || threads.len() != RECORDS {
+    if (registers.len(), counts.len(), threads.len()) != (REGISTERS, REGISTERS, RECORDS) {
         return unfit_state();
     }
     registers.fill(0);
+    counts.fill(0);
     threads.fill(Thread::ABSENT);
     threads[0] = starting(INSTRUCTIONS, code.len());
     Ok(())
 }
 
 /// One pick.
-pub fn step(code: &[u8], registers: &mut [i32], threads: &mut [Thread], pick: u8) -> Result<Step, Refusal> {
-    let (registers, threads) = admit(code, registers, threads)?;
-    Ok(act(code, registers, threads, pick))
+pub fn step(
+    code: &[u8],
+    registers: &mut [i32],
+    counts: &mut [u32],
+    threads: &mut [Thread],
+    pick: u8,
+) -> Result<Step, Refusal> {
+    let (mut table, threads) = admit(code, registers, counts, threads)?;
+    Ok(act(code, &mut table, threads, pick))
 }
 
 /// A list of picks, one after the other.
-pub fn run(code: &[u8], registers: &mut [i32], threads: &mut [Thread], picks: &[u8]) -> Result<Counts, Refusal> {
-    let (registers, threads) = admit(code, registers, threads)?;
+pub fn run(
+    code: &[u8],
+    registers: &mut [i32],
+    counts: &mut [u32],
+    threads: &mut [Thread],
+    picks: &[u8],
+) -> Result<Counts, Refusal> {
+    let (mut table, threads) = admit(code, registers, counts, threads)?;
     if picks.len() > MOST_PICKS {
         return too_many_picks();
     }
-    let mut counts = Counts::default();
+    let mut told = Counts::default();
     for &pick in picks {
-        count(&mut counts, act(code, registers, threads, pick));
+        count(&mut told, act(code, &mut table, threads, pick));
     }
-    Ok(counts)
+    Ok(told)
+}
+
+/// The register table: values, and beside each how often commits have written it.
+pub struct Table<'a> {
+    pub registers: &'a mut [i32; REGISTERS],
+    pub counts: &'a mut [u32; REGISTERS],
 }
 
 /// A state that was tested.
-pub type Admitted<'a> = (&'a mut [i32; REGISTERS], &'a mut [Thread; RECORDS]);
+pub type Admitted<'a> = (Table<'a>, &'a mut [Thread; RECORDS]);
 
 /// The tests of a call on a state: 11, then 12.
-pub fn admit<'a>(code: &[u8], registers: &'a mut [i32], threads: &'a mut [Thread]) -> Result<Admitted<'a>, Refusal> {
+pub fn admit<'a>(
+    code: &[u8],
+    registers: &'a mut [i32],
+    counts: &'a mut [u32],
+    threads: &'a mut [Thread],
+) -> Result<Admitted<'a>, Refusal> {
     let outline = code::outline(code)?;
-    if !fits(code, &outline, registers, threads) {
+    let (Ok(registers), Ok(counts), Ok(threads)) = (registers.try_into(), counts.try_into(), threads.try_into()) else {
         return unfit_state();
-    }
-    match (registers.try_into(), threads.try_into()) {
-        (Ok(registers), Ok(threads)) => Ok((registers, threads)),
-        _ => unfit_state(),
+    };
+    let admitted: Admitted = (Table { registers, counts }, threads);
+    match fits(code, &outline, admitted.0.counts, admitted.1) {
+        true => Ok(admitted),
+        false => unfit_state(),
     }
 }
 
@@ -58,8 +83,8 @@ pub fn starting(start: usize, end: usize) -> Thread {
 
 /// One pick in a state that fits; the thread's record keeps its rule, and counts a send-back.
 #[inline(always)]
-fn act(code: &[u8], registers: &mut [i32; REGISTERS], threads: &mut [Thread; RECORDS], pick: u8) -> Step {
-    let step = instruct(code, registers, threads, pick);
+fn act(code: &[u8], table: &mut Table, threads: &mut [Thread; RECORDS], pick: u8) -> Step {
+    let step = instruct(code, table, threads, pick);
     if step.event == Event::Idle {
         return step;
     }
@@ -74,7 +99,7 @@ fn act(code: &[u8], registers: &mut [i32; REGISTERS], threads: &mut [Thread; REC
 
 /// The instruction of a pick. Inlined, for its answer would be passed through memory.
 #[inline(always)]
-fn instruct(code: &[u8], registers: &mut [i32; REGISTERS], threads: &mut [Thread; RECORDS], pick: u8) -> Step {
+fn instruct(code: &[u8], table: &mut Table, threads: &mut [Thread; RECORDS], pick: u8) -> Step {
     let Some(thread) = threads.get_mut(usize::from(pick)) else {
         return IDLE;
     };
@@ -126,8 +151,9 @@ fn instruct(code: &[u8], registers: &mut [i32; REGISTERS], threads: &mut [Thread
                 (thread.readlog[register], Event::ReadReadLog)
             } else {
                 thread.reads |= 1 << register;
-                thread.readlog[register] = registers[register];
-                (registers[register], Event::ReadTable)
+                thread.readlog[register] = table.registers[register];
+                thread.readcounts[register] = table.counts[register];
+                (table.registers[register], Event::ReadTable)
             };
             push(thread, value);
             step_of(event)
@@ -137,7 +163,7 @@ fn instruct(code: &[u8], registers: &mut [i32; REGISTERS], threads: &mut [Thread
             thread.writelog[usize::from(register)] = thread.cells[thread.height - 1];
             step_of(Event::Write)
         }
-        Op::Commit => match first_stale(thread, registers) {
+        Op::Commit => match first_stale(thread, table.counts) {
             Some(register) => {
                 thread.cells[thread.base..thread.height].fill(0);
                 thread.place = thread.begin;
@@ -147,7 +173,8 @@ fn instruct(code: &[u8], registers: &mut [i32; REGISTERS], threads: &mut [Thread
             }
             None => {
                 for register in marked(thread.writes) {
-                    registers[register] = thread.writelog[register];
+                    table.registers[register] = thread.writelog[register];
+                    table.counts[register] += 1;
                 }
                 let over = thread.over;
                 close(thread);
@@ -171,15 +198,16 @@ pub fn marked(mut set: u64) -> impl Iterator<Item = usize> {
     })
 }
 
-/// The first register whose logged value is no longer the table's.
-pub fn first_stale(thread: &Thread, registers: &[i32; REGISTERS]) -> Option<usize> {
-    marked(thread.reads).find(|&register| thread.readlog[register] != registers[register])
+/// The first register that commits have written since it entered the read log, whatever its value is.
+pub fn first_stale(thread: &Thread, counts: &[u32; REGISTERS]) -> Option<usize> {
+    marked(thread.reads).find(|&register| thread.readcounts[register] != counts[register])
 }
 
 /// Empties logs and notes.
 fn close(thread: &mut Thread) {
     for register in marked(thread.reads) {
         thread.readlog[register] = 0;
+        thread.readcounts[register] = 0;
     }
     for register in marked(thread.writes) {
         thread.writelog[register] = 0;

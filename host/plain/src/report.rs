@@ -20,7 +20,7 @@ pub fn listing(input: &[u8]) -> String {
     let mut registers = [0; REGISTERS];
     let mut threads = [Thread::ABSENT; RECORDS];
     match execute(input, &mut registers, &mut threads) {
-        Ok(counts) => lines(&counts, &registers, &threads),
+        Ok(told) => lines(&told, &registers, &threads),
         Err(refusal) => format!("refused {} at {}\n", refusal.number(), refusal.place),
     }
 }
@@ -37,12 +37,13 @@ fn execute(input: &[u8], registers: &mut [i32], threads: &mut [Thread]) -> Resul
     let mut code = [0; LONGEST];
     let length = compile(job, &mut code)?;
     let code = &code[..length];
-    fresh(code, registers, threads)?;
-    run(code, registers, threads, picks)
+    let mut counts = [0; REGISTERS];
+    fresh(code, registers, &mut counts, threads)?;
+    run(code, registers, &mut counts, threads, picks)
 }
 
-fn lines(counts: &Counts, registers: &[i32], threads: &[Thread]) -> String {
-    let Counts { steps, idle, commits, back, over } = counts;
+fn lines(told: &Counts, registers: &[i32], threads: &[Thread]) -> String {
+    let Counts { steps, idle, commits, back, over } = told;
     let mut text = format!("steps {steps} idle {idle} commits {commits} back {back} over {over}\n");
     for (number, thread) in threads.iter().enumerate().filter(|(_, thread)| thread.start != 0) {
         let written = if thread.place == thread.end {

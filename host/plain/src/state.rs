@@ -21,14 +21,8 @@ struct Notes {
     adds: usize,
 }
 
-/// Tests a state against a tested code.
-pub fn fits(code: &[u8], outline: &Outline, registers: &[i32], threads: &[Thread]) -> bool {
-    let Ok(registers) = registers.try_into() else {
-        return false;
-    };
-    if threads.len() != RECORDS {
-        return false;
-    }
+/// Tests a state against a tested code. The registers' values are free.
+pub fn fits(code: &[u8], outline: &Outline, counts: &[u32; REGISTERS], threads: &[Thread; RECORDS]) -> bool {
     let existing = threads.iter().take_while(|thread| thread.start != 0).count();
     let (threads, absent) = threads.split_at(existing);
     let Some((root, others)) = threads.split_first() else {
@@ -61,12 +55,19 @@ pub fn fits(code: &[u8], outline: &Outline, registers: &[i32], threads: &[Thread
         }
         commits += standing.commits;
     }
-    started == passed && threads.iter().all(|thread| send_backs_fit(thread, registers, commits))
+    started == passed
+        && counts.iter().all(|&count| count as usize <= commits)
+        && threads.iter().all(|thread| not_ahead(thread, counts) && send_backs_fit(thread, counts, commits))
+}
+
+/// Whether no count of its read log is above the table's.
+fn not_ahead(thread: &Thread, counts: &[u32; REGISTERS]) -> bool {
+    thread.readcounts.iter().zip(counts).all(|(logged, count)| logged <= count)
 }
 
 /// Whether its number of send-backs is possible if all threads together have passed so many COMMITs.
-fn send_backs_fit(thread: &Thread, registers: &[i32; REGISTERS], commits: usize) -> bool {
-    thread.backs < commits || thread.backs == commits && first_stale(thread, registers).is_none()
+fn send_backs_fit(thread: &Thread, counts: &[u32; REGISTERS], commits: usize) -> bool {
+    thread.backs < commits || thread.backs == commits && first_stale(thread, counts).is_none()
 }
 
 /// Goes through a thread's own code up to its place, if that is one; each FORK on the way is told by its child's start.
@@ -114,9 +115,10 @@ fn holds(thread: &Thread, standing: &Standing) -> bool {
     };
     notes_and_marks
         && unmarked_are_zero(thread.reads, &thread.readlog)
+        && unmarked_are_zero(thread.reads, &thread.readcounts)
         && unmarked_are_zero(thread.writes, &thread.writelog)
 }
 
-fn unmarked_are_zero(marks: u64, log: &[i32; REGISTERS]) -> bool {
-    log.iter().enumerate().all(|(register, &value)| value == 0 || marks >> register & 1 == 1)
+fn unmarked_are_zero<N: Default + PartialEq>(marks: u64, log: &[N; REGISTERS]) -> bool {
+    log.iter().enumerate().all(|(register, value)| *value == N::default() || marks >> register & 1 == 1)
 }

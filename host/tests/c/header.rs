@@ -51,8 +51,8 @@ fn the_header_has_the_same_layout() {
     let expected = layout! {
         "kuspigo_thread" Thread {
             "start" start, "end" end, "place" place, "height" height, "cells" cells, "begin" begin, "base" base,
-            "over" over, "reads" reads, "readlog" readlog, "writes" writes, "writelog" writelog, "rule" rule,
-            "backs" backs
+            "over" over, "reads" reads, "readlog" readlog, "readcounts" readcounts, "writes" writes,
+            "writelog" writelog, "rule" rule, "backs" backs
         }
         "kuspigo_written" Written { "refusal" refusal, "place" place, "length" length }
         "kuspigo_fresh_reply" FreshReply { "refusal" refusal, "place" place }

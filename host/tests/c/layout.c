@@ -17,6 +17,7 @@ int main(void) {
     FIELD(kuspigo_thread, over);
     FIELD(kuspigo_thread, reads);
     FIELD(kuspigo_thread, readlog);
+    FIELD(kuspigo_thread, readcounts);
     FIELD(kuspigo_thread, writes);
     FIELD(kuspigo_thread, writelog);
     FIELD(kuspigo_thread, rule);

@@ -52,7 +52,7 @@ fn a_record_of_another_size_is_not_taken() {
     let shorter = header.replacen("    size_t rule; ", "", 1);
     assert!(shorter.len() < header.len());
     let said = complaint("shorter", &shorter, &["-O0"]);
-    assert!(said.contains("kuspigo_thread_has_856_bytes"), "{said}");
+    assert!(said.contains("kuspigo_thread_has_1112_bytes"), "{said}");
 }
 
 /// The archive in a project's folder.

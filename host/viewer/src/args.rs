@@ -102,7 +102,9 @@ impl Word {
             }
             Word::Trace => {
                 "A line for each pick: its number, counted from 1, the thread, the place in the code, the\n\
-                 instruction, the rule, and what changed. Then where each thread stands, and the listing.\n"
+                 instruction, the rule, and what changed. Then where each thread stands, how often commits\n\
+                 have written each register, and the listing. A register in the read log stands with that\n\
+                 count; a thread is sent back if the count is another one at its COMMIT.\n"
             }
             Word::Picture => {
                 "A lane for each thread, the picks from left to right: at most 1,600 pixels wide for up to\n\

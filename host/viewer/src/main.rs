@@ -99,7 +99,7 @@ fn run(call: &Call) -> Result<(), Failure> {
     }
 }
 
-/// A line for each pick, where each thread then stands, the listing.
+/// A line for each pick, where each thread then stands, the registers' counts, the listing.
 fn trace(call: &Call) -> Result<(), Failure> {
     let prepared = Prepared::new(call)?;
     // lines that are seen to come are progress enough
@@ -109,8 +109,8 @@ fn trace(call: &Call) -> Result<(), Failure> {
         out.write_all(trace::HEAD.as_bytes()).map_err(Failure::output)?;
         let (picks, state) =
             prepared.walked(progress, |pick| out.write_all(trace::line(&pick).as_bytes()).map_err(Failure::output))?;
-        let threads = trace::threads(&prepared.code, &state);
-        let end = [b"\n", threads.as_bytes(), b"\n", &prepared.listing(&picks)].concat();
+        let (threads, counts) = (trace::threads(&prepared.code, &state), trace::counts(&state));
+        let end = [b"\n", threads.as_bytes(), b"\n", counts.as_bytes(), b"\n", &prepared.listing(&picks)].concat();
         out.write_all(&end).and_then(|()| out.flush()).map_err(Failure::output)
     };
     unless_closed(told())

@@ -206,7 +206,7 @@ fn legend(out: &mut String) {
                 bar(out, "lost", x, x + 22.0, Y);
                 cross(out, x + 17.0, Y);
             },
-            "sent back, with its register: value read → value now",
+            "sent back, with its register: read → written since",
         ),
         (&|out, x| bar(out, "open", x, x + 22.0, Y), "open"),
         (&|out, x| dashes(out, [x, x + 22.0], [Y, Y]), "start of a thread"),

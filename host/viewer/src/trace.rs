@@ -1,7 +1,7 @@
-//! A run as lines: one for each pick, then one for each thread.
+//! A run as lines: one for each pick, then one for each thread, then one for the registers' counts.
 
 use crate::script;
-use crate::walk::Pick;
+use crate::walk::{self, Pick};
 use kuspigo::{RegisterSet, State, Thread};
 
 pub const HEAD: &str = "  pick thread place  instruction       rule                        what changed\n";
@@ -37,7 +37,8 @@ fn holds(thread: &Thread) -> String {
     let values: Vec<String> = thread.cells[..thread.height].iter().map(i32::to_string).collect();
     let mut text = format!("stack {}", or_empty(&values));
     if thread.begin != 0 {
-        let [reads, writes] = [(thread.reads, &thread.readlog), (thread.writes, &thread.writelog)].map(log);
+        let reads = log(thread.reads, |at| walk::counted(thread.readlog[at], thread.readcounts[at]));
+        let writes = log(thread.writes, |at| thread.writelog[at].to_string());
         text += &format!("; since BEGIN at {}: read log {reads}; write log {writes}", thread.begin);
     }
     if thread.over > 0 {
@@ -46,11 +47,20 @@ fn holds(thread: &Thread) -> String {
     text
 }
 
-fn log((marked, values): (u64, &[i32; 64])) -> String {
+/// The registers that a log marks, each with what it has of it.
+fn log(marked: u64, held: impl Fn(usize) -> String) -> String {
     let marked = RegisterSet { bits: marked };
     let entries: Vec<String> =
-        marked.iter().map(|register| format!("r{register} = {}", values[usize::from(register)])).collect();
+        marked.iter().map(|register| format!("r{register} = {}", held(usize::from(register)))).collect();
     or_empty(&entries)
+}
+
+/// The registers' counts that are not 0.
+pub fn counts(state: &State) -> String {
+    let written = state.counts.iter().enumerate().filter(|(_, &count)| count > 0);
+    let words: Vec<String> = written.map(|(register, count)| format!("r{register} {count}")).collect();
+    let words = if words.is_empty() { "all 0".to_string() } else { words.join(", ") };
+    format!("counts (how often commits have written a register): {words}\n")
 }
 
 fn or_empty(words: &[String]) -> String {

@@ -64,7 +64,7 @@ pub enum Effect {
     Committed {
         began: usize,
     },
-    /// Likewise; the lowest stale register with its values in the read log and in the table.
+    /// Likewise; the lowest stale register with its values in the read log and in the table, which may be equal.
     SentBack {
         began: usize,
         register: u8,
@@ -83,8 +83,8 @@ pub struct Walk<'a> {
     /// For each thread the pick of its last BEGIN, and those at which registers entered its read log.
     began: [usize; 16],
     read: [[usize; 64]; 16],
-    /// For each register the last commit that changed it: its pick and thread.
-    changed: [Option<(usize, u8)>; 64],
+    /// For each register the last commit that wrote it: its pick and thread.
+    written: [Option<(usize, u8)>; 64],
 }
 
 impl<'a> Walk<'a> {
@@ -92,7 +92,7 @@ impl<'a> Walk<'a> {
     pub fn new(code: &'a [u8], list: List) -> Self {
         let state = State::fresh(code).expect("the library compiled this code");
         // round robin goes on behind the last thread, with thread 0
-        Walk { code, list, state, done: 0, last: 15, began: [0; 16], read: [[0; 64]; 16], changed: [None; 64] }
+        Walk { code, list, state, done: 0, last: 15, began: [0; 16], read: [[0; 64]; 16], written: [None; 64] }
     }
 
     fn choose(&mut self) -> Option<u8> {
@@ -172,7 +172,7 @@ impl<'a> Walk<'a> {
             (Event::ReadTable, Op::Read(register)) => {
                 let at = usize::from(register);
                 self.read[number][at] = self.done;
-                (Effect::Own, format!("{top}; read log r{register} = {}", is.readlog[at]))
+                (Effect::Own, format!("{top}; read log r{register} = {}", counted(is.readlog[at], is.readcounts[at])))
             }
             (Event::Write, Op::Write(register)) => {
                 let at = usize::from(register);
@@ -185,11 +185,10 @@ impl<'a> Walk<'a> {
             (Event::Commit, _) => {
                 let mut words = Vec::new();
                 for register in (RegisterSet { bits: was.writes }).iter() {
-                    let [old, new] = [before, &self.state].map(|state| state.registers[usize::from(register)]);
-                    if new != old {
-                        self.changed[usize::from(register)] = Some((self.done, number as u8));
-                    }
-                    words.push(format!("r{register} {old} -> {new}"));
+                    let at = usize::from(register);
+                    self.written[at] = Some((self.done, number as u8));
+                    let new = counted(self.state.registers[at], self.state.counts[at]);
+                    words.push(format!("r{register} {} -> {new}", before.registers[at]));
                 }
                 if words.is_empty() {
                     words.push("writes no register".to_string());
@@ -204,18 +203,26 @@ impl<'a> Walk<'a> {
                 let register = step.stale.expect("a send-back names its register");
                 let at = usize::from(register);
                 let (read, now) = (was.readlog[at], before.registers[at]);
-                let (when, whose) = self.changed[at].expect("a commit changed what is stale");
-                let since = self.read[number][at];
+                let (when, whose) = self.written[at].expect("a commit wrote what is stale");
                 let change = format!(
-                    "r{register} read as {read} at pick {since}, {now} since the commit of thread {whose} at pick {when}; \
+                    "r{register} read as {} at pick {}, written as {} by the commit of thread {whose} at pick {when}; \
                      back to BEGIN at {}, height {}, logs empty",
-                    is.place, is.height
+                    counted(read, was.readcounts[at]),
+                    self.read[number][at],
+                    counted(now, before.counts[at]),
+                    is.place,
+                    is.height
                 );
                 (Effect::SentBack { began: self.began[number], register, read, now }, change)
             }
             _ => (Effect::Own, top),
         }
     }
+}
+
+/// A register's value, and how often commits have written it, which decides whether it is stale.
+pub fn counted(value: i32, count: u32) -> String {
+    format!("{value} (count {count})")
 }
 
 /// The top of a thread's stack.

@@ -123,8 +123,8 @@ fn batches(row: &str, mut once: impl FnMut(usize)) {
     print_row(row, least.map(|time| time / calls_in_batch as f64).map(duration), least);
 }
 
-type Steps = fn(&[u8], &mut [i32], &mut [Thread], u8) -> Result<kuspigo::Step, Refusal>;
-type Runs = fn(&[u8], &mut [i32], &mut [Thread], &[u8]) -> Result<Counts, Refusal>;
+type Steps = fn(&[u8], &mut [i32], &mut [u32], &mut [Thread], u8) -> Result<kuspigo::Step, Refusal>;
+type Runs = fn(&[u8], &mut [i32], &mut [u32], &mut [Thread], &[u8]) -> Result<Counts, Refusal>;
 
 const STEPS: [Steps; 3] = [kuspigo::step, by_value::step, plain::step];
 const RUNS: [Runs; 3] = [kuspigo::run, by_value::run, plain::run];
@@ -142,7 +142,7 @@ fn stepping(name: &str, tree: &Process) {
     for (state, pick) in &points {
         let answers = STEPS.map(|step| {
             let mut state = state.clone();
-            (step(&code, &mut state.registers, &mut state.threads, *pick), state)
+            (step(&code, &mut state.registers, &mut state.counts, &mut state.threads, *pick), state)
         });
         assert!(answers.iter().all(|answer| *answer == answers[0]), "step: {name}: the columns differ");
     }
@@ -152,7 +152,13 @@ fn stepping(name: &str, tree: &Process) {
         lent.clone_from(&points);
         let started = Instant::now();
         for (state, pick) in &mut lent {
-            let _ = black_box(step(black_box(&code), &mut state.registers, &mut state.threads, black_box(*pick)));
+            let _ = black_box(step(
+                black_box(&code),
+                &mut state.registers,
+                &mut state.counts,
+                &mut state.threads,
+                black_box(*pick),
+            ));
         }
         started.elapsed()
     });
@@ -193,7 +199,7 @@ fn resting_at(name: &str, tree: &Process) {
 fn run_row(name: &str, code: &[u8], from: &State, picks: &[u8]) {
     let answers = RUNS.map(|run| {
         let mut state = from.clone();
-        (run(code, &mut state.registers, &mut state.threads, picks), state)
+        (run(code, &mut state.registers, &mut state.counts, &mut state.threads, picks), state)
     });
     assert!(answers.iter().all(|answer| *answer == answers[0]), "run: {name}: the columns differ");
     let counts = answers[0].0.expect("the state fits");
@@ -203,7 +209,13 @@ fn run_row(name: &str, code: &[u8], from: &State, picks: &[u8]) {
         let (run, picks) = (RUNS[column % 3], lists[column / 3]);
         state.clone_from(from);
         let started = Instant::now();
-        let _ = black_box(run(black_box(code), &mut state.registers, &mut state.threads, black_box(picks)));
+        let _ = black_box(run(
+            black_box(code),
+            &mut state.registers,
+            &mut state.counts,
+            &mut state.threads,
+            black_box(picks),
+        ));
         started.elapsed()
     });
     let whole = [0, 1, 2].map(|column| least[column]);

@@ -182,7 +182,7 @@ fn marks_are_at_their_picks(text: &str, elements: &[Element], code: &[u8], picks
         let [x, y] = hits[at];
         assert!(near(x, hits[0][0] + column * at as f64), "pick {}", at + 1);
         let before = state.clone();
-        let step = plain::step(code, &mut state.registers, &mut state.threads, thread).unwrap();
+        let step = plain::step(code, &mut state.registers, &mut state.counts, &mut state.threads, thread).unwrap();
         let name = if step.event == Event::Idle { "idle".to_string() } else { format!("thread {thread}") };
         assert!(near(y, lane(&name)), "pick {}", at + 1);
         let index = usize::from(thread);
