@@ -7,13 +7,11 @@ use mathlib.Core.List.{List, [], _∷_, _++_, append-assoc}
 use native.Mathlib.Omega.{arith}
 use lib.ListN.{length, drop, getD, set, length-append, length-set}
 use lib.Seq.{getD-set-same, getD-set-other}
-use Rattle.decompiler.specs.InnerParts.{inserted}
 use Rattle.delivery.specs.Delivered.{onto}
-use Rattle.delivery.specs.InnerPlaces.{placedAt}
+use Rattle.delivery.specs.InnerPlaces.{inserted, placedAt}
 use Rattle.decompiler.specs.InnerState.{Pass, partPushed, partsMerged, partGrown, childOpened, childShut, Room, CanMove}
 use Rattle.decompiler.specs.InnerWalk.{Starts, Ends, Sorted, Setting, Follows}
-use Rattle.decompiler.proofs.Lists.{inserted-onto}
-use Rattle.delivery.proofs.Places.{onto-length, placed-onto}
+use Rattle.delivery.proofs.Places.{inserted-onto, onto-length, placed-onto}
 use Rattle.code.specs.Reader.{Item, forked, readOps}
 use Rattle.code.specs.InnerParts.{itemForks, itemBytes, jobText, forksI}
 use Rattle.code.proofs.Texts.{ops-grown, height-grows}

@@ -1,5 +1,4 @@
 -- The laws that the proofs of `decompiler` cite.
-pub mod Lists
 pub mod Next
 pub mod Follow
 pub mod Turns

@@ -8,7 +8,7 @@ use lib.Dec.{eqb, leb, ltb, eqb·suc-zero}
 use lib.ListN.{length, drop, getD}
 use lib.Seq.{drop-cons, drop-drop}
 use borrow.Author.Tests.{lt-ltb, ltb-true, ltb-false, leb-true, eq-eqb, ne-eqb, eqb-true, eqb-false, not-false}
-use Rattle.decompiler.specs.InnerParts.{kindIn}
+use Rattle.script.specs.InnerTrees.{kindIn}
 use Rattle.decompiler.specs.InnerWalk.{Ends, OutsideItems, InsideItems, Sorted}
 use Rattle.code.specs.Ops.{Op, opcodeOperand, decoded, opAt, sizeOf}
 use Rattle.code.specs.Reader.{Item, proc, tran, begun, forked, sumTop, writeTop, commitTop, childEnded, Done, doneWith, doOp, endsAfter, OpenParts, endedAt, ended, readOps}

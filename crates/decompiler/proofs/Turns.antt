@@ -8,9 +8,9 @@ use lib.IntN.{ℤ}
 use lib.ListN.{length, drop, getD, length-drop}
 use lib.Seq.{getD-drop}
 use borrow.Author.Tests.{not-false}
-use Rattle.decompiler.specs.InnerParts.{inserted, kindIn}
+use Rattle.script.specs.InnerTrees.{kindIn}
 use Rattle.delivery.specs.Delivered.{onto}
-use Rattle.delivery.specs.InnerPlaces.{placedAt}
+use Rattle.delivery.specs.InnerPlaces.{inserted, placedAt}
 use Rattle.decompiler.specs.InnerState.{Pass, partPushed, partsMerged, partGrown, childOpened, childShut, atEnd, Room, CanMove}
 use Rattle.decompiler.specs.InnerWalk.{OutsideItems, InsideItems, Sorted, Follows, TurnTaken}
 use Rattle.decompiler.proofs.Next.{none-ends, Ending, one-ends, Merges, child-merges, child-sorted, child-forks, merges-text, Closes, child-closes, FoundOp, next-found, stays-from, sum-merges, sum-sorted, commit-merges, commit-sorted, Writes, write-writes, forks-stay}

@@ -5,13 +5,14 @@ ghost use mathlib.Core.Bool.{false, true};
 ghost use mathlib.Core.List.{List, [], _∷_};
 ghost use mathlib.Core.Path.{_≡_};
 ghost use Rattle.decompiler.specs.ReadBackTo.{bytesOf, readBackTo};
-ghost use Rattle.decompiler.specs.InnerParts.{jobHeader, inserted, kindIn, shifted};
+ghost use Rattle.decompiler.specs.InnerParts.{jobHeader};
 ghost use Rattle.delivery.specs.Delivered.{onto};
-ghost use Rattle.delivery.specs.InnerPlaces.{placedAt};
+ghost use Rattle.delivery.specs.InnerPlaces.{inserted, placedAt};
 ghost use Rattle.decompiler.specs.InnerState.{CanMove, Room, atEnd, childOpened, childShut, firstCursor, joined, partGrown, partPushed, partsMerged};
 ghost use Rattle.decompiler.specs.InnerWalk.{TurnDue, Restorable, Walk, TurnTaken};
 ghost use Rattle.code.specs.Reader.{readCode};
 ghost use Rattle.script.specs.Outcome.{done};
+ghost use Rattle.script.specs.InnerTrees.{kindIn};
 ghost use Rattle.script.specs.Jobs.{Job};
 ghost use Rattle.script.specs.Tree.{Proc};
 use delivery::Answer;
@@ -38,24 +39,12 @@ fn kind(inside: bool, process: u8) -> u8
     process
 }
 
-// Moves a part of `out` on by some bytes. What lies in between keeps its bytes.
-fn shift(out: &mut [u8], start: usize, end: usize, by: usize)
-    requires { ⌜ (start ≤ end) × (end + by ≤ length (now out)) ⌝ }
-    ensures { λ _. ⌜ now (out .exit) ≡ shifted start end by (now (out .entry)) ⌝ }
-{
-    let mut i = end;
-    while i > start {
-        i -= 1;
-        out[i + by] = out[i];
-    }
-}
-
 // Puts a byte in front of a part of `out`.
 fn insert(out: &mut [u8], start: usize, end: usize, byte: u8)
     requires { ⌜ (start ≤ end) × (end + 1 ≤ length (now out)) ⌝ }
     ensures { λ _. ⌜ now (out .exit) ≡ inserted start end (byte ∷ []) (now (out .entry)) ⌝ }
 {
-    shift(out, start, end, 1);
+    delivery::shift(out, start, end, 1);
     out[start] = byte;
 }
 
@@ -64,7 +53,7 @@ fn insert_two(out: &mut [u8], start: usize, end: usize, first: u8, second: u8)
     requires { ⌜ (start ≤ end) × (end + 2 ≤ length (now out)) ⌝ }
     ensures { λ _. ⌜ now (out .exit) ≡ inserted start end (first ∷ second ∷ []) (now (out .entry)) ⌝ }
 {
-    shift(out, start, end, 2);
+    delivery::shift(out, start, end, 2);
     out[start] = first;
     out[start + 1] = second;
 }

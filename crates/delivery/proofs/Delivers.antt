@@ -1,13 +1,14 @@
 -- A refusal leaves the output as it was, and a result leaves what is behind it as it was; 10 is for an output shorter than the result. Assumes nothing.
 use Prim.Native.Nat.{ℕ, _<_, _≤_}
-use mathlib.Core.Path.{_≡_, refl}
+use mathlib.Core.Path.{_≡_, refl, _∙_}
 use mathlib.Core.List.{List}
 use native.Mathlib.Omega.{arith}
 use borrow.Author.Tests.{le-ltb, lt-ltb}
 use lib.ListN.{length, drop}
-use lib.Seq.{drop-append-seam}
+use lib.Seq.{drop-append-seam, paste}
 use Rattle.delivery.specs.declared.Answer.the-variants.{Done, Refused}
 use Rattle.delivery.specs.Delivered.{onto, roomFor, settled, delivered}
+use Rattle.delivery.proofs.Places.{pasted}
 use Rattle.script.specs.Outcome.{Outcome, refused, done, onward}
 
 settled-keeps : (o : Outcome (List ℕ)) (before : List ℕ) (n p : ℕ) → settled o before .answer ≡ Refused n p → settled o before .output ≡ before
@@ -39,3 +40,7 @@ delivers r before h = rw (le-ltb (length before) (length r) h)
 pub too-short : (r before : List ℕ) → length before < length r → delivered (done r) before ≡ record { answer = Refused 10 0; output = before }
 unfolding delivered
 too-short r before h = rw (lt-ltb (length before) (length r) h)
+
+-- so is one that is copied there byte by byte
+pub copy-delivers : (r before after : List ℕ) (i : ℕ) → length r ≤ length before → i ≡ length r → after ≡ paste before 0 r i → delivered (done r) before ≡ record { answer = Done i; output = after }
+copy-delivers r before after i h e w = delivers r before h ∙ rw (w, e, pasted before r)

@@ -10,7 +10,8 @@ use lib.Seq.{drop-cons, getD-drop}
 use borrow.Author.Tests.{lt-ltb, le-ltb, le-leb, lt-leb, eq-eqb, ne-eqb}
 use Rattle.job.specs.declared.Tested.{Tested}
 use Rattle.job.specs.declared.Tested.the-variants.{Kind, Refused}
-use Rattle.job.specs.InnerScan.{sortOf, kindByte, tested}
+use Rattle.job.specs.InnerScan.{kindByte, tested}
+use Rattle.script.specs.InnerTrees.{sortOf}
 use Rattle.script.specs.Tree.{Sort}
 use Rattle.script.specs.Jobs.{operand}
 use Rattle.script.specs.Reader.{permitted, nodeOf, nodeAt}

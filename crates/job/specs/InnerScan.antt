@@ -8,15 +8,11 @@ use Rattle.job.specs.declared.Tested.{Tested}
 use Rattle.job.specs.declared.Tested.the-variants.{Kind, Refused}
 use Rattle.job.specs.declared.Cursor.{Cursor}
 use Rattle.job.specs.declared.Transactions.{Transactions}
+use Rattle.script.specs.InnerTrees.{sortOf}
 use Rattle.script.specs.Tree.{Sort, process, transaction}
 use Rattle.script.specs.Bytes.{Node, VALP, ADDP, ATOMIC, FORK, VALT, ADDT, READ, WRITE}
 use Rattle.script.specs.Outcome.{Outcome, refused, done}
 use Rattle.script.specs.Jobs.{Due, operand}
-
--- the sort of a part, by whether it is a transaction
-abbrev pub sortOf : Bool → Sort
-sortOf true = transaction
-sortOf false = process
 
 -- a node's kind byte
 unfoldable pub kindByte : {s : Sort} → Node s → ℕ

@@ -8,12 +8,8 @@ use native.Mathlib.Omega.{arith}
 use borrow.Author.Tests.{ltb-true, ltb-false, lt-ltb, le-ltb}
 use lib.Dec.{ltb, lit<}
 use lib.IntN.{ℤ, pos, negsuc}
-use lib.ListN.{length, take, drop, getD, set, length-append, length-set, length-take}
-use lib.Seq.{take-suc, take-set-le, getD-set-same, take-length, paste, paste-suc}
-use Rattle.delivery.proofs.Delivers.{delivers}
-use Rattle.delivery.specs.Delivered.{Delivered, onto, delivered}
-use Rattle.delivery.specs.declared.Answer.the-variants.{Done}
-use Rattle.script.specs.Outcome.{done}
+use lib.ListN.{length, take, getD, set, length-append, length-set, length-take}
+use lib.Seq.{take-suc, take-set-le, getD-set-same}
 use Rattle.io.specs.Digits as io
 use Rattle.listing.specs.InnerPage.{Put}
 use Rattle.listing.specs.Listed.{digits, decimal, integer}
@@ -46,11 +42,6 @@ whole {text} {x = x} {r = r} p =
     let m : length (take r x) ≡ min r (length x) = length-take r x in
     record { front = p .front; size = s; within = omega (arith, s, m, ap length (p .front)) }
 
--- delivered, it is the result
-pub page-delivered : (text page before after : List ℕ) (r : ℕ) → Whole text r page → r ≤ length before → after ≡ onto (take r page) before → delivered (done text) before ≡ record { answer = Done r; output = after }
-page-delivered text page before after r w h e =
-    delivers text before (omega (arith, w .size, h)) ∙ ap {B = Delivered} (λ (n : ℕ). record { answer = Done n; output = onto text before }) (sym (w .size)) ∙ ap {B = Delivered} (λ (l : List ℕ). record { answer = Done r; output = l }) (ap (λ (t : List ℕ). onto t before) (sym (w .front)) ∙ sym e)
-
 -- one byte more of a text, behind those that are there
 pub one-more : (at i : ℕ) (text before page : List ℕ) → i < length text → at + i < length page → take (at + i) page ≡ take at before ++ take i text
     → take (at + (i + 1)) (set page (at + i) (getD text i 0)) ≡ take at before ++ take (i + 1) text
@@ -60,14 +51,6 @@ one-more at i text before page h k e =
   where
     stored : (j a : ℕ) (l : List ℕ) → j < length l → take (suc j) (set l j a) ≡ take j l ++ (a ∷ [])
     stored j a l q = take-suc (set l j a) j 0 (subst (j <_) (sym (length-set l j a)) q) ∙ ap (λ (x : ℕ). take j (set l j a) ++ (x ∷ [])) (getD-set-same l j a 0 q) ∙ ap (_++ (a ∷ [])) (take-set-le j l j a (omega arith))
-
--- a byte of a text stored at the front of an output, and the whole of it
-pub stored : (i : ℕ) (out text : List ℕ) → i < length out → i < length text → set (paste out 0 text i) i (getD text i 0) ≡ paste out 0 text (i + 1)
-stored i out text h k =
-    ap (λ (n : ℕ). set (paste out 0 text i) n (getD text i 0)) (let z : i ≡ 0 + i = omega arith in z) ∙ paste-suc out 0 text i 0 (omega (arith, h)) k ∙ ap (paste out 0 text) (let z : suc i ≡ i + 1 = omega arith in z)
-
-pub pasted : (out text : List ℕ) → paste out 0 text (length text) ≡ onto text out
-pasted out text = ap (λ (l : List ℕ). l ++ drop (0 + length text) out) (take-length text) ∙ ap (λ (n : ℕ). text ++ drop n out) (let z : 0 + length text ≡ length text = omega arith in z)
 
 -- a digit below 10
 glyph-is : (d : ℕ) → d < 10 → io.glyph d ≡ 48 + d

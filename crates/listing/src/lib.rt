@@ -5,7 +5,7 @@ ghost use mathlib.Core.Bool.{cond};
 ghost use mathlib.Core.List.{[], _++_};
 ghost use mathlib.Core.Path.{_≡_};
 ghost use lib.IntN.{natAbs};
-ghost use Rattle.delivery.specs.Delivered.{delivered, onto};
+ghost use Rattle.delivery.specs.Delivered.{delivered};
 ghost use Rattle.listing.specs.InnerPage.{Put, signOf};
 ghost use Rattle.listing.specs.Listed.{ascii, countsLine, decimal, integer, jobRun, listed, listing, printed, refusalLine, registerLine, registerLines, threadLine, threadLines};
 ghost use Rattle.code.specs.Reader.{readCode};
@@ -228,18 +228,6 @@ fn print(page: &mut [u8], input: &[u8]) -> usize
     put_job(page, &input[2..end], &input[end..])
 }
 
-// Puts a text at the front of an output; what is behind it is as it was.
-fn deliver(out: &mut [u8], text: &[u8])
-    requires { ⌜ length (now text) ≤ length (now out) ⌝ }
-    ensures { λ _. ⌜ now (out .exit) ≡ onto (now (text .entry)) (now (out .entry)) ⌝ }
-{
-    let mut i: usize = 0;
-    while i < text.len() {
-        out[i] = text[i];
-        i += 1;
-    }
-}
-
 // What the run program prints for an input, into the front of `out`. Total: any input, any output. An output of 4,449 bytes is always long enough.
 pub fn report(input: &[u8], out: &mut [u8]) -> Answer
     ensures { λ r. ⌜ delivered (done (listed (now (input .entry)))) (now (out .entry)) ≡ record { answer = r; output = now (out .exit) } ⌝ }
@@ -247,9 +235,5 @@ pub fn report(input: &[u8], out: &mut [u8]) -> Answer
 {
     let mut page = [0u8; 4449];
     let length = print(&mut page, input);
-    if out.len() < length {
-        return Answer::Refused(10, 0);
-    }
-    deliver(out, &page[..length]);
-    Answer::Done(length)
+    delivery::deliver(out, &page[..length])
 }

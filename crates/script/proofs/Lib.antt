@@ -10,3 +10,4 @@ pub mod Same
 pub mod Soups
 pub mod Turns
 pub mod Overflows
+pub mod Prefix

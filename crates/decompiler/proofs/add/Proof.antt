@@ -3,7 +3,7 @@ use Prim.Native.Nat.{ℕ, _-_}
 use mathlib.Core.Path.{ap, _∙_}
 use mathlib.Core.List.{[], _∷_}
 use lib.ListN.{getD}
-use Rattle.decompiler.specs.InnerParts.{inserted}
+use Rattle.delivery.specs.InnerPlaces.{inserted}
 use borrow.Author.Needs.{needs}
 use Rattle.decompiler.proofs.add.Statement.{statement}
 use Rattle.decompiler.proofs.add.Tie as tie

@@ -1,7 +1,10 @@
 -- `decompiler::insert_two` meets its contract. Assumes nothing.
+use mathlib.Core.Path.{ap, _∙_}
+use mathlib.Core.List.{[], _∷_}
 use native.Mathlib.Omega.{arith}
 use lib.ListN.{length-set}
-use Rattle.decompiler.proofs.Lists.{insert-two}
+use Rattle.delivery.specs.InnerPlaces.{placedAt}
+use Rattle.delivery.proofs.Places.{two-stored, placed-moved}
 use borrow.Author.Needs.{needs}
 use Rattle.decompiler.proofs.insert_two.Statement.{statement}
 use Rattle.decompiler.proofs.insert_two.Tie as tie
@@ -22,7 +25,11 @@ same-length : tie.Need-same-length
 same-length c = search needs
 
 returns : tie.Need-returns
-returns c = rw (c .before .before .shift .ensures) (insert-two (c .before .before .before .before .before .args .start) (c .before .before .before .before .before .args .end) (c .before .before .before .before .before .args .first) (c .before .before .before .before .before .args .second) (c .before .before .before .before .before .args .out .now) (omega arith) (omega arith))
+returns c =
+    let a = c .before .before .before .before .before .args in
+    let s = c .before .before .shift in
+    let t = two-stored (a .start) (a .first) (a .second) (s .last .0) (omega (arith, s .kept .0)) in
+    t ∙ ap (placedAt (a .start) (a .first ∷ a .second ∷ [])) (s .ensures) ∙ placed-moved (a .start) (a .end) (a .first ∷ a .second ∷ []) (a .out .now) (omega arith) (omega arith)
 
 pub insert-two-spec : {M : Type 1} → statement M
 insert-two-spec =

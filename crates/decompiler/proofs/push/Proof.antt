@@ -2,7 +2,7 @@
 use Prim.Native.Nat.{_+_}
 use native.Mathlib.Omega.{arith}
 use lib.ListN.{getD, length-set}
-use Rattle.decompiler.proofs.Lists.{five-stored}
+use Rattle.delivery.proofs.Places.{five-stored}
 use borrow.Author.Needs.{needs}
 use Rattle.decompiler.proofs.push.Statement.{statement}
 use Rattle.decompiler.proofs.push.Tie as tie

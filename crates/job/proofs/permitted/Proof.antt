@@ -4,7 +4,7 @@ use mathlib.Core.Path.{_≡_}
 use mathlib.Core.Bool.{Bool, true, false, not}
 use native.Mathlib.Omega.{arith}
 use borrow.Author.Tests.{le-leb, lt-leb}
-use Rattle.job.specs.InnerScan.{sortOf}
+use Rattle.script.specs.InnerTrees.{sortOf}
 use Rattle.script.specs.Reader.{permitted as may}
 use Rattle.job.proofs.permitted.Statement.{statement}
 use Rattle.job.proofs.permitted.Tie as tie
