@@ -2,22 +2,24 @@
 """Writes the files stdin and stdout of this program, beside this one; with a seed and a folder as arguments, other random cases into that
 folder.
 
-In front stand the cases of jobs.py and machine.py, most of whose answers are also stated by hand. Every answer comes from a second implementation, which
-is written from the papers (documents 01 and 02) and not from the definitions of this repository: the job reader, the compiler, the
-way back and the forecast are in jobs.py, the machine is in machine.py, and what the run program prints is here.
+In front stand the cases of jobs.py, machine.py and formulas.py, most of whose answers are also stated by hand. Every answer comes from a second
+implementation, which is written from the papers (documents 01 and 02) and not from the definitions of this repository: the job reader, the compiler,
+the way back and the forecast are in jobs.py, the machine is in machine.py, the reader of formulas is in formulas.py, and what the run program prints
+is here.
 """
 import os
 import random
 import sys
 from collections import Counter, defaultdict
 
+import formulas
 import jobs
 import machine
-from jobs import KINDS, addp, addt, atomic, encode, fork, job, nodes, valp, valt, whole, write
+from jobs import KINDS, addp, addt, atomic, encode, fork, job, nodes, valp, valt, whole, words, write
 
 HERE = os.path.dirname(os.path.abspath(__file__))
 SEED = 20260201
-ROOM = 1000000
+ROOM = 1350000
 LONG = 32769  # picks, one too many
 
 rng = random.Random()
@@ -82,20 +84,6 @@ def report(kind, data, size=None, picks=()):
             note[word[0] + " open"] += word[2] == "open"
             note[word[0] + " negative"] += word[-1][0] == "-"
             note[word[0] + " least"] += word[-1] == "-2147483648"
-
-
-def words(picks):
-    """A list of picks as text, such as ' 0*3 1'."""
-    out, at = "", 0
-    while at < len(picks):
-        times = 1
-        while at + times < len(picks) and picks[at + times] == picks[at]:
-            times += 1
-        while times:
-            n = min(times, 40000)
-            out += " %d" % picks[at] + ("*%d" % n if n > 1 else "")
-            times, at = times - n, at + n
-    return out
 
 
 # ---- trees and lists of picks
@@ -856,7 +844,153 @@ def tally(tree, picks):
     seen["tally"]["runs"] += 1
 
 
+# ---- texts of formulas
+
+BYTES = b"forkatomic()+-0123456789r:= \n\r\t(+r1"  # what is put into a text to damage it
+
+
+def some_text(tree):
+    """A text of the tree with blanks, superfluous brackets and zeros, or the shortest one."""
+    if rng.random() < 0.2:
+        return formulas.printed(tree)
+    return formulas.spaced(formulas.words_of(tree, rng, rng.choice((0, 0, 0.1, 0.4))), rng, rng.choice((0, 0.1, 0.3)))
+
+
+def mistyped(text):
+    """A byte changed, left out or put in, two neighbours exchanged, or a few left out."""
+    at = rng.randrange(len(text))
+    byte = bytes([rng.choice(BYTES)])
+    return rng.choice(
+        (
+            text[:at] + byte + text[at + 1 :],
+            text[:at] + byte + text[at:],
+            text[:at] + text[at + 1 :],
+            text[:at] + text[at + 1 : at + 2] + text[at : at + 1] + text[at + 2 :],
+            text[:at] + text[at + rng.randint(2, 5) :],
+        )
+    )
+
+
+def tower(opened, inside=False):
+    """What stands before and behind a term so that so many are open around it, brackets, forks, atomics and writes; and whether it stands in a transaction,
+    as the tower does if it is `inside`."""
+    before, behind, forks, fresh = [], [], 0, True  # fresh: a sum may begin here
+    while opened > 0:
+        if fresh and rng.random() < 0.1:
+            before += [b"r1" if inside else b"1", b"+"]
+            fresh = False
+        words = [b"("]
+        if inside and fresh and rng.random() < 0.5:
+            words = [b"r2", b":="]
+        elif not inside and forks < 15 and rng.random() < 0.25:
+            words, forks = [formulas.FORK], forks + 1
+        elif not inside and opened > 1 and rng.random() < 0.03:
+            words, inside = [formulas.ATOMIC, b"("], True
+        before += words
+        opened -= 2 if words[0] == formulas.ATOMIC else 1
+        fresh = words[0] != formulas.FORK
+        if words[-1] == b"(":
+            behind = [b")"] + ([b"+", b"3"] if rng.random() < 0.05 else []) + behind
+    return before, behind, inside
+
+
+def inmost(inside):
+    """A term, or as much as may stand behind `:=` or a bracket; it opens up to two more."""
+    words = ("7", "r7", "( 7 )", "r7 := 7", "r7 + 7") if inside else ("7", "fork 7", "( 7 )", "atomic ( 7 )", "7 + 7")
+    return rng.choice(words).encode().split()
+
+
+def high_text(opened):
+    """A text in which so many are open somewhere, or up to three more; or two such places, brackets around each."""
+    around, behind, inside = tower(opened if rng.random() < 0.5 else rng.randrange(opened - 4))
+    left = opened - opened_by(around)
+    if left == 0:
+        parts = inmost(inside)
+    else:
+        parts = [b"("]
+        for sign in ((), (b"+",)):
+            before, after, within = tower(left - rng.choice((1, 2, 2, 3)), inside)
+            parts += [*sign, b"(", *before, *inmost(within), *after, b")"]
+        parts += [b")"]
+    return formulas.spaced(around + parts + behind, rng, rng.choice((0, 0, 0, 0.1)))
+
+
+def opened_by(words):
+    """How many are open behind these words, of which none is closed."""
+    return sum(word in (b"(", b":=", formulas.FORK, formulas.ATOMIC) for word in words)
+
+
+def limit_number():
+    """Digits of a number at or near the end of the range."""
+    near, any_one = rng.randrange(2**31 - 5, 2**31 + 5), rng.randrange(10**11)
+    n = rng.choice((2147483647, 2147483648, 2147483649, 214748364, 2**32, 2**32 + 1, 2**31 + 10, near, near, any_one))
+    return rng.choice((b"", b"-")) + b"0" * rng.choice((0, 0, 1, 5, 30)) + b"%d" % n
+
+
+def limit_register():
+    """A register at or near the end of the range."""
+    v = rng.choice((0, 59, 62, 63, 64, 65, rng.randrange(64), rng.randrange(60, 70), rng.randrange(1000), 2**32, 2**64 + 1))
+    return b"r" + b"0" * rng.choice((0, 0, 1, 5, 30)) + b"%d" % v
+
+
+def limit_text():
+    """A short text with such a number or register."""
+    n, v = limit_number(), limit_register()
+    parts = rng.choice((
+        "{n}", "1 + {n}", "( {n} ) + 1", "fork {n}", "atomic ( {n} )", "atomic ( {v} )", "atomic ( {v} := 1 )", "atomic ( r1 := {v} )", "atomic ( 1 + {v} )",
+        "atomic ( {v} := {v} + {n} )",
+    )).format(n=n.decode(), v=v.decode()).encode().split()
+    return formulas.spaced(parts, rng, rng.choice((0, 0.1)))
+
+
 # ---- the cases
+
+
+def a_formula(kind, text, size=None):
+    """A text in an output of this size. Where none is given, it is as long as the job or longer."""
+    answer = formulas.formula(text, 6000)
+    if size is None:
+        size = rng.choice((0, 20, 100)) if answer[0] == "refused" else room(len(answer))
+    answer = formulas.formula(text, size)
+    add("formula", "formula %d %s" % (size, kind), formulas.to_text(text), jobs.show_output("job", answer))
+    number = answer[1] if answer[0] == "refused" else 0
+    seen["formula"][number] += 1
+    seen[kind + " formula"][number] += 1
+    if number == 15:
+        seen["places of 15"]["the end" if answer[2] == len(text) else repr(chr(text[answer[2]]))[1:-1]] += 1
+
+
+def the_formulas():
+    cases.section("formulas: texts of trees")
+    for _ in range(110):
+        a_formula("tree", some_text(any_tree()))
+    for k in range(6):
+        for tree in (sixteen(), deep(62 + k), around(198 + k), large(rng.choice((70, 150)))):
+            a_formula("large", some_text(tree))
+    cases.section("formulas: outputs that are too short")
+    for _ in range(30):
+        tree = small()
+        n = len(job(tree))
+        a_formula("short", some_text(tree), rng.choice((n - 1, 0, rng.randrange(n))))
+    cases.section("formulas: texts that are mistyped, in one place or in two")
+    for k in range(200):
+        text = mistyped(some_text(any_tree()))
+        a_formula("mistyped", mistyped(text) if k % 3 == 0 and text else text)
+    cases.section("formulas: 58 to 68 open")
+    for k in range(88):
+        a_formula("open", high_text(58 + k % 11))
+    cases.section("formulas: 1 to 700 terms")
+    for n in (1, 2, 3, 63, 64, 65, 66, 100, 300, 500, 501, 700):
+        terms = [rng.choice((valp(rng.randrange(10)), valp(1), atomic(jobs.read(3)))) if n < 200 else valp(rng.randrange(10)) for _ in range(n)]
+        a_formula("terms", b"+".join(map(formulas.printed, terms)))
+        a_formula("terms", formulas.printed(jobs.flat(addp, terms)))
+    for n in (1, 2, 62, 63, 64, 100, 101, 150):
+        terms = [rng.choice((valt(rng.randrange(10)), jobs.read(rng.randrange(10)))) for _ in range(n)]
+        a_formula("terms", b"atomic(" + b"+".join(map(formulas.printed, terms)) + b")")
+        a_formula("terms", formulas.printed(atomic(jobs.flat(addt, terms))))
+    cases.section("formulas: numbers and registers near the ends of their ranges")
+    for _ in range(80):
+        a_formula("limit", limit_text())
 
 
 def a_job(data, size=None):
@@ -1366,6 +1500,11 @@ def check():
         assert seen["counts"][kind] >= 5, (kind, seen["counts"])
     for name, least in (("runs", 500), ("commits", 1000), ("sent back", 150), ("sent back, the value the same", 30)):
         assert seen["tally"][name] >= least, (name, seen["tally"])
+    assert kinds["formula"] >= 500 and set(seen["formula"]) == {0, 4, 7, 8, 10, 14, 15} and min(seen["formula"].values()) >= 3, seen["formula"]
+    for kind, numbers in (("tree", (0,)), ("short", (10,)), ("mistyped", (0, 15)), ("open", (0, 15)), ("terms", (0, 7)), ("limit", (0, 15))):
+        assert all(seen[kind + " formula"][number] >= 5 for number in numbers), (kind, seen[kind + " formula"])
+    for name in ("the end", *"():=afr9"):
+        assert seen["places of 15"][name] >= 1, (name, seen["places of 15"])
     for name in ("short", "longer", "steps", "idle", "commits", "back", "over", "thread open", "thread negative", "thread least", "thread of two digits",
                  "register negative", "register least", "register of two digits", *("refused %d" % n for n in (1, 2, 3, 4, 5, 6, 7, 8, 9, 13, 14))):
         assert seen["report"][name] >= 1, (name, seen["report"])
@@ -1373,12 +1512,15 @@ def check():
 
 def main(seed=SEED, folder=HERE):
     rng.seed(int(seed))
-    for stated in (jobs, machine):
+    for stated in (jobs, machine, formulas):
         stated.make()
         cases.lines += stated.cases.lines + [""]
         cases.answers += stated.cases.answers
     cases.lines.append("# Random cases of every call.")
-    for part in (the_jobs, the_damaged_jobs, the_codes, the_damaged_codes, the_states, the_calls, the_inputs, the_large, the_forecasts, the_overs, the_long, the_rules, the_counts, the_tally):
+    for part in (
+        the_jobs, the_damaged_jobs, the_codes, the_damaged_codes, the_states, the_calls, the_inputs, the_large, the_forecasts, the_overs, the_long, the_rules,
+        the_counts, the_tally, the_formulas,
+    ):
         part()
     check()
     cases.save(folder, ROOM)

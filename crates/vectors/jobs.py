@@ -395,7 +395,7 @@ class Cases:
         self.lines.append("# " + title)
 
     def line(self, label, text, answer):
-        assert label and label[0] != "#" and ":" not in label and label not in self.labels, label
+        assert label and label[0] != "#" and not set(":\n") & set(label) and label not in self.labels, label
         self.labels.add(label)
         self.lines.append(label + ":" + (" " + text if text else ""))
         self.answers.append(label + ": " + answer)
@@ -427,6 +427,20 @@ def to_bytes(data):
 def to_text(data):
     """Bytes as hex. Long ones have no spaces."""
     return data.hex(" ").upper() if len(data) < 100 else data.hex()
+
+
+def words(picks):
+    """A list of picks as text, such as ' 0*3 1'."""
+    out, at = "", 0
+    while at < len(picks):
+        times = 1
+        while at + times < len(picks) and picks[at + times] == picks[at]:
+            times += 1
+        while times:
+            n = min(times, 40000)
+            out += " %d" % picks[at] + ("*%d" % n if n > 1 else "")
+            times, at = times - n, at + n
+    return out
 
 
 def case(label, data, answer):
@@ -1062,7 +1076,7 @@ def the_text():
 
 
 def make():
-    lines.append("# Cases of document 01's job reader, compiler and way back, written by cases.py.")
+    lines.append("# Cases of every call of documents 01 and 02, written by cases.py.")
     for part in (
         accepted_jobs,
         the_head,

@@ -9,4 +9,5 @@ pub mod LongTransactions
 pub mod Rules
 pub mod Staleness
 pub mod Refusals
+pub mod Formulas
 pub mod Calls

@@ -6,6 +6,7 @@ ghost use Rattle.compiler.specs.CompileTo.{compileTo};
 ghost use Rattle.decompiler.specs.ReadBackTo.{readBackTo};
 ghost use Rattle.delivery.specs.Delivered.{delivered};
 ghost use Rattle.forecast.specs.Figures.{forecastOf};
+ghost use Rattle.formula.specs.FormulaTo.{formulaTo};
 ghost use Rattle.listing.specs.Listed.{listed};
 ghost use Rattle.script.specs.Outcome.{done};
 ghost use Rattle.script.specs.Reader.{readJob};
@@ -36,6 +37,14 @@ fn numbers(answer: Answer) -> Written
             length: 0,
         },
     }
+}
+
+// `formula::formula`.
+#[no_mangle]
+pub extern "C" fn kuspigo_formula(text: &[u8], out: &mut [u8]) -> Written
+    ensures { λ r. ⌜ written (formulaTo (now (text .entry)) (now (out .entry))) ≡ record { reply = r; output = now (out .exit) } ⌝ }
+{
+    numbers(formula::formula(text, out))
 }
 
 // `compiler::compile`.
@@ -72,8 +81,8 @@ pub extern "C" fn kuspigo_report(input: &[u8], out: &mut [u8]) -> Written
 
 // The version of the C interface. Its name holds the number, so that a header or wrapper of another version does not link.
 #[no_mangle]
-pub extern "C" fn kuspigo_api_2() -> usize
-    ensures { λ r. ⌜ r ≡ 2 ⌝ }
+pub extern "C" fn kuspigo_api_3() -> usize
+    ensures { λ r. ⌜ r ≡ 3 ⌝ }
 {
-    2
+    3
 }

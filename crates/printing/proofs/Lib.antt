@@ -4,3 +4,4 @@ pub mod Printed
 pub mod Spelling
 pub mod Lines
 pub mod Prints
+pub mod Outputs

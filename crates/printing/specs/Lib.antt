@@ -1,2 +1,3 @@
--- What a listing tells.
+-- What a listing tells, and that no call alters its output behind its result.
 pub mod Printing
+pub mod Outputs

@@ -45,10 +45,10 @@ pub fn buffer() -> [u8; 70000]
 }
 
 // Room for a program's input.
-pub fn input() -> [u8; 1000001]
-    ensures { λ r. ⌜ (r ≡ zeros 1000001) × (1000001 ≡ length r) ⌝ }
+pub fn input() -> [u8; 1350001]
+    ensures { λ r. ⌜ (r ≡ zeros 1350001) × (1350001 ≡ length r) ⌝ }
 {
-    [0; 1000001]
+    [0; 1350001]
 }
 
 // ---- parts of a text

@@ -1,17 +1,18 @@
 // Runs the lines of standard input, and writes a line for each.
 //
-// An input above 1,000,000 bytes is not run. Empty lines and lines that start with '#' are skipped. A case is a line `COMMAND label: BODY`; its label is written, and what the case comes
-// to. A line that is no case is `malformed`. These commands take bytes:
+// An input above 1,350,000 bytes is not run. Empty lines and lines that start with '#' are skipped. A case is a line `COMMAND label: BODY`; its label is
+// written, and what the case comes to. A line that is no case is `malformed`. These commands take bytes:
 //
 //     job label: BYTES          reads a job
 //     forecast label: BYTES     the forecast of a job: its figures, the sets of registers as numbers, the 16 heights
 //     compile N label: BYTES    compiles a job into an output of N bytes
 //     back N label: BYTES       reads code back into an output of N bytes
+//     formula N label: BYTES    puts the job of a script, the bytes being its text, into an output of N bytes
 //     report N label: BYTES     puts what the run program prints for an input into an output of N bytes
 //
 // BYTES are in hex, spaces between them being ignored; behind a ';' more of them may stand in decimal, as PICKS do. An output is full of AA
-// beforehand, and N is at most 6,000; of a result of more than 64 bytes its length and a sum of 16 bits are written. `kept` or `altered` tells whether what lies behind the result, or on a refusal the whole, still is. Of what is printed, ' /' is
-// an end of line.
+// beforehand, and N is at most 6,000; of a result of more than 64 bytes its length and a sum of 16 bits are written. `kept` or `altered` tells whether what
+// lies behind the result, or on a refusal the whole, still is. Of what is printed, ' /' is an end of line.
 //
 // These run calls on a state:
 //
@@ -45,11 +46,11 @@ fn command(line: &[u8]) -> u64 {
 // Runs a case. What is run is chosen here.
 fn run_case(what: u64, label: &[u8], body: &[u8]) {
     match what {
-        10722 | 3738707333 | 66667 | 609762900 | 222873880180 => outputs::run_case(
+        10722 | 3738707333 | 66667 | 6965089665 | 609762900 | 222873880180 => outputs::run_case(
             what,
             label,
             body,
-        ), // job, compile, back, report, forecast
+        ), // job, compile, back, formula, report, forecast
         6887016 | 643248 | 19118 | 3764 | 3191187 => states::run_case(what, body), // fresh, step, run, cut, calls
         _ => text::write_malformed(),
     }
@@ -82,8 +83,8 @@ fn run_lines(lines: &[u8]) {
 fn main() {
     let mut space = text::input();
     let length = io::read_full(0, &mut space);
-    if length > 1000000 {
-        text::write(b"input longer than 1000000 bytes\n");
+    if length > 1350000 {
+        text::write(b"input longer than 1350000 bytes\n");
         return;
     }
     run_lines(&space[..length]);

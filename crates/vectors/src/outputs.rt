@@ -69,7 +69,7 @@ fn write_bytes(word: &[u8], bytes: &[u8]) {
 fn write_result(what: u64, result: &[u8]) {
     match what {
         3738707333 => write_bytes(b"code ", result), // compile
-        66667 => write_bytes(b"job ", result), // back
+        66667 | 6965089665 => write_bytes(b"job ", result), // back, formula
         _ => write_printed(result), // report
     }
 }
@@ -144,6 +144,7 @@ fn call(what: u64, bytes: &[u8], out: &mut [u8]) -> Answer {
     match what {
         3738707333 => compiler::compile(bytes, out), // compile
         66667 => compiler::read_back(bytes, out), // back
+        6965089665 => formula::formula(bytes, out), // formula
         _ => listing::report(bytes, out), // report
     }
 }
