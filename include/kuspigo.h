@@ -21,7 +21,7 @@ extern "C" {
 
 /* The version of this interface. A change of a record, an answer or a function that a program built before does not know
  * of gives it another number. */
-#define KUSPIGO_API 2
+#define KUSPIGO_API 3
 
 /* The library's own version. The function's name holds the number, kuspigo_api_ with KUSPIGO_API behind it, and every
  * file that includes this header refers to it: with the archive of another version the program does not link. (A
@@ -44,7 +44,7 @@ size_t kuspigo_api(void);
 KUSPIGO_KEPT static size_t (*const kuspigo_linked)(void) = kuspigo_api;
 
 /* Every refusal: its name, its number, the trade's word and a sentence. The place is a byte offset in the job for 1 to 9
- * and 14, else 0. */
+ * and 14, in the text for 15, else 0. */
 #define KUSPIGO_REFUSALS(ROW)                                                                               \
     ROW(KUSPIGO_REFUSED_CUT, 1, "cut", "The bytes end too early.")                                          \
     ROW(KUSPIGO_REFUSED_MARK, 2, "mark", "The job does not begin with its mark.")                           \
@@ -59,7 +59,8 @@ KUSPIGO_KEPT static size_t (*const kuspigo_linked)(void) = kuspigo_api;
     ROW(KUSPIGO_REFUSED_FOREIGN_CODE, 11, "foreign code", "No accepted job compiles to this code.")         \
     ROW(KUSPIGO_REFUSED_FOREIGN_STATE, 12, "foreign state", "The state does not fit the code.")             \
     ROW(KUSPIGO_REFUSED_LONG_LIST, 13, "long list", "There are more than 32,768 picks.")                    \
-    ROW(KUSPIGO_REFUSED_LONG_TRANSACTION, 14, "long transaction", "The transaction has more than 200 nodes.")
+    ROW(KUSPIGO_REFUSED_LONG_TRANSACTION, 14, "long transaction", "The transaction has more than 200 nodes.") \
+    ROW(KUSPIGO_REFUSED_NOT_A_SCRIPT, 15, "not a script", "No script goes on so from here.")
 
 #define KUSPIGO_NAMED_(name, number, word, sentence) , name = number
 enum kuspigo_refusal { KUSPIGO_TAKEN = 0 KUSPIGO_REFUSALS(KUSPIGO_NAMED_) };
@@ -106,18 +107,21 @@ static inline const char *kuspigo_refusal_sentence(size_t refusal) {
 #define KUSPIGO_LONGEST_CODE 3007
 #define KUSPIGO_LONGEST_JOB 3007
 #define KUSPIGO_LONGEST_LISTING 4449
+/* No text of a script is longer. */
+#define KUSPIGO_LONGEST_TEXT 32768
 /* A call takes no more picks. */
 #define KUSPIGO_MOST_PICKS 32768
 
 /* Bytes of stack that a call takes at most, as measured on x86-64, with the return address and the arguments that lie
- * there. Compiling and the report take most at depth 64; for one node compiling takes 352. */
+ * there. A formula takes most with 64 open, compiling and the report at depth 64; for one node compiling takes 352. */
+#define KUSPIGO_STACK_FORMULA 28096
 #define KUSPIGO_STACK_FORECAST 784
 #define KUSPIGO_STACK_COMPILE 15472
-#define KUSPIGO_STACK_READ_BACK 1088
-#define KUSPIGO_STACK_REPORT 83744
+#define KUSPIGO_STACK_READ_BACK 1120
+#define KUSPIGO_STACK_REPORT 83680
 #define KUSPIGO_STACK_FRESH 416
-#define KUSPIGO_STACK_STEP 5912
-#define KUSPIGO_STACK_RUN 5928
+#define KUSPIGO_STACK_STEP 4920
+#define KUSPIGO_STACK_RUN 4936
 
 /* A thread's record. Places count from the code's first byte, so 0 is no place. A record of no thread is 0 throughout. */
 typedef struct kuspigo_thread {
@@ -214,6 +218,11 @@ KUSPIGO_SIZE_(kuspigo_step_reply, 48);
 KUSPIGO_SIZE_(kuspigo_run_reply, 56);
 KUSPIGO_SIZE_(kuspigo_forecast_reply, 96);
 #undef KUSPIGO_SIZE_
+
+/* The version 1 job of a script that is typed as a formula, such as `fork atomic(r0 := r0 + 1)`, at the front of out.
+ * Refusal 15, its place an offset in the text, which is its length if it ends too early; then 4, 7, 8 and 14, their places
+ * offsets in the job that it would make; then 10. A text above KUSPIGO_LONGEST_TEXT bytes is 15 at that offset. */
+kuspigo_written kuspigo_formula(const uint8_t *text, size_t text_count, uint8_t *out, size_t out_count);
 
 /* The job's stack code, at the front of out. Refusals 1 to 9, then 14, then 10. */
 kuspigo_written kuspigo_compile(const uint8_t *job, size_t job_count, uint8_t *out, size_t out_count);

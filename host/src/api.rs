@@ -3,6 +3,6 @@
 /// The number. The library exports `kuspigo_api_` with its own number behind it; an archive of another version does not link.
 macro_rules! api {
     () => {
-        2
+        3
     };
 }

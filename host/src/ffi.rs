@@ -43,14 +43,14 @@ pub struct Thread {
     pub backs: usize,
 }
 
-/// The answer of compile, read back and report. `refusal` 0: none, and the first `length` bytes of the output are
-/// written. On a refusal `length` is 0.
+/// The answer of formula, compile, read back and report. `refusal` 0: none, and the first `length` bytes of the output
+/// are written. On a refusal `length` is 0.
 #[repr(C)]
 #[derive(Clone, Copy, PartialEq, Eq, Debug)]
 pub struct Written {
     /// 0 if the call was taken, else a [`Reason`](crate::Reason) by its number.
     pub refusal: usize,
-    /// A byte offset in the job, or 0.
+    /// A byte offset, in the text for 15 and in the job else, or 0.
     pub place: usize,
     /// So many bytes of the output are written.
     pub length: usize,
@@ -143,6 +143,8 @@ extern "C" {
     /// The version of the C interface. Its name holds the number, so that an archive of another version does not link.
     #[link_name = concat!("kuspigo_api_", api!())]
     pub fn kuspigo_api() -> usize;
+    /// The version 1 job of a script that is typed as a formula, at the front of `out`.
+    pub fn kuspigo_formula(text: *const u8, text_count: usize, out: *mut u8, out_count: usize) -> Written;
     /// The job's stack code, at the front of `out`.
     pub fn kuspigo_compile(job: *const u8, job_count: usize, out: *mut u8, out_count: usize) -> Written;
     /// The job that compiles to the code, at the front of `out`.

@@ -40,8 +40,32 @@ pub const LONGEST_CODE: usize = 3_007;
 pub const LONGEST_JOB: usize = 3_007;
 /// No listing is longer, as is proved of the library.
 pub const LONGEST_LISTING: usize = 4_449;
+/// No text of a script is longer.
+pub const LONGEST_TEXT: usize = 32_768;
 /// A run call takes no more picks.
 pub const MOST_PICKS: usize = 32_768;
+
+/// The version 1 job of a script that is typed as a formula.
+///
+/// ```
+/// let job = kuspigo::formula(b"fork atomic(r0 := r0 + 1)")?;
+/// assert_eq!(job, [0x57, 0x53, 0x4A, 0, 1, 0, 6, 4, 3, 8, 0, 6, 7, 0, 5, 0, 0, 0, 1]);
+///
+/// // no script goes on so from the second `+`
+/// let refusal = kuspigo::formula(b"1 + + 2").unwrap_err();
+/// assert_eq!((refusal.reason, refusal.place), (kuspigo::Reason::NotAScript, 4));
+/// # Ok::<(), kuspigo::Refusal>(())
+/// ```
+///
+/// [`Reason::NotAScript`] comes before the job's refusals, whose places are in the job that it would make.
+pub fn formula(text: &[u8]) -> Result<Vec<u8>, Refusal> {
+    into_vec(LONGEST_JOB, |out| formula_into(text, out))
+}
+
+/// Writes the version 1 job of a formula to the front of `out` and gives its length. Nothing behind it is altered.
+pub fn formula_into(text: &[u8], out: &mut [u8]) -> Result<usize, Refusal> {
+    written(raw::formula(text, out))
+}
 
 /// The job's stack code.
 pub fn compile(job: &[u8]) -> Result<Vec<u8>, Refusal> {

@@ -1,8 +1,14 @@
-//! The library's seven functions on slices of any length, with their answers as they come.
+//! The library's eight functions on slices of any length, with their answers as they come.
 //!
 //! A Rust slice's pointer is never null, also if the slice is empty.
 
 use crate::ffi::{self, ForecastReply, FreshReply, RunReply, StepReply, Thread, Written};
+
+/// The version 1 job of a script that is typed as a formula, at the front of `out`.
+pub fn formula(text: &[u8], out: &mut [u8]) -> Written {
+    // SAFETY: both pointers come from slices of the counts beside them, `out` being lent to this call alone.
+    unsafe { ffi::kuspigo_formula(text.as_ptr(), text.len(), out.as_mut_ptr(), out.len()) }
+}
 
 /// The job's stack code, at the front of `out`.
 pub fn compile(job: &[u8], out: &mut [u8]) -> Written {

@@ -7,7 +7,8 @@ use std::fmt;
 pub struct Refusal {
     /// Why.
     pub reason: Reason,
-    /// A byte offset in the job for a reason of which [`Reason::has_place`] is true, else 0.
+    /// A byte offset, in the text for [`Reason::NotAScript`] and in the job for each other reason of which
+    /// [`Reason::has_place`] is true, else 0.
     pub place: usize,
 }
 
@@ -43,10 +44,12 @@ pub enum Reason {
     LongList = 13,
     /// A transaction has more than 200 nodes, ATOMIC not counted.
     LongTransaction = 14,
+    /// The text is no script: none goes on so from this offset.
+    NotAScript = 15,
 }
 
 /// Each reason with the trade's word and a sentence, in the order of their numbers, from 1 on.
-const TABLE: [(Reason, &str, &str); 14] = [
+const TABLE: [(Reason, &str, &str); 15] = [
     (Reason::Cut, "cut", "The bytes end too early."),
     (Reason::Mark, "mark", "The job does not begin with its mark."),
     (Reason::Version, "version", "The job's version is not 1."),
@@ -61,6 +64,7 @@ const TABLE: [(Reason, &str, &str); 14] = [
     (Reason::ForeignState, "foreign state", "The state does not fit the code."),
     (Reason::LongList, "long list", "There are more than 32,768 picks."),
     (Reason::LongTransaction, "long transaction", "The transaction has more than 200 nodes."),
+    (Reason::NotAScript, "not a script", "No script goes on so from here."),
 ];
 
 impl Reason {
@@ -90,7 +94,7 @@ impl Reason {
         self.row().2
     }
 
-    /// Whether its place is a byte offset in the job. The place of the others is 0.
+    /// Whether its place is a byte offset, in the job or the text. The place of the others is 0.
     pub fn has_place(self) -> bool {
         !matches!(self, Reason::ShortTray | Reason::ForeignCode | Reason::ForeignState | Reason::LongList)
     }

@@ -1,6 +1,7 @@
 //! The library beside the plain implementation, on random cases of each call: answers and all memory must be equal. And
 //! its forecasts beside its own code and finished runs, its last rules and send-backs beside what its steps tell, its
-//! registers' counts beside the write logs of its commits.
+//! registers' counts beside the write logs of its commits, and what it says of a formula beside what it says of its
+//! beginnings.
 //!
 //! KUSPIGO_SEED and KUSPIGO_CASES (for each call) choose the cases. An argument runs only the calls whose name has it.
 
@@ -12,6 +13,9 @@ use std::collections::BTreeMap;
 use std::fmt::{Debug, Write};
 use std::time::Instant;
 use tree::{Process, Transaction};
+
+#[path = "compare/texts.rs"]
+mod texts;
 
 const SEED: u64 = 1;
 const CASES: u64 = 20_000;
@@ -78,7 +82,7 @@ struct Call {
     reaches: &'static [&'static [&'static str]],
 }
 
-const CALLS: [Call; 11] = [
+const CALLS: [Call; 13] = [
     Call {
         name: "compile",
         case: compile,
@@ -284,6 +288,8 @@ const CALLS: [Call; 11] = [
             "sent back: register 63",
         ]],
     },
+    Call { name: "formula", case: texts::formula, reaches: &[&texts::REACHES] },
+    Call { name: "begun", case: texts::begun, reaches: &[&texts::BEGUN] },
 ];
 
 /// How often each thing came.

@@ -247,6 +247,13 @@ fn the_answers_tell_refusals() {
     let refused = Written { refusal: 2, place: 0, length: 0 };
     job[0] = 0;
     assert_eq!(raw::compile(&job[..length], &mut out), refused);
+
+    let mut out = [0xAA; 14];
+    assert_eq!(raw::formula(b" 7 ", &mut out), Written { refusal: 0, place: 0, length: 12 });
+    assert_eq!(out, *b"WSJ\x00\x01\x00\x01\x01\x00\x00\x00\x07\xAA\xAA");
+    assert_eq!(raw::formula(b" 8 ", &mut out[..11]), Written { refusal: 10, place: 0, length: 0 });
+    assert_eq!(raw::formula(b" 8 8", &mut out), Written { refusal: 15, place: 3, length: 0 });
+    assert_eq!(out, *b"WSJ\x00\x01\x00\x01\x01\x00\x00\x00\x07\xAA\xAA");
 }
 
 #[test]
@@ -255,6 +262,8 @@ fn empty_slices_are_taken() {
     assert_eq!(raw::compile(&[], &mut []), refused);
     assert_eq!(raw::read_back(&[], &mut []), Written { refusal: 11, ..refused });
     assert_eq!(raw::report(&[], &mut []), Written { refusal: 10, ..refused });
+    assert_eq!(raw::formula(&[], &mut []), Written { refusal: 15, ..refused });
+    assert_eq!(raw::formula(b"1", &mut []), Written { refusal: 10, ..refused });
     assert_eq!(raw::fresh(&[], &mut [], &mut [], &mut []), FreshReply { refusal: 11, place: 0 });
     assert_eq!(raw::fresh(&CODE, &mut [], &mut [], &mut []), FreshReply { refusal: 12, place: 0 });
     assert_eq!(raw::step(&CODE, &mut [], &mut [], &mut [], 0).refusal, 12);

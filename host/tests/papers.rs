@@ -1,8 +1,9 @@
-//! The cases of documents 01 and 02, and forecasts, sums, the nodes of long transactions, send-backs and the registers'
-//! counts worked out by hand, of the library through its wrapper and of the plain implementation.
+//! The cases of documents 01 and 02, and forecasts, sums, the nodes of long transactions, send-backs, the registers'
+//! counts and formulas worked out by hand, of the library through its wrapper and of the plain implementation.
 
 use kuspigo::{Counts, Event, Forecast, Reason, Refusal, Rule, State, Step, Thread};
-use plain::samples::{chain, Lean, Rng, Shape};
+use plain::samples::{self, chain, Lean, Rng, Shape};
+use plain::texts::{ones, PLAIN};
 use plain::tree;
 use tree::{Process, Transaction};
 
@@ -942,6 +943,330 @@ fn forecasts_that_are_refused() {
     assert_eq!(forecast(&[atomic(long()).job(), vec![0]].concat()), refused(9, 310));
 }
 
+/// The job of a formula, both implementations agreeing, also on outputs that are too short, and nothing else altered.
+fn read(text: impl AsRef<[u8]>) -> Result<Vec<u8>, Refusal> {
+    let text = text.as_ref();
+    let job = kuspigo::formula(text);
+    let length = job.as_ref().map_or(20, Vec::len);
+    for lent in [0, 1, 7, length - 1, length, length + 1, length + 100] {
+        let expected = match &job {
+            Ok(_) if lent < length => refused(10, 0),
+            Ok(_) => Ok(length),
+            Err(refusal) => Err(*refusal),
+        };
+        for call in [kuspigo::formula_into, plain::formula] {
+            let mut out = vec![0xAA; lent];
+            assert_eq!(call(text, &mut out), expected, "{}", text.escape_ascii());
+            let done = expected.unwrap_or(0);
+            assert!(job.as_ref().map_or(&[][..], |job| &job[..done]) == &out[..done], "{}", text.escape_ascii());
+            assert!(out[done..].iter().all(|&byte| byte == 0xAA), "{}", text.escape_ascii());
+        }
+    }
+    job
+}
+
+/// Nodes behind mark, version and count.
+fn job_of(count: u8, nodes: &[&[u8]]) -> Result<Vec<u8>, Refusal> {
+    Ok([&b"WSJ\x00\x01\x00"[..], &[count], &nodes.concat()].concat())
+}
+
+#[test]
+fn formulas() {
+    let val = |n: u8| [1, 0, 0, 0, n];
+    assert_eq!(read("7"), job_of(1, &[&val(7)]));
+    assert_eq!(read("fork atomic(r0 := r0 + 1) + fork atomic(r0 := r0 + 1)"), Ok(whole_case()));
+    // `+` groups to the left
+    assert_eq!(read("1 + 2 + 3"), job_of(5, &[&[2, 2], &val(1), &val(2), &val(3)]));
+    assert_eq!(read("(1 + 2) + 3"), read("1 + 2 + 3"));
+    assert_eq!(read("1 + (2 + 3)"), job_of(5, &[&[2], &val(1), &[2], &val(2), &val(3)]));
+    assert_eq!(
+        read("(1 + 2) + (3 + 4) + 5"),
+        job_of(9, &[&[2, 2, 2], &val(1), &val(2), &[2], &val(3), &val(4), &val(5)])
+    );
+    // a fork has one term
+    assert_eq!(read("fork 1 + 2"), job_of(4, &[&[2, 4], &val(1), &val(2)]));
+    assert_eq!(read("fork (1 + 2)"), job_of(4, &[&[4, 2], &val(1), &val(2)]));
+    assert_eq!(read("forkfork1"), job_of(3, &[&[4, 4], &val(1)]));
+    assert_eq!(read("1+fork(2)"), job_of(4, &[&[2], &val(1), &[4], &val(2)]));
+    // a write has all that follows it
+    assert_eq!(read("atomic(r5)"), job_of(2, &[&[3, 7, 5]]));
+    assert_eq!(read("atomic(((r5)))"), job_of(2, &[&[3, 7, 5]]));
+    assert_eq!(read("atomic(r5 := 1 + r6)"), job_of(5, &[&[3, 8, 5, 6], &[5, 0, 0, 0, 1], &[7, 6]]));
+    assert_eq!(read("atomic((r5 := 1) + r6)"), job_of(5, &[&[3, 6, 8, 5], &[5, 0, 0, 0, 1], &[7, 6]]));
+    assert_eq!(read("atomic(r5 := r6 := r7)"), job_of(4, &[&[3, 8, 5, 8, 6, 7, 7]]));
+    assert_eq!(read("atomic(r5 := (r6 := r7))"), read("atomic(r5 := r6 := r7)"));
+    assert_eq!(read("atomic(r1 + r2 + r3)"), job_of(6, &[&[3, 6, 6, 7, 1, 7, 2, 7, 3]]));
+    assert_eq!(read("atomic(r1 + (r2 := 9))"), job_of(5, &[&[3, 6, 7, 1, 8, 2, 5, 0, 0, 0, 9]]));
+    // blanks, and none
+    assert_eq!(read(" \n\r1\r\n + \r2 "), read("1+2"));
+    assert_eq!(read("\nfork\natomic\n(\nr0\n:=\nr0\n+\n1\n)\n"), read("fork atomic(r0:=r0+1)"));
+    assert_eq!(read("forkatomic(r0:=r0+1)"), job_of(6, &[&[4, 3, 8, 0, 6, 7, 0], &[5, 0, 0, 0, 1]]));
+}
+
+#[test]
+fn numbers_and_registers_of_formulas() {
+    let val = |n: i32| job_of(1, &[&[1], &n.to_be_bytes()]);
+    for (text, n) in [
+        ("0", 0),
+        ("-0", 0),
+        ("-000", 0),
+        ("007", 7),
+        ("-0012", -12),
+        ("2147483647", i32::MAX),
+        ("-2147483648", i32::MIN),
+        ("00000000002147483647", i32::MAX),
+        ("-00000000002147483648", i32::MIN),
+    ] {
+        assert_eq!(read(text), val(n), "{text}");
+    }
+    for (text, place) in [
+        ("2147483648", 9),
+        ("-2147483649", 10),
+        ("21474836470", 10),
+        ("0002147483648", 12),
+        ("-0002147483649", 13),
+        ("4294967296", 9),
+        ("3000000000", 9),
+        ("9999999999999999999999", 9),
+        ("1 + 2147483648", 13),
+        ("atomic(2147483648)", 16),
+    ] {
+        assert_eq!(read(text), refused(15, place), "{text}");
+    }
+    for (text, register) in [("r0", 0), ("r63", 63), ("r063", 63), ("r00000063", 63), ("r9", 9)] {
+        assert_eq!(read(format!("atomic({text})")), job_of(2, &[&[3, 7, register]]), "{text}");
+        let write = job_of(3, &[&[3, 8, register], &[5, 255, 255, 255, 255]]);
+        assert_eq!(read(format!("atomic({text}:=-1)")), write, "{text}");
+    }
+    for (text, place) in [
+        ("atomic(r64)", 9),
+        ("atomic(r64 := 1)", 9),
+        ("atomic(r70)", 9),
+        ("atomic(r630)", 10),
+        ("atomic(r0064)", 11),
+        ("atomic(1 + r64)", 13),
+        ("atomic(r1 := r64)", 15),
+    ] {
+        assert_eq!(read(text), refused(15, place), "{text}");
+    }
+}
+
+#[test]
+fn what_is_no_formula() {
+    for (text, place) in [
+        // what begins no term
+        ("", 0),
+        (" ", 1),
+        ("\n\r ", 3),
+        ("\t", 0),
+        ("+", 0),
+        ("+1", 0),
+        (")", 0),
+        ("()", 1),
+        ("( )", 2),
+        (":=", 0),
+        ("x", 0),
+        ("\0", 0),
+        ("r5", 0),
+        ("(r5 := 1)", 1),
+        ("1 + r1", 4),
+        ("1 + + 2", 4),
+        ("1 + ", 4),
+        ("1 +", 3),
+        // what follows none
+        ("1\t", 1),
+        ("1 \t+ 2", 2),
+        ("12 3", 3),
+        ("1 2", 2),
+        ("1(2)", 1),
+        ("1fork 2", 1),
+        ("1-1", 1),
+        ("1.5", 1),
+        ("1)", 1),
+        ("(1", 2),
+        ("(1))", 3),
+        ("(1 + 2", 6),
+        // numbers
+        ("-", 1),
+        ("- 1", 1),
+        ("--1", 1),
+        ("-(1)", 1),
+        ("1 0", 2),
+        // words
+        ("f", 1),
+        ("fork", 4),
+        ("fork ", 5),
+        ("f ork 1", 1),
+        ("for k 1", 3),
+        ("forks 1", 4),
+        ("Fork 1", 0),
+        ("fOrk 1", 1),
+        ("fork + 1", 5),
+        ("fork)", 4),
+        ("fork r1", 5),
+        ("atomic", 6),
+        ("atom", 4),
+        ("at omic(1)", 2),
+        ("atomic 1", 7),
+        ("atomic fork 1", 7),
+        ("atomi(1)", 5),
+        // transactions
+        ("atomic(", 7),
+        ("atomic()", 7),
+        ("atomic(1", 8),
+        ("atomic((1)", 10),
+        ("atomic(1))", 9),
+        ("atomic(fork 1)", 7),
+        ("atomic(atomic(1))", 7),
+        ("atomic(1 2)", 9),
+        ("atomic(r)", 8),
+        ("atomic(r 5)", 8),
+        ("atomic(r5 5)", 10),
+        ("atomic(r-1)", 8),
+        ("atomic(R5)", 7),
+        // writes
+        ("atomic(r5: =1)", 10),
+        ("atomic(r5 : = 1)", 11),
+        ("atomic(r5 = 1)", 10),
+        ("atomic(r5 :)", 11),
+        ("atomic(r5 :=)", 12),
+        ("atomic(r5 :=", 12),
+        ("atomic(r5 :", 11),
+        ("atomic(r5 := := 1)", 13),
+        ("atomic(:= 1)", 7),
+        ("atomic(1 := 2)", 9),
+        ("atomic(1 + r1 := 2)", 14),
+        ("atomic((r1) := 2)", 12),
+        ("atomic(r1 + r2 := 3)", 15),
+        ("atomic(r1 := 2 + r2 := 3)", 20),
+        ("atomic(r1 := 2) := 3", 16),
+    ] {
+        assert_eq!(read(text), refused(15, place), "{text:?}");
+    }
+    assert_eq!(read(b"1 + \xC2\xA02"), refused(15, 4));
+    // all bytes that may stand first
+    let first: Vec<u8> = (0..=255).filter(|&byte| read([byte]) != refused(15, 0)).collect();
+    assert_eq!(first, b"\n\r (-0123456789af");
+}
+
+/// So many of one, then the middle, then so many of the other.
+fn around(count: usize, before: &str, middle: &str, behind: &str) -> String {
+    [&before.repeat(count), middle, &behind.repeat(count)].concat()
+}
+
+#[test]
+fn how_many_may_be_open() {
+    let one = read("1");
+    let one_inside = read("atomic(1)");
+    // brackets
+    assert_eq!(read(around(64, "(", "1", ")")), one);
+    assert_eq!(read(around(65, "(", "1", ")")), refused(15, 64));
+    assert_eq!(read("(".repeat(64)), refused(15, 64));
+    assert_eq!(read("(".repeat(32_768)), refused(15, 64));
+    assert_eq!(read(format!("atomic({})", around(62, "(", "1", ")"))), one_inside);
+    assert_eq!(read(format!("atomic({})", around(63, "(", "1", ")"))), refused(15, 69));
+    // forks, of which a job has fifteen
+    assert_eq!(read(around(64, "fork", "1", "")), refused(8, 22));
+    assert_eq!(read(around(65, "fork", "1", "")), refused(15, 256));
+    assert_eq!(read(around(64, "fork", "(1)", "")), refused(15, 256));
+    assert_eq!(read(around(63, "fork ", "(1)", "")), refused(8, 22));
+    assert_eq!(read(around(49, "(", &around(15, "fork", "1", ""), ")")), job_of(16, &[&[4; 15], &[1, 0, 0, 0, 1]]));
+    assert_eq!(read(around(50, "(", &around(15, "fork", "1", ""), ")")), refused(15, 50 + 14 * 4));
+    // an atomic and its bracket are two
+    assert_eq!(read(around(62, "(", "atomic(1)", ")")), one_inside);
+    assert_eq!(read(around(63, "(", "atomic(1)", ")")), refused(15, 63));
+    assert_eq!(read(around(64, "(", "atomic(1)", ")")), refused(15, 64));
+    assert_eq!(read(around(63, "fork", "atomic(1)", "")), refused(15, 252));
+    // writes; a register alone opens nothing
+    assert_eq!(read(format!("atomic({})", around(62, "r1:=", "1", ""))).unwrap().len(), 7 + 1 + 62 * 2 + 5);
+    assert_eq!(read(format!("atomic({})", around(63, "r1:=", "1", ""))), refused(15, 7 + 62 * 4 + 2));
+    assert_eq!(read(format!("atomic({})", around(62, "r1:=", "r1", ""))).unwrap().len(), 7 + 1 + 63 * 2);
+    assert_eq!(read(format!("atomic({})", around(62, "r1:=", "(1)", ""))), refused(15, 7 + 62 * 4));
+    assert_eq!(read(around(61, "(", "atomic(r1 :=2)", ")")), job_of(3, &[&[3, 8, 1], &[5, 0, 0, 0, 2]]));
+    assert_eq!(read(around(62, "(", "atomic(r1 :=2)", ")")), refused(15, 72));
+    assert_eq!(read(around(62, "(", "atomic(r1 )", ")")), job_of(2, &[&[3, 7, 1]]));
+    // of each kind some
+    let mixed = |inner: &str| around(10, "(fork", &format!("atomic({})", around(21, "(r1:=", inner, ")")), ")");
+    assert_eq!(read(mixed("1")).unwrap().len(), 7 + 10 + 1 + 21 * 2 + 5);
+    assert_eq!(read(mixed("(1)")), refused(15, 10 * 5 + 7 + 21 * 5));
+    assert_eq!(read(mixed("r2:=1")), refused(15, 10 * 5 + 7 + 21 * 5 + 2));
+    // each is shut again
+    assert_eq!(read(vec!["(1)"; 64].join("+")), read(ones(64)));
+    assert_eq!(read(around(63, "(", "fork 1 + (2)", ")")), read("fork 1 + 2"));
+    assert_eq!(read(around(63, "(", "fork (1)", ")")), refused(15, 68));
+    assert_eq!(read(around(62, "(", "atomic(1) + fork(2) + atomic(3)", ")")), read("atomic(1) + fork 2 + atomic(3)"));
+    assert_eq!(read(around(60, "(", "atomic((r1 := 2) + (r3 := r4))", ")")), read("atomic((r1 := 2) + (r3 := r4))"));
+    assert_eq!(read(around(61, "(", "atomic((r1 := 2) + (r3 := r4))", ")")), refused(15, 61 + 7 + 4));
+}
+
+#[test]
+fn how_long_a_formula_may_be() {
+    let spaced = |blanks: usize| [vec![b' '; blanks], b"1".to_vec()].concat();
+    assert_eq!(read(spaced(32_767)), read("1"));
+    assert_eq!(read(spaced(32_768)), refused(15, 32_768));
+    assert_eq!(read([&b"1"[..], &[b'\n'; 32_767]].concat()), read("1"));
+    assert_eq!(read([&b"1"[..], &[b'\n'; 32_768]].concat()), refused(15, 32_768));
+    assert_eq!(read([b' '; 32_768]), refused(15, 32_768));
+    assert_eq!(read([&[b'0'; 32_767][..], b"1"].concat()), read("1"));
+    assert_eq!(read([&[b'0'; 32_767][..], b"x"].concat()), refused(15, 32_767));
+    // an early error, and a length that is one too many
+    for (length, place) in [(32_767, 1), (32_768, 1), (32_769, 32_768), (100_000, 32_768)] {
+        assert_eq!(read([&b"1x"[..], &vec![b' '; length - 2]].concat()), refused(15, place), "{length}");
+    }
+    assert_eq!(read(ones(16_384)), refused(4, 5));
+    assert_eq!(read([ones(16_384), b" ".to_vec()].concat()), refused(4, 5));
+    assert_eq!(read([ones(16_384), b"+".to_vec()].concat()), refused(15, 32_768));
+    assert_eq!(read(ones(16_385)), refused(15, 32_768));
+}
+
+/// The formula of a tree, with what is needed and nothing else.
+fn typed(tree: &Process) -> Vec<u8> {
+    PLAIN.typed(&mut Rng::new(1, 0, 0), tree).text
+}
+
+#[test]
+fn jobs_of_formulas_that_are_refused() {
+    // 64 ADDPs, then the first number at depth 65
+    assert_eq!(read(ones(64)).unwrap().len(), 7 + 63 + 64 * 5);
+    assert_eq!(read(ones(65)), refused(7, 71));
+    assert_eq!(read(ones(500)), refused(7, 71));
+    assert_eq!(read(ones(501)), refused(4, 5));
+    // the same within brackets to the right, where the last two numbers are at depth 65, and 63 pairs of ADDP and number
+    // and an ADDP before them
+    let right = |sums: usize| around(sums, "1+(", "1", ")");
+    assert_eq!(read(right(63)).unwrap().len(), 7 + 63 + 64 * 5);
+    assert_eq!(read(right(64)), refused(7, 7 + 63 * 6 + 1));
+    // 1,000 nodes and one more
+    let tree = |forks: usize| {
+        let number = |n: usize| if n < forks { fork(Process::Val(7)) } else { Process::Val(7) };
+        samples::sum((0..500).map(number).collect())
+    };
+    assert_eq!((tree(1).nodes(), tree(2).nodes()), (1_000, 1_001));
+    assert_eq!(read(typed(&tree(1))), Ok(tree(1).job()));
+    assert_eq!(tree(1).job().len(), 3_007);
+    assert_eq!(read(typed(&tree(2))), refused(4, 5));
+    // 15 ADDPs, and each FORK with its number; the sixteenth
+    let forks = |count| vec!["fork 1"; count].join("+");
+    assert_eq!(read(forks(15)).unwrap().len(), 7 + 14 + 15 * 6);
+    assert_eq!(read(forks(16)), refused(8, 7 + 15 + 15 * 6));
+    // transactions of 200 nodes and of 201; one that is a flat sum is too deep before
+    assert_eq!(read(typed(&atomic(full()))), Ok(atomic(full()).job()));
+    assert_eq!(read(typed(&atomic(long()))), refused(14, 7));
+    assert_eq!(read(typed(&sum(Process::Val(1), fork(atomic(long()))))), refused(14, 14));
+    let flat = |reads| format!("atomic({})", vec!["r1"; reads].join("+"));
+    assert_eq!(read(flat(63)).unwrap().len(), 7 + 1 + 62 + 63 * 2);
+    assert_eq!(read(flat(64)), refused(7, 71));
+    assert_eq!(read(flat(101)), refused(7, 71));
+    // 15 comes before each of them
+    for text in [ones(65), ones(501), forks(16).into_bytes(), typed(&atomic(long()))] {
+        assert_eq!(read([&text[..], b"+"].concat()), refused(15, text.len() + 1));
+        assert_eq!(read([&text[..], b" )"].concat()), refused(15, text.len() + 1));
+    }
+    // and 4 before the others, 14 behind them
+    assert_eq!(read(format!("{}+{}", forks(16), around(490, "", &forks(10), "+1"))), refused(4, 5));
+    assert_eq!(read([&typed(&atomic(long()))[..], b"+", forks(16).as_bytes()].concat()), refused(8, 22 + 1 + 303 + 90));
+}
+
 /// The open threads beside the listing's, pick by pick.
 #[test]
 fn open_threads_are_those_that_are_listed_open() {
@@ -967,9 +1292,9 @@ fn open_threads_are_those_that_are_listed_open() {
 
 #[test]
 fn refusals_have_words() {
-    assert!(Reason::all().map(|reason| reason.number()).eq(1..=14));
+    assert!(Reason::all().map(|reason| reason.number()).eq(1..=15));
     assert!(Reason::all().all(|reason| Reason::from_number(reason.number().into()) == Some(reason)));
-    assert_eq!([0, 15, usize::MAX].map(Reason::from_number), [None; 3]);
+    assert_eq!([0, 16, usize::MAX].map(Reason::from_number), [None; 3]);
     let words: Vec<&str> = Reason::all().map(Reason::word).collect();
     assert_eq!(
         words,
@@ -987,7 +1312,8 @@ fn refusals_have_words() {
             "foreign code",
             "foreign state",
             "long list",
-            "long transaction"
+            "long transaction",
+            "not a script"
         ]
     );
     let error: Box<dyn std::error::Error> = Box::new(Refusal { reason: Reason::ShortTray, place: 0 });

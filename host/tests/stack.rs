@@ -1,6 +1,6 @@
 //! How much stack each call takes. The header's KUSPIGO_STACK_ numbers are not exceeded. The job reader and the forecast
 //! reach no function that calls itself: they take the same for every job that they read to its end. The emitter, which
-//! compiling and the report reach, calls itself.
+//! compiling and the report reach, calls itself, and so does the reader of formulas.
 //!
 //! Measured on a stack of our own, filled before the call: from its top, with the arguments that lie there and the return
 //! address, down to the last byte that was altered.
@@ -12,8 +12,11 @@ use core::mem::MaybeUninit;
 use kuspigo::ffi::{self, ForecastReply, FreshReply, RunReply, StepReply, Written};
 use kuspigo::{raw, State, LONGEST_CODE, LONGEST_JOB, LONGEST_LISTING};
 use plain::samples::{chain, deep, many_small, Rng};
+use plain::texts::{nested, ones};
 
 const DEEPEST: usize = 64;
+/// Brackets, forks, atomics and writes of a formula together.
+const MOST_OPEN: usize = 64;
 const MOST_NODES: usize = 1_000;
 
 /// As the calling convention aligns one.
@@ -98,6 +101,10 @@ fn of_read_back(code: &[u8]) -> usize {
 
 fn of_report(input: &[u8]) -> usize {
     of_writing(ffi::kuspigo_report as *const (), raw::report, input, LONGEST_LISTING)
+}
+
+fn of_formula(text: &[u8]) -> usize {
+    of_writing(ffi::kuspigo_formula as *const (), raw::formula, text, LONGEST_JOB)
 }
 
 /// Of a call that writes to an output.
@@ -185,6 +192,37 @@ fn refused() -> Vec<Vec<u8>> {
     jobs
 }
 
+/// Texts with so many open, of one kind or mixed; some are scripts with up to as many as may be.
+fn texts(open: usize) -> Vec<Vec<u8>> {
+    let around = |count: usize, before: &str, middle: &str, behind: &str| {
+        [&before.repeat(count), middle, &behind.repeat(count)].concat().into_bytes()
+    };
+    let inside = |text: Vec<u8>| [&b"atomic("[..], &text, b")"].concat();
+    let within = open.saturating_sub(2);
+    let mut texts = vec![
+        around(open, "(", "1", ")"),
+        around(open, "1 + (", "1", ")"),
+        around(open, "1 + (", "1 + -2147483648 + 1", ")"),
+        around(open, "1 + (", "1 + fork", ")"),
+        around(open, "(1 + ", "1 + (", " + 1)"),
+        around(open, "fork ", "1", ""),
+        around(open / 2, "(fork ", "1", ")"),
+        around(open / 2, "1 + (fork ", "1", ")"),
+        around(within, "(", "atomic(r1)", ")"),
+        around(within, "1 + (", "1 + atomic(r1 + r2)", ")"),
+        inside(around(within, "(", "r1", ")")),
+        inside(around(within, "r5 + (", "r1", ")")),
+        inside(around(within, "r5 + (", "r1 + r2 + -2147483648", ")")),
+        inside(around(within.saturating_sub(1), "r5 + (", "r1 := r2 + r3", ")")),
+        inside(around(within, "r5 := ", "r1", "")),
+        inside(around(within / 2, "r5 := (", "r1", ")")),
+        inside(around(within / 2, "r5 + (r6 := ", "r1", ")")),
+        inside(around(within / 2, "(r6 := ", "r1 + 1", ") + r2")),
+    ];
+    texts.extend((0..40).map(|case| nested(&mut Rng::new(1, 4, case), open)));
+    texts
+}
+
 /// A number that the header defines.
 fn defined(name: &str) -> usize {
     let header = std::path::Path::new(env!("CARGO_MANIFEST_DIR")).join("../include/kuspigo.h");
@@ -239,6 +277,22 @@ fn no_call_on_bytes_takes_more_than_the_header_says() {
     codes.extend(codes.clone().iter().map(|code| code[..code.len() - 1].to_vec()));
     codes.extend([Vec::new(), b"WSC\x00\x01".to_vec()]);
     within("READ_BACK", &codes.iter().map(|code| of_read_back(code)).collect::<Vec<_>>());
+}
+
+/// Of texts with few and with many open, whole and cut, also before what is too much; and of long ones.
+#[test]
+fn no_formula_takes_more_than_the_header_says() {
+    let mut taken = Vec::new();
+    for open in [1, 2, 3, 20, MOST_OPEN - 1, MOST_OPEN, MOST_OPEN + 1] {
+        for text in texts(open) {
+            taken.extend([text.len(), text.len() / 2, text.len() - 1].map(|length| of_formula(&text[..length])));
+        }
+    }
+    for text in [&b""[..], b"1", &ones(64), &ones(501), &ones(16_384), &ones(16_385)] {
+        taken.push(of_formula(text));
+    }
+    within("FORMULA", &taken);
+    assert!(texts(MOST_OPEN).iter().filter(|text| raw::formula(text, &mut [0; LONGEST_JOB]).refusal == 0).count() > 6);
 }
 
 /// Of jobs that run to their end by random picks, that end early, and that are refused; of picks that are too many.

@@ -1,5 +1,5 @@
 //! A second implementation, in plain Rust. Unproved; written from documents 01 and 02, for comparison with the library.
-//! [`samples`] has jobs for both.
+//! [`samples`] has jobs for both, [`texts`] formulas.
 //!
 //! It works on the library's record ([`Thread`](kuspigo::Thread)), so that whole memory can be compared. Five calls have
 //! two forms, for the benchmark: compiling, forecasting and reading back without a tree (the ones named here) or by a
@@ -10,17 +10,20 @@ pub mod by_value;
 mod code;
 mod compile;
 mod forecast;
+mod formula;
 mod job;
 mod machine;
 mod read_back;
 mod report;
 pub mod samples;
 mod state;
+pub mod texts;
 pub mod tree;
 
 pub use code::{decode, Op};
 pub use compile::compile;
 pub use forecast::forecast;
+pub use formula::formula;
 pub use machine::{fresh, run, step};
 pub use read_back::read_back;
 pub use report::{listing, report};
@@ -35,6 +38,11 @@ const MOST_FORKS: usize = 15;
 /// Of a transaction, ATOMIC not counted.
 const MOST_INSIDE: usize = 200;
 const MOST_PICKS: usize = 32_768;
+/// Of an accepted job.
+const LONGEST_JOB: usize = 3_007;
+const LONGEST_TEXT: usize = 32_768;
+/// Brackets, forks, atomics and writes of a formula together.
+const MOST_OPEN: usize = 64;
 
 /// Mark and version of a job; the node count follows.
 const JOB_HEAD: [u8; 5] = *b"WSJ\x00\x01";

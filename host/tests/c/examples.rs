@@ -1,6 +1,8 @@
 //! The examples.
 
-use crate::support::{output_of, C99, LISTING};
+use crate::support::{output_of, program_of, C99, LISTING};
+use std::io::Write;
+use std::process::{Command, Stdio};
 
 #[test]
 fn the_example_prints_the_whole_case() {
@@ -31,4 +33,48 @@ fn the_example_prints_the_whole_cases_forecast() {
         15 instructions, 6 in the longest transaction, at most 27 steps\n\
         READ names 0\nWRITE names 0\nheights 2 2 2\n";
     assert_eq!(printed, expected);
+}
+
+/// Its text is an argument or standard input.
+#[test]
+fn the_example_reads_formulas() {
+    let Some(program) = program_of(C99, "examples/formula.c", &["-O1"]) else { return };
+    let says = |text: &[u8]| {
+        let mut child =
+            Command::new(&program).stdin(Stdio::piped()).stdout(Stdio::piped()).spawn().expect("the program starts");
+        child.stdin.take().expect("a pipe").write_all(text).expect("the program reads");
+        let ended = child.wait_with_output().expect("the program ends");
+        let said = (String::from_utf8(ended.stdout).expect("the program prints text"), ended.status.code());
+        let argument = std::str::from_utf8(text).expect("a test's text");
+        let other = Command::new(&program).arg(argument).output().expect("the program starts");
+        assert_eq!((String::from_utf8_lossy(&other.stdout).into_owned(), other.status.code()), said);
+        said
+    };
+    let taken = |printed: &str| (printed.to_string(), Some(0));
+    let refused = |printed: &str| (printed.to_string(), Some(1));
+    let whole = b"fork atomic(r0 := r0 + 1)\n  + fork atomic(r0 := r0 + 1)\n";
+    let child = "04 03 08 00 06 07 00 05 00 00 00 01";
+    assert_eq!(says(whole), taken(&format!("57 53 4A 00 01 00 0D 02 {child} {child}\n")));
+    assert_eq!(
+        says(b"1 +\n  fork r5\n"),
+        refused(
+            "refused 15 (not a script) at 11: No script goes on so from here.\n\
+             \x20 fork r5\n       ^\n"
+        )
+    );
+    assert_eq!(
+        says(b"(1 + 2"),
+        refused("refused 15 (not a script) at 6: No script goes on so from here.\n(1 + 2\n      ^\n")
+    );
+    assert_eq!(says(b""), refused("refused 15 (not a script) at 0: No script goes on so from here.\n\n^\n"));
+    let sums = ["1"; 65].join("+");
+    assert_eq!(says(sums.as_bytes()), refused("refused 7 (depth) at 71: The node is at depth 65.\n"));
+    let long = [&[b' '; 32_768][..], b"1"].concat();
+    assert_eq!(
+        says(&long),
+        refused(
+            "refused 15 (not a script) at 32768: No script goes on so from here.\nThere are more than 32768 bytes.\n"
+        )
+    );
+    assert_eq!(says(&long[1..]), taken("57 53 4A 00 01 00 01 01 00 00 00 01\n"));
 }

@@ -15,6 +15,7 @@ fn the_header_has_the_same_names() {
         ("LONGEST_CODE", kuspigo::LONGEST_CODE),
         ("LONGEST_JOB", kuspigo::LONGEST_JOB),
         ("LONGEST_LISTING", kuspigo::LONGEST_LISTING),
+        ("LONGEST_TEXT", kuspigo::LONGEST_TEXT),
         ("MOST_PICKS", kuspigo::MOST_PICKS),
     ] {
         expected += &format!("KUSPIGO_{name} {number}\n");

@@ -53,6 +53,11 @@ pub fn flags(include: &Path) -> Vec<String> {
 
 /// What the program of a file of this package prints; nothing if there is no compiler.
 pub fn output_of(language: Language, source: &str, more: &[&str]) -> Option<String> {
+    program_of(language, source, more).map(|program| printed(&program))
+}
+
+/// The program of a file of this package; nothing if there is no compiler.
+pub fn program_of(language: Language, source: &str, more: &[&str]) -> Option<PathBuf> {
     if !there_is(language.0) {
         return None;
     }
@@ -62,7 +67,7 @@ pub fn output_of(language: Language, source: &str, more: &[&str]) -> Option<Stri
         more.iter().map(|word| word.to_string()).chain(flags(&package().join("../include"))).collect();
     let output = built(language, source, &program, &flags);
     assert!(output.status.success(), "{name} is not built:\n{}", String::from_utf8_lossy(&output.stderr));
-    Some(printed(&program))
+    Some(program)
 }
 
 pub fn printed(program: &Path) -> String {

@@ -2,7 +2,7 @@
 
 use crate::failure::Failure;
 use std::ffi::{OsStr, OsString};
-use std::os::unix::ffi::OsStrExt;
+use std::os::unix::ffi::{OsStrExt, OsStringExt};
 use std::path::{Path, PathBuf};
 
 /// What is asked for.
@@ -14,9 +14,18 @@ pub enum Request {
 
 pub struct Call {
     pub word: Word,
-    pub file: PathBuf,
+    pub source: Source,
+    /// Whether `--formula` was said.
+    pub formula: bool,
     picks: Option<Picks>,
     out: Option<PathBuf>,
+}
+
+/// Where a job, code or a formula comes from.
+pub enum Source {
+    File(PathBuf),
+    /// A formula on the command line.
+    Text(Vec<u8>),
 }
 
 /// Where the picks come from.
@@ -28,6 +37,7 @@ pub enum Picks {
 
 #[derive(Clone, Copy)]
 pub enum Word {
+    Formula,
     Check,
     Show,
     Compile,
@@ -37,7 +47,8 @@ pub enum Word {
     Picture,
 }
 
-const WORDS: [Word; 7] = [Word::Check, Word::Show, Word::Compile, Word::Back, Word::Run, Word::Trace, Word::Picture];
+const WORDS: [Word; 8] =
+    [Word::Formula, Word::Check, Word::Show, Word::Compile, Word::Back, Word::Run, Word::Trace, Word::Picture];
 
 impl Word {
     fn named(name: &str) -> Option<Word> {
@@ -46,6 +57,7 @@ impl Word {
 
     fn name(self) -> &'static str {
         match self {
+            Word::Formula => "formula",
             Word::Check => "check",
             Word::Show => "show",
             Word::Compile => "compile",
@@ -59,14 +71,14 @@ impl Word {
     /// How it is written, with these words for its picks.
     fn usage(self, picks: &str) -> String {
         let file = match self {
-            Word::Show => "FILE",
+            Word::Formula | Word::Show => "FILE",
             Word::Back => "CODE",
             _ => "JOB",
         };
         let picks = if self.takes_picks() { picks } else { "" };
         let out = match self {
             Word::Compile => " -o CODE",
-            Word::Back => " -o JOB",
+            Word::Formula | Word::Back => " -o JOB",
             Word::Picture => " -o FILE.svg",
             _ => "",
         };
@@ -75,8 +87,9 @@ impl Word {
 
     fn about(self) -> &'static str {
         match self {
+            Word::Formula => "make the job of a script that is typed as a formula",
             Word::Check => "say whether a job is accepted, and what it will need",
-            Word::Show => "show a job or code: the script as a tree, and its code",
+            Word::Show => "show a script as a tree, and its code; or as a formula",
             Word::Compile => "compile a job",
             Word::Back => "read the job back out of code",
             Word::Run => "run a job, and print what the run program prints",
@@ -87,18 +100,25 @@ impl Word {
 
     fn more(self) -> &'static str {
         match self {
+            Word::Formula => {
+                "FILE is a formula. If it is none, its line is shown, the place is marked, and what could stand\n\
+                 there is said. If its job is refused, the node at the place in that job is looked for in the\n\
+                 formula by this program's own reading. A refused formula writes nothing.\n"
+            }
             Word::Check => {
                 "Prints the forecast. A refused job is told with the number, the trade's word and the\n\
                  place, a byte offset in the job, and the bytes there.\n"
             }
             Word::Show => {
-                "FILE is a job or code. Each node and each instruction stands with its byte offset and its\n\
-                 bytes in hex; what a FORK starts is indented.\n"
+                "FILE is a job, code or a formula; its first bytes say which. Each node and each instruction\n\
+                 stands with its byte offset and its bytes in hex; what a FORK starts is indented. With --formula\n\
+                 the script is printed as a formula instead, whichever FILE is; it makes the same job again.\n"
             }
             Word::Compile | Word::Back => "A refused call writes nothing.\n",
             Word::Run => {
                 "Standard output is byte for byte the run program's for this job and these picks, also if\n\
-                 the job or the list is refused; standard error then says why.\n"
+                 the job or the list is refused; standard error then says why. A formula that is no script\n\
+                 is answered in the same form, refused 15 at its place.\n"
             }
             Word::Trace => {
                 "A line for each pick: its number, counted from 1, the thread, the place in the code, the\n\
@@ -116,6 +136,7 @@ impl Word {
 
     fn example(self) -> &'static str {
         match self {
+            Word::Formula => "kuspigo formula scan.formula -o scan.job",
             Word::Check => "kuspigo check scan.job",
             Word::Show => "kuspigo show scan.code",
             Word::Compile => "kuspigo compile scan.job -o scan.code",
@@ -131,15 +152,44 @@ impl Word {
     }
 
     fn takes_out(self) -> bool {
-        matches!(self, Word::Compile | Word::Back | Word::Picture)
+        matches!(self, Word::Formula | Word::Compile | Word::Back | Word::Picture)
     }
 
     fn help(self) -> String {
+        let source = match self {
+            Word::Back => String::new(),
+            Word::Formula => format!("\n{TEXT}\n{GRAMMAR}"),
+            Word::Show => format!("\n{TEXT}"),
+            _ => format!("\n{JOB}"),
+        };
         let picks = if self.takes_picks() { format!("\n{PICKS}") } else { String::new() };
         let [usage, about, more, example] = [&*self.usage(" PICKS"), self.about(), self.more(), self.example()];
-        format!("{usage}: {about}\n\n{more}{picks}\nexample: {example}\n")
+        format!("{usage}: {about}\n\n{more}{source}{picks}\nexample: {example}\n")
     }
 }
+
+const TEXT: &str = "\
+For FILE may stand
+  --text TEXT      a formula on the command line, in quotes
+";
+
+const JOB: &str = "\
+JOB is one of
+  FILE             a job's bytes
+  --formula FILE   a formula; or a job, if FILE begins with WSJ, as no formula does
+  --text TEXT      a formula on the command line, in quotes
+kuspigo formula --help tells what a formula is, and what is told of one that is refused.
+";
+
+const GRAMMAR: &str = "\
+A formula is terms joined by +. A term is a number, a formula in brackets, fork with a term, or
+atomic with a transaction in brackets. A transaction is a write, such as r5 := r5 + 1, where any
+transaction stands behind :=, or terms joined by +; a term is then a number, a register from r0 to
+r63, or a transaction in brackets. + groups to the left. Numbers are -2147483648 to 2147483647.
+Blanks, carriage returns and ends of lines may stand between all of these, and are never needed. At
+most 64 brackets, forks, atomics and writes are open at once, an atomic and its bracket being two,
+and a formula has at most 32,768 bytes.
+";
 
 const PICKS: &str = "\
 PICKS is one of
@@ -151,22 +201,25 @@ The last two end when every thread has ended, or after 32,768 picks.
 ";
 
 fn help() -> String {
-    let mut text = "kuspigo: looks into jobs, code and runs of the task engine\n\n".to_string();
+    let mut text = "kuspigo: looks into jobs, formulas, code and runs of the task engine\n\n".to_string();
     for word in WORDS {
         text += &format!("  {:<42} {}\n", word.usage(" PICKS"), word.about());
     }
-    text +=
-        &format!("\n{PICKS}\n-o is also --output. A file named - is standard input, or after -o standard output.\n\n");
+    text += &format!(
+        "\n{JOB}\nformula and show take FILE or --text; show --formula prints any script as a formula.\n\n{PICKS}\n\
+         -o is also --output, and -e is --text. A file named - is standard input, or after -o standard\n\
+         output.\n\n"
+    );
     text += "examples:\n";
     for word in WORDS {
         text += &format!("  {}\n", word.example());
     }
-    text += "\n\
-        kuspigo WORD --help tells more, kuspigo --version the version. The status is 0, or 1 if a job,\n\
-        code or list is refused or a file cannot be read or written, or 2 if the command line is not\n\
-        understood.\n\n\
-        This program is not proved. What is refused, what is compiled and read back, each step and\n\
-        the listing come from the proved library, which it calls.\n";
+    text += "  kuspigo trace --text 'fork atomic(r0 := r0 + 1) + fork atomic(r0 := r0 + 1)' --round-robin\n\n\
+        kuspigo WORD --help tells more, kuspigo --version the version. The status is 0, or 1 if a\n\
+        formula, job, code or list is refused or a file cannot be read or written, or 2 if the command\n\
+        line is not understood.\n\n\
+        This program is not proved. What is refused, the jobs of formulas, what is compiled and read\n\
+        back, each step and the listing come from the proved library, which it calls.\n";
     text
 }
 
@@ -182,6 +235,24 @@ impl Call {
     }
 }
 
+impl Source {
+    /// Its name as messages have it.
+    pub fn name(&self) -> String {
+        match self {
+            Source::File(file) => crate::named(file),
+            Source::Text(_) => "the text".to_string(),
+        }
+    }
+
+    /// Without a folder, as a picture's title has it.
+    pub fn short_name(&self) -> String {
+        match self {
+            Source::File(file) => crate::short_name(file),
+            Source::Text(_) => self.name(),
+        }
+    }
+}
+
 pub fn parse(mut arguments: impl Iterator<Item = OsString>) -> Result<Request, Failure> {
     let Some(first) = arguments.next() else {
         return Err(usage("what is to be done?"));
@@ -193,17 +264,19 @@ pub fn parse(mut arguments: impl Iterator<Item = OsString>) -> Result<Request, F
             Ok(Request::Say(word.map_or_else(help, Word::help)))
         }
         ("--version" | "-V", _) => Ok(Request::Say(format!("kuspigo {}\n", env!("CARGO_PKG_VERSION")))),
-        (_, Some(word)) => Parser { word, file: None, picks: None, out: None }.all(arguments),
+        (_, Some(word)) => {
+            Parser { word, file: None, text: None, formula: false, picks: None, out: None }.all(arguments)
+        }
         _ => Err(usage(&format!("there is no word `{}`", crate::plain_text(&first)))),
     }
 }
 
-/// An option's name, and its value if it stands in the same argument: `--name=value`, `-ovalue`.
+/// An option's name, and its value if it stands in the same argument: `--name=value`, `-ovalue`, `-evalue`.
 fn split(argument: &OsStr) -> (String, Option<OsString>) {
     let bytes = argument.as_bytes();
     let [name, value] = match bytes.iter().position(|&byte| byte == b'=') {
         Some(at) if bytes.starts_with(b"--") => [0..at, at + 1..bytes.len()],
-        _ if bytes.starts_with(b"-o") && bytes.len() > 2 => [0..2, 2..bytes.len()],
+        _ if (bytes.starts_with(b"-o") || bytes.starts_with(b"-e")) && bytes.len() > 2 => [0..2, 2..bytes.len()],
         _ => return (argument.to_string_lossy().into_owned(), None),
     };
     let value = OsStr::from_bytes(&bytes[value]).to_os_string();
@@ -213,6 +286,8 @@ fn split(argument: &OsStr) -> (String, Option<OsString>) {
 struct Parser {
     word: Word,
     file: Option<PathBuf>,
+    text: Option<Vec<u8>>,
+    formula: bool,
     picks: Option<Picks>,
     out: Option<PathBuf>,
 }
@@ -227,9 +302,18 @@ impl Parser {
             }
             let (name, joined) = split(&argument);
             let shown = crate::plain_text(&name);
+            let joined = match (&*name, joined) {
+                // `--formula FILE` is two arguments, the second one a file like any other
+                ("--formula", Some(file)) => {
+                    self.set_formula()?;
+                    self.set_file(file)?;
+                    continue;
+                }
+                (_, joined) => joined,
+            };
             let valued = match &*name {
-                "--picks" | "--random" | "-o" | "--output" => true,
-                "--round-robin" | "--help" | "-h" | "--" => false,
+                "--picks" | "--random" | "--text" | "-e" | "-o" | "--output" => true,
+                "--formula" | "--round-robin" | "--help" | "-h" | "--" => false,
                 _ => return Err(self.usage(&format!("there is no option {shown}"))),
             };
             if joined.is_some() && !valued {
@@ -242,6 +326,8 @@ impl Parser {
             match &*name {
                 "--help" | "-h" => return Ok(Request::Say(self.word.help())),
                 "--" => options = false,
+                "--formula" => self.set_formula()?,
+                "--text" | "-e" => self.set_text(value)?,
                 "--picks" => self.set_picks(Picks::File(value.into()))?,
                 "--round-robin" => self.set_picks(Picks::RoundRobin)?,
                 "--random" => {
@@ -260,6 +346,25 @@ impl Parser {
             None => Ok(()),
             Some(_) if self.word.takes_picks() => Err(self.usage("one file is enough; that of picks follows --picks")),
             Some(_) => Err(self.usage("one file is enough")),
+        }
+    }
+
+    fn set_formula(&mut self) -> Result<(), Failure> {
+        self.formula = true;
+        match self.word {
+            Word::Formula => Err(self.usage("FILE is a formula without --formula")),
+            Word::Back => Err(self.usage("no formula is taken")),
+            _ => Ok(()),
+        }
+    }
+
+    fn set_text(&mut self, text: OsString) -> Result<(), Failure> {
+        if matches!(self.word, Word::Back) {
+            return Err(self.usage("no formula is taken"));
+        }
+        match self.text.replace(text.into_vec()) {
+            None => Ok(()),
+            Some(_) => Err(self.usage("one --text is enough")),
         }
     }
 
@@ -284,23 +389,30 @@ impl Parser {
     }
 
     fn finish(self) -> Result<Request, Failure> {
-        let Some(file) = &self.file else {
-            return Err(self.usage("which file?"));
-        };
+        match (&self.file, &self.text) {
+            (None, None) => return Err(self.usage("which file?")),
+            (Some(_), Some(_)) => return Err(self.usage("a file or --text is enough")),
+            _ => {}
+        }
         if self.word.takes_picks() && self.picks.is_none() {
             return Err(self.usage("which picks?"));
         }
         if self.word.takes_out() && self.out.is_none() {
             return Err(self.usage("where to? -o FILE"));
         }
-        if matches!(&self.picks, Some(Picks::File(picks)) if crate::is_standard(picks) && crate::is_standard(file)) {
+        let standard = self.file.as_deref().is_some_and(crate::is_standard);
+        if standard && matches!(&self.picks, Some(Picks::File(picks)) if crate::is_standard(picks)) {
             return Err(self.usage("job and picks cannot both be standard input"));
         }
         if let Some(out) = self.out.as_deref().filter(|out| self.reads(out)) {
             return Err(self.usage(&format!("{} is read, and would be overwritten", crate::named(out))));
         }
-        let Parser { word, file, picks, out } = self;
-        Ok(Request::Do(Call { word, file: file.expect("tested above"), picks, out }))
+        let Parser { word, file, text, formula, picks, out } = self;
+        let source = match file {
+            Some(file) => Source::File(file),
+            None => Source::Text(text.expect("tested above")),
+        };
+        Ok(Request::Do(Call { word, source, formula, picks, out }))
     }
 
     /// Whether an output is a file that is read.

@@ -1,11 +1,10 @@
 //! What can go wrong, and how it is told.
 
 use crate::script::{self, Nodes};
-use crate::show;
+use crate::{input, show, telling};
 use kuspigo::{Reason, Refusal};
 use std::fmt::{self, Write};
 use std::io;
-use std::path::Path;
 
 pub enum Failure {
     /// The command line is not understood; the whole text.
@@ -14,11 +13,13 @@ pub enum Failure {
     File(String, io::Error),
     /// The library refused a file's bytes.
     Refused { file: String, bytes: Vec<u8>, refusal: Refusal },
+    /// The library refused a formula, or the job that it would make.
+    RefusedFormula { name: String, text: Vec<u8>, refusal: Refusal },
 }
 
 impl Failure {
-    pub fn refused(file: &Path, bytes: &[u8], refusal: Refusal) -> Failure {
-        Failure::Refused { file: crate::named(file), bytes: bytes.to_vec(), refusal }
+    pub fn refused(file: String, bytes: &[u8], refusal: Refusal) -> Failure {
+        Failure::Refused { file, bytes: bytes.to_vec(), refusal }
     }
 
     pub fn output(error: io::Error) -> Failure {
@@ -29,7 +30,7 @@ impl Failure {
     pub fn status(&self) -> u8 {
         match self {
             Failure::Usage(_) => 2,
-            Failure::File(..) | Failure::Refused { .. } => 1,
+            Failure::File(..) | Failure::Refused { .. } | Failure::RefusedFormula { .. } => 1,
         }
     }
 }
@@ -47,6 +48,9 @@ impl fmt::Display for Failure {
                     false => Ok(()),
                 }
             }
+            Failure::RefusedFormula { name, text, refusal } => {
+                write!(f, "kuspigo: {name}: {refusal}\n{}", telling::told(text, *refusal))
+            }
         }
     }
 }
@@ -57,6 +61,9 @@ fn found(bytes: &[u8], refusal: Refusal) -> String {
     match refusal.reason {
         Reason::Mark if bytes.starts_with(b"WSC") => {
             "It begins with WSC, the mark of code: try kuspigo back or show.\n".to_string()
+        }
+        Reason::Mark | Reason::Cut if input::is_text(bytes) => {
+            "A job begins with WSJ, in hex 57 53 4A. If it is a formula, say so with --formula.\n".to_string()
         }
         Reason::Mark => "A job begins with WSJ, in hex 57 53 4A.\n".to_string(),
         Reason::Version => format!("The version is {}.\n", number16(3)),

@@ -1,19 +1,24 @@
-//! `kuspigo`: a viewer of jobs, code and runs for the service engineer.
+//! `kuspigo`: a viewer of jobs, formulas, code and runs for the service engineer.
 //!
-//! Nothing here is proved. What it shows comes from the proved library: which job or code is refused, with number and
-//! place, the compiled code, the job that was read back, each step's rule and the state that it left, the listing.
+//! Nothing here is proved. What it shows comes from the proved library: which formula, job or code is refused, with number
+//! and place, the job of a formula, the compiled code, the job that was read back, each step's rule and the state that it
+//! left, the listing.
 
 mod args;
 mod failure;
+mod formula;
+mod input;
 mod picture;
 mod progress;
 mod script;
 mod show;
+mod telling;
 mod trace;
 mod walk;
 
 use args::{Call, Picks, Request, Word};
 use failure::Failure;
+use input::{Accepted, Input};
 use kuspigo::State;
 use progress::Progress;
 use std::ffi::OsStr;
@@ -47,8 +52,8 @@ fn perform(request: Request) -> Result<(), Failure> {
     match call.word {
         Word::Check => check(&call),
         Word::Show => show(&call),
-        Word::Compile => convert(&call, kuspigo::compile),
-        Word::Back => convert(&call, kuspigo::read_back),
+        Word::Compile => write(call.out(), &Input::read(&call)?.accepted()?.code),
+        Word::Formula | Word::Back => write(call.out(), &Input::read(&call)?.accepted()?.job),
         Word::Run => run(&call),
         Word::Trace => trace(&call),
         Word::Picture => picture(&call),
@@ -56,27 +61,19 @@ fn perform(request: Request) -> Result<(), Failure> {
 }
 
 fn check(call: &Call) -> Result<(), Failure> {
-    let job = read(&call.file)?;
-    let told = kuspigo::forecast(&job).map_err(|refusal| Failure::refused(&call.file, &job, refusal))?;
-    print(show::forecast(&named(&call.file), &job, &told).as_bytes())
+    let Accepted { job, .. } = Input::read(call)?.accepted()?;
+    let told = kuspigo::forecast(&job).expect("the library accepted this job");
+    print(show::forecast(&call.source.name(), &job, &told).as_bytes())
 }
 
-/// The script and its code, from either of them.
+/// The script and its code, or the script as a formula.
 fn show(call: &Call) -> Result<(), Failure> {
-    let bytes = read(&call.file)?;
-    let refused = |refusal| Failure::refused(&call.file, &bytes, refusal);
-    let (job, code) = if bytes.starts_with(b"WSC") {
-        (kuspigo::read_back(&bytes).map_err(refused)?, bytes.clone())
-    } else {
-        (bytes.clone(), kuspigo::compile(&bytes).map_err(refused)?)
+    let Accepted { job, code } = Input::read(call)?.accepted()?;
+    let text = match call.formula {
+        true => formula::printed(&job) + "\n",
+        false => format!("{}\n{}", show::script(&job), show::code(&code)),
     };
-    print(format!("{}\n{}", show::script(&job), show::code(&code)).as_bytes())
-}
-
-fn convert(call: &Call, made: fn(&[u8]) -> Result<Vec<u8>, kuspigo::Refusal>) -> Result<(), Failure> {
-    let bytes = read(&call.file)?;
-    let result = made(&bytes).map_err(|refusal| Failure::refused(&call.file, &bytes, refusal))?;
-    write(call.out(), &result)
+    print(text.as_bytes())
 }
 
 /// What the run program prints, on standard output also if it is a refusal.
@@ -90,7 +87,7 @@ fn run(call: &Call) -> Result<(), Failure> {
             print(&prepared.listing(&picks))
         }
         Err(failure) => {
-            if let Failure::Refused { refusal, .. } = &failure {
+            if let Failure::Refused { refusal, .. } | Failure::RefusedFormula { refusal, .. } = &failure {
                 let line = format!("refused {} at {}\n", refusal.number(), refusal.place);
                 print(line.as_bytes()).unwrap_or_else(|unwritten| say(&unwritten.to_string()));
             }
@@ -123,7 +120,7 @@ fn picture(call: &Call) -> Result<(), Failure> {
         picks.push(pick);
         Ok(())
     })?;
-    let title = format!("{}, {}", short_name(&call.file), prepared.whose);
+    let title = format!("{}, {}", call.source.short_name(), prepared.whose);
     write(call.out(), picture::svg(&title, &picks).as_bytes())
 }
 
@@ -138,17 +135,18 @@ struct Prepared {
 
 impl Prepared {
     fn new(call: &Call) -> Result<Prepared, Failure> {
-        let job = read(&call.file)?;
+        let input = Input::read(call)?;
         let given = match call.picks() {
             Picks::File(file) => Some((file, read(file)?)),
             Picks::RoundRobin | Picks::Random(_) => None,
         };
-        let code = kuspigo::compile(&job).map_err(|refusal| Failure::refused(&call.file, &job, refusal))?;
+        let Accepted { job, code } = input.accepted()?;
         let (list, whose) = match (call.picks(), given) {
             (_, Some((file, picks))) => {
                 // whether the list is refused
                 let mut state = State::fresh(&code).expect("the library compiled this code");
-                let counts = state.run(&code, &picks).map_err(|refusal| Failure::refused(file, &picks, refusal))?;
+                let counts =
+                    state.run(&code, &picks).map_err(|refusal| Failure::refused(named(file), &picks, refusal))?;
                 if counts.steps == 0 && counts.idle > 0 {
                     say(&format!("kuspigo: {}: every pick is idle; its bytes are the threads' numbers\n", named(file)));
                 }
@@ -229,7 +227,8 @@ fn short_name(file: &Path) -> String {
     }
 }
 
-/// So many bytes of a file are read. No accepted job, code or list is as long, and no refusal depends on what follows.
+/// So many bytes of a file are read. No accepted job, code, list or formula is as long, and no refusal depends on what
+/// follows.
 const MOST_BYTES: u64 = 65_536;
 
 fn read(file: &Path) -> Result<Vec<u8>, Failure> {

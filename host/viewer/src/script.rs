@@ -19,12 +19,23 @@ const KINDS: [(&str, usize, usize); 9] = [
     ("READ", 0, 1),
     ("WRITE", 1, 1),
 ];
-const ATOMIC: u8 = 3;
+pub const VALP: u8 = 1;
+pub const ADDP: u8 = 2;
+pub const ATOMIC: u8 = 3;
 pub const FORK: u8 = 4;
+pub const VALT: u8 = 5;
+pub const ADDT: u8 = 6;
+pub const READ: u8 = 7;
+pub const WRITE: u8 = 8;
 
 /// A kind's name; there are the kinds 1 to 8.
 pub fn kind_name(kind: u8) -> &'static str {
     KINDS.get(usize::from(kind)).map_or("", |kind| kind.0)
+}
+
+/// The bytes of a node, without its parts.
+pub fn length(kind: u8) -> usize {
+    1 + KINDS[usize::from(kind)].2
 }
 
 /// Whether a node's parts are transactions.
@@ -44,10 +55,18 @@ impl Node {
     /// Its name and its operand.
     pub fn text(&self, job: &[u8]) -> String {
         let name = kind_name(self.kind);
+        match self.operand(job) {
+            Some(operand) => format!("{name} {operand}"),
+            None => name.to_string(),
+        }
+    }
+
+    /// Its number or its register, if it has one.
+    pub fn operand(&self, job: &[u8]) -> Option<String> {
         match job[self.at + 1..self.next] {
-            [register] => format!("{name} r{register}"),
-            [a, b, c, d] => format!("{name} {}", i32::from_be_bytes([a, b, c, d])),
-            _ => name.to_string(),
+            [register] => Some(format!("r{register}")),
+            [a, b, c, d] => Some(i32::from_be_bytes([a, b, c, d]).to_string()),
+            _ => None,
         }
     }
 }
@@ -93,8 +112,8 @@ impl Iterator for Nodes<'_> {
 
     fn next(&mut self) -> Option<Node> {
         let &kind = self.job.get(self.at).filter(|kind| (1..=8).contains(*kind))?;
-        let (_, parts, operand) = KINDS[usize::from(kind)];
-        let node = Node { at: self.at, next: self.at + 1 + operand, kind, depth: self.open.len() + 1 };
+        let parts = KINDS[usize::from(kind)].1;
+        let node = Node { at: self.at, next: self.at + length(kind), kind, depth: self.open.len() + 1 };
         if node.next > self.job.len() || self.at > NODES && self.open.is_empty() {
             return None;
         }

@@ -1,10 +1,12 @@
 //! Measures the library beside the plain implementation: `cargo run --release --bin bench`.
 //!
-//! For each row the three columns are timed turn about, many times, and the least time of each is shown. Before that
-//! their answers and all that they write are compared. Outputs are not cleared between calls.
+//! For each row the columns are timed turn about, many times, and the least time of each is shown. Before that their
+//! answers and all that they write are compared. Outputs are not cleared between calls. An argument measures only the
+//! tables whose name has it: `jobs`, `states`, `formulas`.
 
 use kuspigo::{Counts, Forecast, Refusal, State, Thread};
-use plain::samples::{many_small, Lean, Rng, Shape};
+use plain::samples::{many_small, sum, Lean, Rng, Shape};
+use plain::texts::{nested, ones, Hand, PLAIN};
 use plain::{by_value, tree};
 use std::hint::black_box;
 use std::time::{Duration, Instant};
@@ -16,9 +18,19 @@ const ROW: Duration = Duration::from_millis(200);
 const BATCH: Duration = Duration::from_micros(100);
 
 fn main() {
+    let named: Vec<String> = std::env::args().skip(1).collect();
     println!("Least time of a call; {}.", machine());
     println!("Outputs are not cleared between calls. States are laid down outside the time. A run's ns a pick are");
-    println!("without the tests of code and state, which a run with no picks has too.\n");
+    println!("without the tests of code and state, which a run with no picks has too.");
+    for (name, table) in [("jobs", of_jobs as fn()), ("states", of_states), ("formulas", of_formulas)] {
+        if named.is_empty() || named.iter().any(|part| name.contains(part.as_str())) {
+            println!();
+            table();
+        }
+    }
+}
+
+fn of_jobs() {
     head("tree", "no tree");
     for (name, nodes, tree) in jobs() {
         compiling(name, nodes, &tree);
@@ -29,7 +41,9 @@ fn main() {
     for (name, nodes, tree) in jobs() {
         reading_back(name, nodes, &tree);
     }
-    println!();
+}
+
+fn of_states() {
     head("by value", "in place");
     for (name, nodes, tree) in jobs() {
         stepping(&format!("{name}, {}", counted(nodes, "node")), &tree);
@@ -106,7 +120,13 @@ fn writing(row: &str, input: &[u8], calls: [Writes; 3]) {
 }
 
 /// A row of calls that are timed in batches; `once` calls a column.
-fn batches(row: &str, mut once: impl FnMut(usize)) {
+fn batches(row: &str, once: impl FnMut(usize)) {
+    let least = batched(once);
+    print_row(row, least.map(duration), least);
+}
+
+/// The least time of a call of each column.
+fn batched<const COLUMNS: usize>(mut once: impl FnMut(usize)) -> [f64; COLUMNS] {
     let started = Instant::now();
     let mut calls_in_batch = 0;
     while started.elapsed() < BATCH {
@@ -120,7 +140,75 @@ fn batches(row: &str, mut once: impl FnMut(usize)) {
         }
         started.elapsed()
     });
-    print_row(row, least.map(|time| time / calls_in_batch as f64).map(duration), least);
+    least.map(|time| time / calls_in_batch as f64)
+}
+
+/// Formulas of growing size and of each kind. A number in front of a name is the refusal.
+fn formulas() -> Vec<(&'static str, Vec<u8>)> {
+    let mut rng = Rng::new(7, 1, 0);
+    let balanced = |count: usize| sum((0..count).map(|n| Process::Val(n as i32)).collect());
+    let mut typed = |tree: &Process, hand: Hand| hand.typed(&mut rng, tree).text;
+    let spaced = Hand { blanks: 3, ..PLAIN };
+    let repeated = |part: &str, length: usize| part.bytes().cycle().take(length).collect::<Vec<u8>>();
+    let around = |open: usize, part: &str| [&b"(".repeat(open), part.as_bytes(), &b")".repeat(open)].concat();
+    let many_brackets = vec![around(32, "1"); 60].join(&b'+');
+    let nested_sums = [repeated("1+(", 3 * 60), b"1".to_vec(), b")".repeat(60)].concat();
+    let forks_and_writes =
+        (0..15).map(|n| format!("fork atomic(r{n} := r{} := r{n} + 1)", n + 16)).collect::<Vec<_>>().join(" + ");
+    let blanks = |length: usize| [vec![b' '; length / 2], b"1".to_vec(), vec![b'\n'; length - length / 2 - 1]].concat();
+    vec![
+        ("a number", b"7".to_vec()),
+        (
+            "a typical one",
+            b"fork atomic(r0 := r0 + 1) + fork atomic(r1 := (r2 := r0 + 25) + r1) + atomic(r3 := r1 + -7) + 1000"
+                .to_vec(),
+        ),
+        ("61 ones", ones(61)),
+        ("60 nested sums", nested_sums),
+        ("forks and writes", forks_and_writes.into_bytes()),
+        ("balanced, 999 nodes", typed(&balanced(500), PLAIN)),
+        ("balanced, 999 nodes, blanks", typed(&balanced(500), spaced)),
+        ("small transactions, 1000 nodes", typed(&many_small(1_000, 1), PLAIN)),
+        ("16 threads, 1000 nodes, blanks", typed(&many_small(1_000, 16), spaced)),
+        ("60 ones in 32 brackets each", many_brackets),
+        ("blanks", blanks(32_768)),
+        ("15: in the middle", [ones(25), b"++".to_vec(), ones(25)].concat()),
+        ("15: one too many open", around(65, "1")),
+        ("15: at the end", repeated("(1+1)+", 32_766)),
+        ("15: one byte too many", ones(16_385)),
+        ("7: 65 ones", ones(65)),
+        ("4: ones", ones(16_384)),
+        ("4: transactions", [repeated("atomic(r0 := r0 + 1) + ", 32_752), b"1".to_vec()].concat()),
+        ("4: brackets", [repeated("(((((1)))))+", 32_760), b"1".to_vec()].concat()),
+        ("4: nested", {
+            let part = nested(&mut Rng::new(7, 2, 0), 60);
+            vec![&part[..]; 32_768 / (part.len() + 1)].join(&b'+')
+        }),
+    ]
+}
+
+fn of_formulas() {
+    println!("| formula | bytes | library | plain | library / plain | library, MB/s |");
+    println!("|---|--:|--:|--:|--:|--:|");
+    let calls: [Writes; 2] = [kuspigo::formula_into, plain::formula];
+    for (name, text) in formulas() {
+        let answers = calls.map(|call| {
+            let mut out = vec![0xAA; 4_000];
+            (call(&text, &mut out), out)
+        });
+        assert!(answers[0] == answers[1], "{name}: the columns differ");
+        let refused = answers[0].0.err().map(|refusal| refusal.number());
+        let named = name.split_once(':').map(|(number, _)| number.parse().expect("a refusal's number"));
+        assert_eq!(refused, named, "{name}");
+        let mut out = vec![0; 4_000];
+        let least: [f64; 2] = batched(|column| {
+            let _ = black_box(calls[column](black_box(&text), black_box(&mut out)));
+        });
+        let [library, plain] = least;
+        let speed = text.len() as f64 / library * 1_000.0;
+        let shown = least.map(duration).join(" | ");
+        println!("| {name} | {} | {shown} | {:.2} | {speed:.0} |", text.len(), library / plain);
+    }
 }
 
 type Steps = fn(&[u8], &mut [i32], &mut [u32], &mut [Thread], u8) -> Result<kuspigo::Step, Refusal>;

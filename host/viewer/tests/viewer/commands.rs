@@ -37,6 +37,7 @@ fn help_names_every_word() {
     assert_eq!(said(&here, &["help"]), help);
     assert!(help.out.contains("\nThis program is not proved."));
     for (word, usage) in [
+        ("formula", "kuspigo formula FILE -o JOB"),
         ("check", "kuspigo check JOB"),
         ("show", "kuspigo show FILE"),
         ("compile", "kuspigo compile JOB -o CODE"),
@@ -71,6 +72,16 @@ fn a_command_line_that_is_not_understood() {
         (&["check", "a", "--round-robin"], "kuspigo check: no picks are taken"),
         (&["check", "-x", "a"], "kuspigo check: there is no option -x"),
         (&["check", "--foo=bar", "a"], "kuspigo check: there is no option --foo"),
+        (&["check", "a", "--text", "1"], "kuspigo check: a file or --text is enough"),
+        (&["check", "--text", "1", "-e", "1"], "kuspigo check: one --text is enough"),
+        (&["check", "--text"], "kuspigo check: --text needs a value"),
+        (&["check", "--formula"], "kuspigo check: which file?"),
+        (&["check", "--formula=a", "b"], "kuspigo check: one file is enough"),
+        (&["formula", "-o", "a"], "kuspigo formula: which file?"),
+        (&["formula", "a"], "kuspigo formula: where to? -o FILE"),
+        (&["formula", "--formula", "a", "-o", "b"], "kuspigo formula: FILE is a formula without --formula"),
+        (&["back", "--formula", "a", "-o", "b"], "kuspigo back: no formula is taken"),
+        (&["back", "--text", "1", "-o", "b"], "kuspigo back: no formula is taken"),
         (&["compile", "a"], "kuspigo compile: where to? -o FILE"),
         (&["compile", "a", "-o"], "kuspigo compile: -o needs a value"),
         (&["compile", "a", "-o", "b", "-o", "c"], "kuspigo compile: one -o is enough"),
@@ -84,6 +95,7 @@ fn a_command_line_that_is_not_understood() {
             "kuspigo run: one of --picks, --round-robin and --random is enough",
         ),
         (&["run", "-", "--picks", "-"], "kuspigo run: job and picks cannot both be standard input"),
+        (&["run", "--formula", "-", "--picks", "-"], "kuspigo run: job and picks cannot both be standard input"),
     ] {
         let said = said(&here, arguments);
         assert_eq!((said.err.lines().next(), said.out.as_str(), said.status), (Some(what), "", 2));
@@ -141,6 +153,7 @@ It begins with WSJ, the mark of a job: try kuspigo compile or show.
         (&["compile", "whole.job", "-o", "hard.job"], "hard.job"),
         (&["compile", "-", "-o", "whole.job"], "whole.job"),
         (&["back", "whole.code", "-o", "whole.code"], "whole.code"),
+        (&["formula", "whole.formula", "-o", "whole.formula"], "whole.formula"),
         (&["picture", "whole.job", "--round-robin", "-o", "whole.job"], "whole.job"),
         (&["picture", "whole.job", "--picks", "whole.picks", "-o", "whole.picks"], "whole.picks"),
     ] {
@@ -151,6 +164,7 @@ It begins with WSJ, the mark of a job: try kuspigo compile or show.
         assert_eq!((same.err.lines().next(), same.out.as_str(), same.status), (Some(&*what), "", 2));
     }
     assert_eq!((got(&here, "whole.job"), got(&here, "whole.code")), (example("whole.job"), code.clone()));
+    assert_eq!(got(&here, "whole.formula"), example("whole.formula"));
     let device = said(&here, &["compile", "/dev/null", "-o", "/dev/null"]);
     assert!(device.err.starts_with("kuspigo: /dev/null: refused 1 (cut) at 0: "), "{}", device.err);
     assert_eq!(got(&here, "whole.picks"), example("whole.picks"));
