@@ -21,7 +21,7 @@ use Rattle.machine.specs.FitTest.{fits}
 use Rattle.machine.specs.Answers.{freshSays, stepSays, runSays, freshCall, stepCall, runCall}
 use Rattle.stm.specs.Events.{idle, sentBack, counted, isIdle, isCommit, isBack, order, backs}
 use Rattle.word.specs.Sum.{wrapping}
-use Rattle.cases.specs.Inputs.{header, accepted, seven, sevenCode, registersJob, lowTree, lowCode, ownWriteTree, ownWriteCode, wholeTree, wholeJob, wholeCode, highTree, highCode, lookCode, twiceCode, lastCode, staleCode, nestCode, times, ran, steps, wholePicks, staleThere, highPicks, nestPicks, told, front, second, frontCounts, noLogs, standing, noThreads, sized, oneForked, bothForked, behindBegin, behindRead, behindCommit, wholeEnd, highRead, nested, putAt, changed, withRegisters, exchanged, withMark, withHeight, withCell, withRead, withWrite, withReadValue, withWriteValue, withCode, looking, readSeven, readSevenWroteFive}
+use Rattle.cases.specs.Inputs.{header, accepted, seven, sevenCode, registersJob, lowTree, lowCode, ownWriteTree, ownWriteCode, wholeTree, wholeJob, wholeCode, highTree, highCode, lookCode, twiceCode, lastCode, staleCode, nestCode, times, ran, steps, wholePicks, staleThere, highPicks, nestPicks, told, front, second, frontCounts, noLogs, standing, noThreads, sized, oneForked, bothForked, behindBegin, behindRead, behindCommit, wholeEnd, highRead, nested, putAt, changed, withRegisters, crossed, withMark, withHeight, withCell, withRead, withWrite, withReadValue, withWriteValue, withCode, looking, readSeven, readSevenWroteFive}
 
 -- what a definition computes, on the left, and what document 01 says of it, on the right
 pub record Cases : Type 0 where
@@ -274,7 +274,7 @@ pub record Cases : Type 0 where
   pub fits-nest-one : fits nestCode (ran nestCode (times 1 0) .state) ≡ true
   pub unforked-by-child : fits nestCode (putAt (ran nestCode (times 1 0) .state) 2 (spawned 11 55)) ≡ false
   -- the children in another order; all 16 threads, and the last one missing
-  pub other-order : fits wholeCode (exchanged (ran wholeCode (times 2 0) .state)) ≡ true
+  pub other-order : fits wholeCode (crossed (ran wholeCode (times 2 0) .state)) ≡ true
   pub all-threads : numberOf (nested .threads) ≡ 16
   pub fits-all-threads : fits nestCode nested ≡ true
   pub last-missing : fits nestCode (putAt nested 15 blank) ≡ false

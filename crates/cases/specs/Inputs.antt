@@ -250,9 +250,9 @@ withRegisters registers s = record { registers = registers; counts = s .counts; 
 abbrev pub withCounts : List ℕ → State → State
 withCounts counts s = record { registers = s .registers; counts = counts; threads = s .threads }
 
--- threads 1 and 2 exchanged
-abbrev pub exchanged : State → State
-exchanged s = putAt (putAt s 1 (threadAt s 2)) 2 (threadAt s 1)
+-- the records of threads 1 and 2 in each other's place
+abbrev pub crossed : State → State
+crossed s = putAt (putAt s 1 (threadAt s 2)) 2 (threadAt s 1)
 
 -- thread 1's read log marks register 63, with the value 9 and the count 0
 abbrev pub withMark : State → State

@@ -52,7 +52,7 @@ use Rattle.machine.proofs.Runs.{Run, run-keeps}
 use Rattle.stm.specs.InnerTasks.{Log, Task, outside, inside, System, taskAt, next, start, endOf, eventsOf, overs}
 use Rattle.stm.specs.InnerMeaning.{Outside, Inside, processOf, values, meant, valuesOf, Linked}
 use Rattle.stm.proofs.Sound.{start-linked, run-linked, meant-length, meant-at}
-use Rattle.stm.proofs.Complete.{Below, Realised, start-outside, complete}
+use Rattle.stm.proofs.Complete.{Below, below-more, Realised, start-outside, complete}
 use Rattle.stm.proofs.Bound.{outside-proc, thread-count, steps-bound}
 use Rattle.stm.proofs.Counts.{steps-counted, back-counted, counts-append, together-none, none-together, together-assoc, over-counted}
 use Rattle.stm.proofs.SentBack as sent
@@ -324,22 +324,38 @@ module _ (job : List ℕ) (j : Job) (b : Bytes job) (accepted : readJob job ≡ 
   abbrev on : State → Session
   on s = record { code = compiled j; state = s }
 
-  -- picks as calls, one step each
-  module _ (small : ℕ) (fewer : small ≤ 256) where
-    steps-history : (is : List ℕ) → Below small is → (s : State) (events : List Happened) → History (compiled j) (on s) events → History (compiled j) (on (steps.run (sumOf j) (compiled j) s is .state)) (events ++ steps.run (sumOf j) (compiled j) s is .events)
-    unfolding steps.run
-    steps-history [] bel s events h = subst (λ (es : List Happened). History (compiled j) (on s) es) (sym (append-nil events)) h
-    steps-history (i ∷ is) bel s events h =
-        let k = behind h in
-        let one : History (compiled j) (on (pick (sumOf j) (compiled j) s i .state)) (events ++ (record { thread = i; event = pick (sumOf j) (compiled j) s i .event; over = pick (sumOf j) (compiled j) s i .over } ∷ [])) = followed h (step (compiled j) s i) (lent i (bel .0) s (k .typed) (k .ranges)) refl refl (comes i s (k .fit) (k .typed)) in
-        let rest = steps-history is (bel .1) (pick (sumOf j) (compiled j) s i .state) (events ++ (record { thread = i; event = pick (sumOf j) (compiled j) s i .event; over = pick (sumOf j) (compiled j) s i .over } ∷ [])) one in
-        subst (λ (es : List Happened). History (compiled j) (on (steps.run (sumOf j) (compiled j) (pick (sumOf j) (compiled j) s i .state) is .state)) es) (append-assoc events (record { thread = i; event = pick (sumOf j) (compiled j) s i .event; over = pick (sumOf j) (compiled j) s i .over } ∷ []) (steps.run (sumOf j) (compiled j) (pick (sumOf j) (compiled j) s i .state) is .events)) rest
-      where
-        lent : (i : ℕ) → i < small → (s : State) → Typed s → Ranged s → Lent (step (compiled j) s i)
-        lent i l s y z = record { code = code-bytes j (is-job .within .sized .valued); state = y; ranges = z; picks = record { small = one-byte i (omega arith) } }
+  -- a list of calls with these picks
+  abbrev pub TakenBy : State → List Happened → List ℕ → Type 0
+  TakenBy s events is = (h : History (compiled j) (record { code = compiled j; state = s }) events) × (picksTaken h ≡ is)
 
-        comes : (i : ℕ) (s : State) → Fits (compiled j) s → Typed s → comesTo (step (compiled j) s i) ≡ done (alone i (pick (sumOf j) (compiled j) s i))
-        comes i s f y = step-accepted j (compiled j) s i read (fits-exactly (compiled j) s y .1 f)
+  -- a list of calls with these picks more
+  abbrev TakenMore : State → List Happened → List ℕ → (more : List ℕ) → Type 0
+  TakenMore s events before is = let r = steps.run (sumOf j) (compiled j) s is in TakenBy (r .state) (events ++ r .events) (before ++ is)
+
+  -- picks as calls, one step each
+  steps-history : (is : List ℕ) → Below 256 is → (s : State) (events : List Happened) (before : List ℕ) → TakenBy s events before → TakenMore s events before is
+  unfolding steps.run picksTaken
+  steps-history [] bel s events before t = subst (TakenBy s (events ++ [])) (sym (append-nil before)) (subst (λ (es : List Happened). TakenBy s es before) (sym (append-nil events)) t)
+  steps-history (i ∷ is) bel s events before (h, e) =
+      let k = behind h in
+      let r = pick (sumOf j) (compiled j) s i in
+      let first : Happened = record { thread = i; event = r .event; over = r .over } in
+      let end = steps.run (sumOf j) (compiled j) (r .state) is in
+      let one = followed h (step (compiled j) s i) (lent i (bel .0) s (k .typed) (k .ranges)) refl refl (comes i s (k .fit) (k .typed)) in
+      let rest = steps-history is (bel .1) (r .state) (events ++ (first ∷ [])) (before ++ (i ∷ [])) (one, ap (λ (x : List ℕ). x ++ (i ∷ [])) e) in
+      subst (TakenBy (end .state) (events ++ (first ∷ end .events))) (append-assoc before (i ∷ []) is)
+      (subst (λ (es : List Happened). TakenBy (end .state) es ((before ++ (i ∷ [])) ++ is)) (append-assoc events (first ∷ []) (end .events)) rest)
+    where
+      lent : (i : ℕ) → i < 256 → (s : State) → Typed s → Ranged s → Lent (step (compiled j) s i)
+      lent i l s y z = record { code = code-bytes j (is-job .within .sized .valued); state = y; ranges = z; picks = record { small = one-byte i l } }
+
+      comes : (i : ℕ) (s : State) → Fits (compiled j) s → Typed s → comesTo (step (compiled j) s i) ≡ done (alone i (pick (sumOf j) (compiled j) s i))
+      comes i s f y = step-accepted j (compiled j) s i read (fits-exactly (compiled j) s y .1 f)
+
+  -- every list of picks is that of a list of calls
+  pub picks-history : (is : List ℕ) → Below 256 is → let r = steps.run (sumOf j) (compiled j) (fresh (compiled j)) is in TakenBy (r .state) (r .events) is
+  unfolding picksTaken
+  picks-history is bel = steps-history is bel (fresh (compiled j)) [] [] (none, refl)
 
   -- Every list of turns that the script can take is the order of one list of calls, which ends every thread that is then a VALP.
   pub every-order : (is : List ℕ) → CanTake (sumOf j) (initial (j .tree)) is → IsOrder j is
@@ -355,20 +371,20 @@ module _ (job : List ℕ) (j : Job) (b : Bytes job) (accepted : readJob job ≡ 
       k : Run is-code outer 0 (sumOf j) (fresh (compiled j)) (start registerCells (compileP (j .tree) ε)) (real .picks)
       k = run-keeps is-code outer (sumOf j) (real .picks) (fresh (compiled j)) (start registerCells (compileP (j .tree) ε)) (fresh-fits (compiled j)) (fresh-typed (compiled j)) (fresh-mirrors (compiled j) is-code outer)
 
-      count : length (endOf registerCells (sumOf j) (start registerCells (compileP (j .tree) ε)) (real .picks) .tasks) ≤ 256
+      sys : System registerCells
+      sys = endOf registerCells (sumOf j) (start registerCells (compileP (j .tree) ε)) (real .picks)
+
+      count : length (sys .tasks) ≤ 256
       count = few (j .tree) (thread-count registerCells (sumOf j) (j .tree) (is-job .within .sized .valued) (real .picks)) (is-job .within .sized .narrow)
 
       history′ : History (compiled j) (on (ran .state)) (ran .events)
-      history′ = steps-history (length (endOf registerCells (sumOf j) (start registerCells (compileP (j .tree) ε)) (real .picks) .tasks)) count (real .picks) (real .exist) (fresh (compiled j)) [] none
+      history′ = picks-history (real .picks) (below-more (length (sys .tasks)) 256 (real .picks) count (real .exist)) .0
 
       order′ : order (ran .events) ≡ is
       order′ = ap order (k .events) ∙ real .taken
 
       calm′ : countsOf (ran .events) .back ≡ 0
       calm′ = back-counted (ran .events) ∙ (ap (counted isBack) (k .events) ∙ real .calm)
-
-      sys : System registerCells
-      sys = endOf registerCells (sumOf j) (start registerCells (compileP (j .tree) ε)) (real .picks)
 
       linked : Linked registerCells (sumOf j) sys (turns (sumOf j) (initial (j .tree)) is)
       linked =

@@ -91,11 +91,11 @@ module _ (code : List ℕ) (s : State) where
   unfolding stepOf
   step-11 i e = rw e
 
-  step-12 : (i : ℕ) {j : Job} → readCode code ≡ done j → fits code s ≡ false → stepOf code s i ≡ refused 12 0
+  pub step-12 : (i : ℕ) {j : Job} → readCode code ≡ done j → fits code s ≡ false → stepOf code s i ≡ refused 12 0
   unfolding stepOf
   step-12 i e z = rw (e, z)
 
-  step-done : (i : ℕ) {j : Job} → readCode code ≡ done j → fits code s ≡ true → stepOf code s i ≡ done (pick (sumOf j) code s i)
+  pub step-done : (i : ℕ) {j : Job} → readCode code ≡ done j → fits code s ≡ true → stepOf code s i ≡ done (pick (sumOf j) code s i)
   unfolding stepOf
   step-done i e z = rw (e, z)
 

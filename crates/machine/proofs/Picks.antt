@@ -12,7 +12,7 @@ use Rattle.stm.specs.Counted.{Table}
 use Rattle.thread.specs.declared.Thread.{Thread}
 use Rattle.thread.specs.Threads.{exists}
 use Rattle.machine.specs.Steps.{State, Acted, committing, commit, act, perform, ruled, Stepped, numberOf, threadAt, settle, doing, pickAmong, pick, Ran, run, tableIn}
-use Rattle.stm.specs.Events.{idle, isIdle, isCommit, Counts, more, tally, countsOf}
+use Rattle.stm.specs.Events.{idle, isIdle, isFork, isCommit, Counts, more, tally, countsOf}
 use Rattle.code.specs.Ops.{Op, opAt}
 use Rattle.code.specs.Ops as code
 use Rattle.script.specs.Outcome.{Outcome, refused, done}
@@ -24,31 +24,32 @@ never e = absurd (let z : _≡_ {A = ℕ} 0 1 = cc in omega arith)
 never′ : {A : Type 0} {x y : A} → _≡_ {A = Bool} true false → x ≡ y
 never′ e = absurd (let z : _≡_ {A = ℕ} 0 1 = cc in omega arith)
 
--- an instruction is never idle, and only a COMMIT that takes effect changes the table
-record ActLawful (h : Table) (a : Acted) : Type 0 where
-  busy : isIdle (a .event) ≡ false
-  table : isCommit (a .event) ≡ false → a .table ≡ h
+-- an instruction is never idle, only a COMMIT that takes effect changes the table, and only a FORK has a child
+pub record ActLawful (h : Table) (a : Acted) : Type 0 where
+  pub busy : isIdle (a .event) ≡ false
+  pub table : isCommit (a .event) ≡ false → a .table ≡ h
+  pub childless : isFork (a .event) ≡ false → a .children ≡ []
 
 commit-lawful : (table : Table) (t : Thread) (v : ℕ) → ActLawful table (commit table t v)
 unfolding commit
 commit-lawful table t v = go (ltb v 64)
   where
     go : (b : Bool) → ActLawful table (committing b table t v)
-    go true = record { busy = refl; table = λ e. refl }
-    go false = record { busy = refl; table = never′ }
+    go true = record { busy = refl; table = λ e. refl; childless = λ e. refl }
+    go false = record { busy = refl; table = never′; childless = λ e. refl }
 
 ruled-lawful : {table : Table} {a : Acted} → ActLawful table a → ActLawful table (ruled a)
-ruled-lawful l = record { busy = l .busy; table = l .table }
+ruled-lawful l = record { busy = l .busy; table = l .table; childless = l .childless }
 
-act-lawful : (sum : Rule) (table : Table) (t : Thread) (op : Op) → ActLawful table (act sum table t op)
+pub act-lawful : (sum : Rule) (table : Table) (t : Thread) (op : Op) → ActLawful table (act sum table t op)
 unfolding act perform
-act-lawful sum table t (code.push n) = record { busy = refl; table = λ e. refl }
-act-lawful sum table t code.add = record { busy = refl; table = λ e. refl }
-act-lawful sum table t (code.read v) = record { busy = refl; table = λ e. refl }
-act-lawful sum table t (code.write v) = record { busy = refl; table = λ e. refl }
-act-lawful sum table t code.begin = record { busy = refl; table = λ e. refl }
+act-lawful sum table t (code.push n) = record { busy = refl; table = λ e. refl; childless = λ e. refl }
+act-lawful sum table t code.add = record { busy = refl; table = λ e. refl; childless = λ e. refl }
+act-lawful sum table t (code.read v) = record { busy = refl; table = λ e. refl; childless = λ e. refl }
+act-lawful sum table t (code.write v) = record { busy = refl; table = λ e. refl; childless = λ e. refl }
+act-lawful sum table t code.begin = record { busy = refl; table = λ e. refl; childless = λ e. refl }
 act-lawful sum table t code.commit = ruled-lawful (commit-lawful table t _)
-act-lawful sum table t (code.fork size) = record { busy = refl; table = λ e. refl }
+act-lawful sum table t (code.fork size) = record { busy = refl; table = λ e. refl; childless = never′ }
 
 pub never-idle : (sum : Rule) (table : Table) (t : Thread) (op : Op) → isIdle (act sum table t op .event) ≡ false
 never-idle sum table t op = act-lawful sum table t op .busy

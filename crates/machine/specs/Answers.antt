@@ -87,6 +87,10 @@ pub record Told : Type 0 where
   pub event : Event
   pub over : ℕ
 
+-- what a pick tells
+abbrev pub tells : Stepped → Told
+tells r = record { event = r .event; over = r .over }
+
 -- what the answer of a step says
 abbrev pub stepSays : StepReply → Outcome Told
 stepSays r = saying (r .refusal) (r .place) (record { event = eventOf (r .event) (r .register) (r .turn); over = r .over })

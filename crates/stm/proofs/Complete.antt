@@ -28,11 +28,11 @@ abbrev pub Below : ℕ → List ℕ → Type 0
 Below n [] = Unit {0}
 Below n (i ∷ is) = (i < n) × Below n is
 
-below-append : (n : ℕ) (is js : List ℕ) → Below n is → Below n js → Below n (is ++ js)
+pub below-append : (n : ℕ) (is js : List ℕ) → Below n is → Below n js → Below n (is ++ js)
 below-append n [] js a b = b
 below-append n (i ∷ is) js a b = (a .0, below-append n is js (a .1) b)
 
-below-more : (n m : ℕ) (is : List ℕ) → n ≤ m → Below n is → Below m is
+pub below-more : (n m : ℕ) (is : List ℕ) → n ≤ m → Below n is → Below m is
 below-more n m [] l a = tt
 below-more n m (i ∷ is) l a = (let x : i < n = a .0 in omega arith, below-more n m is l (a .1))
 

@@ -88,6 +88,17 @@ pub tally-behind : (e : Event) (over : ℕ) (a b : Counts) → together (tally e
 unfolding tally
 tally-behind e over a b = same-counts (more-behind (not (isIdle e)) _ _) (more-behind (isIdle e) _ _) (more-behind (isCommit e) _ _) (more-behind (isBack e) _ _) (omega arith)
 
+-- two picks' counts go in either order
+pub tally-swap : (e f : Event) (a b : ℕ) (c : Counts) → tally e a (tally f b c) ≡ tally f b (tally e a c)
+unfolding tally
+tally-swap e f a b c = same-counts (swap (not (isIdle e)) (not (isIdle f)) (c .steps)) (swap (isIdle e) (isIdle f) (c .idle)) (swap (isCommit e) (isCommit f) (c .commits)) (swap (isBack e) (isBack f) (c .back)) (omega arith)
+  where
+    swap : (x y : Bool) (n : ℕ) → more x (more y n) ≡ more y (more x n)
+    swap true true n = refl
+    swap true false n = refl
+    swap false true n = refl
+    swap false false n = refl
+
 -- nothing counted before or behind
 pub together-none : (a : Counts) → together uncounted a ≡ a
 together-none a = same-counts (omega arith) (omega arith) (omega arith) (omega arith) (omega arith)
