@@ -7,4 +7,5 @@ pub mod Rules
 pub mod Staleness
 pub mod Refusals
 pub mod Formulas
+pub mod Exchanges
 pub mod Calls

@@ -26,3 +26,4 @@ pub mod Ruled
 pub mod Cuts
 pub mod Beside
 pub mod Written
+pub mod Exchanges

@@ -6,5 +6,6 @@ pub mod Fits
 pub mod FitTest
 pub mod Answers
 pub mod Written
+pub mod Exchange
 pub mod Stands
 pub mod InnerStands
