@@ -156,7 +156,8 @@ typedef struct kuspigo_fresh_reply {
     size_t place;
 } kuspigo_fresh_reply;
 
-/* What a pick did: the rule that it used. */
+/* What a pick did: the rule that it used. Two neighbouring picks of different numbers may be exchanged unless one of them is
+ * KUSPIGO_FORK or KUSPIGO_COMMIT: each does the same in either order, and the state and all counts behind them are the same. */
 enum kuspigo_event {
     KUSPIGO_IDLE = 0, /* the thread does not exist or has ended */
     KUSPIGO_PUSH = 1,

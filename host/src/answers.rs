@@ -45,6 +45,13 @@ impl Event {
         Event::SentBack,
     ];
 
+    /// Whether a pick that did this may be exchanged with a neighbouring one that is free too and names another thread:
+    /// it did neither a FORK nor a commit that took effect. Each then does the same in either order, and the state and
+    /// all counts behind them are the same.
+    pub fn is_free(self) -> bool {
+        !matches!(self, Event::Fork | Event::Commit)
+    }
+
     /// The event that has this number, if one has.
     pub fn from_number(number: usize) -> Option<Event> {
         Event::ALL.get(number).copied()

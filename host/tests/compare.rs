@@ -1,7 +1,7 @@
 //! The library beside the plain implementation, on random cases of each call: answers and all memory must be equal. And
 //! its forecasts beside its own code and finished runs, its last rules and send-backs beside what its steps tell, its
-//! registers' counts beside the write logs of its commits, and what it says of a formula beside what it says of its
-//! beginnings.
+//! registers' counts beside the write logs of its commits, what it says of a formula beside what it says of its
+//! beginnings, and runs of a list of picks beside those of the list with neighbouring picks exchanged.
 //!
 //! KUSPIGO_SEED and KUSPIGO_CASES (for each call) choose the cases. An argument runs only the calls whose name has it.
 
@@ -14,6 +14,8 @@ use std::fmt::{Debug, Write};
 use std::time::Instant;
 use tree::{Process, Transaction};
 
+#[path = "compare/exchanges.rs"]
+mod exchanges;
 #[path = "compare/texts.rs"]
 mod texts;
 
@@ -82,7 +84,7 @@ struct Call {
     reaches: &'static [&'static [&'static str]],
 }
 
-const CALLS: [Call; 13] = [
+const CALLS: [Call; 14] = [
     Call {
         name: "compile",
         case: compile,
@@ -290,6 +292,7 @@ const CALLS: [Call; 13] = [
     },
     Call { name: "formula", case: texts::formula, reaches: &[&texts::REACHES] },
     Call { name: "begun", case: texts::begun, reaches: &[&texts::BEGUN] },
+    Call { name: "exchanged", case: exchanges::exchanged, reaches: &[&exchanges::REACHES] },
 ];
 
 /// How often each thing came.

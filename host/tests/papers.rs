@@ -1,5 +1,6 @@
 //! The cases of documents 01 and 02, and forecasts, sums, the nodes of long transactions, send-backs, the registers'
-//! counts and formulas worked out by hand, of the library through its wrapper and of the plain implementation.
+//! counts, formulas and exchanged picks worked out by hand, of the library through its wrapper and of the plain
+//! implementation.
 
 use kuspigo::{Counts, Event, Forecast, Reason, Refusal, Rule, State, Step, Thread};
 use plain::samples::{self, chain, Lean, Rng, Shape};
@@ -837,6 +838,249 @@ fn other_than_64_counts() {
         assert_eq!(plain::run(&code, &mut state.registers, &mut counts, &mut state.threads, &[0]), refused(12, 0));
         assert_eq!((&counts, &state), (&before, &fresh));
     }
+}
+
+/// With what picks end behind others, from a fresh state: the state, their counts, and what each one did.
+fn end_of(code: &[u8], before: &[u8], picks: &[u8]) -> (State, Counts, Vec<Step>) {
+    let mut state = State::fresh(code).unwrap();
+    ran(&mut state, code, before).unwrap();
+    let mut single = state.clone();
+    let counts = ran(&mut state, code, picks).unwrap();
+    let steps = picks.iter().map(|&pick| single.step(code, pick).unwrap()).collect();
+    assert_eq!(single, state);
+    (state, counts, steps)
+}
+
+/// The threads that took turns.
+fn order(picks: &[u8], steps: &[Step]) -> Vec<u8> {
+    picks.iter().zip(steps).filter(|(_, step)| step.turn).map(|(&pick, _)| pick).collect()
+}
+
+/// A record with these cells on its stack.
+fn record([start, end, place]: [usize; 3], stack: &[i32], last: Rule) -> Thread {
+    let mut thread = Thread { start, end, place, height: stack.len(), ..Thread::ABSENT };
+    thread.cells[..stack.len()].copy_from_slice(stack);
+    thread.rule = last.number().unwrap();
+    thread
+}
+
+/// With these threads, and every register and count 0.
+fn state_of(threads: &[Thread]) -> State {
+    let mut state = State { registers: [0; 64], counts: [0; 64], threads: [Thread::ABSENT; 16] };
+    state.threads[..threads.len()].copy_from_slice(threads);
+    state
+}
+
+/// FORK of 1 + 2, and 3 + 4. Thread 1 has PUSH at 8 and 13 and ADD at 18, thread 0 FORK at 5, PUSH at 19 and 24 and
+/// ADD at 29 and 30.
+const TWO_SUMS: &[u8] = b"WSJ\x00\x01\x00\x08\x02\
+    \x04\x02\x01\x00\x00\x00\x01\x01\x00\x00\x00\x02\
+    \x02\x01\x00\x00\x00\x03\x01\x00\x00\x00\x04";
+
+#[test]
+fn sums_exchanged() {
+    let code = compiled(TWO_SUMS).unwrap();
+    assert_eq!((TWO_SUMS.len(), code.len()), (31, 31));
+    // both threads are at an ADD outside transactions
+    let before = [0, 1, 1, 0, 0];
+    let at_sums = state_of(&[record([5, 31, 29], &[0, 3, 4], Rule::Push), record([8, 19, 18], &[1, 2], Rule::Push)]);
+    assert_eq!(end_of(&code, &[], &before).0, at_sums);
+    let summed = state_of(&[record([5, 31, 30], &[0, 7], Rule::Sum), record([8, 19, 19], &[3], Rule::Sum)]);
+    for picks in [[0, 1], [1, 0]] {
+        let (state, counts, steps) = end_of(&code, &before, &picks);
+        assert_eq!((&state, counts), (&summed, Counts { steps: 2, ..Counts::default() }));
+        let sum = Step { event: Event::Sum, stale: None, turn: true, over: 0 };
+        assert_eq!(steps, [sum, sum]);
+        // the order of turns is another one
+        assert_eq!(order(&picks, &steps), picks);
+    }
+}
+
+#[test]
+fn idle_picks_exchanged() {
+    let code = compiled(TWO_SUMS).unwrap();
+    // thread 0 at a PUSH, and no thread 9
+    let before = [0, 1, 1, 0];
+    let pushed = state_of(&[record([5, 31, 29], &[0, 3, 4], Rule::Push), record([8, 19, 18], &[1, 2], Rule::Push)]);
+    for picks in [[0, 9], [9, 0]] {
+        let (state, counts, _) = end_of(&code, &before, &picks);
+        assert_eq!((&state, counts), (&pushed, Counts { steps: 1, idle: 1, ..Counts::default() }));
+    }
+    // no thread has these numbers; equal numbers make the same list
+    let unmoved = state_of(&[record([5, 31, 24], &[0, 3], Rule::Push), record([8, 19, 18], &[1, 2], Rule::Push)]);
+    for picks in [[16, 17], [17, 16], [15, 16], [16, 15], [255, 2], [2, 255], [5, 5]] {
+        let (state, counts, steps) = end_of(&code, &before, &picks);
+        assert_eq!((&state, counts), (&unmoved, Counts { idle: 2, ..Counts::default() }));
+        assert!(steps.iter().all(|step| step.event == Event::Idle));
+    }
+    // thread 1 has ended, thread 0 is at an ADD
+    for picks in [[0, 1], [1, 0]] {
+        let (state, counts, steps) = end_of(&code, &[0, 1, 1, 1, 0, 0], &picks);
+        let ended = state_of(&[record([5, 31, 30], &[0, 7], Rule::Sum), record([8, 19, 19], &[3], Rule::Sum)]);
+        assert_eq!((&state, counts), (&ended, Counts { steps: 1, idle: 1, ..Counts::default() }));
+        assert_eq!(order(&picks, &steps), [0]);
+    }
+}
+
+/// Thread 1 writes 5 to register 0 and goes on to a sum: BEGIN at 8, PUSH at 9, WRITE at 14, COMMIT at 16, PUSH at 17,
+/// ADD at 22. Thread 0 reads the register: FORK at 5, BEGIN at 23, READ at 24, COMMIT at 26, ADD at 27.
+fn writer_and_reader() -> Vec<u8> {
+    let writer = sum(atomic(write(0, Transaction::Val(5))), *number(6));
+    let code = compiled(&sum(fork(writer), atomic(Transaction::Read(0))).job()).unwrap();
+    assert_eq!(code.len(), 28);
+    code
+}
+
+#[test]
+fn reads_and_writes_exchanged() {
+    // READ beside WRITE of one register: the table has 0 either way
+    let code = writer_and_reader();
+    let read = Thread { begin: 23, base: 1, reads: 1, ..record([5, 28, 26], &[0, 0], Rule::ReadTable) };
+    let mut written = Thread { begin: 8, writes: 1, ..record([8, 23, 16], &[5], Rule::Write) };
+    written.writelog[0] = 5;
+    for picks in [[0, 1], [1, 0]] {
+        let (state, counts, steps) = end_of(&code, &[0, 0, 1, 1], &picks);
+        assert_eq!((&state, counts), (&state_of(&[read, written]), Counts { steps: 2, ..Counts::default() }));
+        assert_eq!(order(&picks, &steps), []);
+    }
+
+    // READ beside READ, behind a commit that wrote 7 to register 0
+    let reader = || atomic(Transaction::Read(0));
+    let both = sum(fork(reader()), sum(atomic(write(0, Transaction::Val(7))), reader()));
+    // thread 1: BEGIN at 8, READ at 9, COMMIT at 11; thread 0: FORK at 5, BEGIN, PUSH, WRITE, COMMIT from 12 to 20,
+    // BEGIN at 21, READ at 22, COMMIT at 24, two ADDs
+    let code = compiled(&both.job()).unwrap();
+    assert_eq!(code.len(), 27);
+    let log = |thread: Thread| {
+        let mut thread = Thread { reads: 1, ..thread };
+        (thread.readlog[0], thread.readcounts[0]) = (7, 1);
+        thread
+    };
+    let mut expected = state_of(&[
+        log(Thread { begin: 21, base: 2, ..record([5, 27, 24], &[0, 7, 7], Rule::ReadTable) }),
+        log(Thread { begin: 8, ..record([8, 12, 11], &[7], Rule::ReadTable) }),
+    ]);
+    (expected.registers[0], expected.counts[0]) = (7, 1);
+    for picks in [[0, 1], [1, 0]] {
+        let (state, counts, _) = end_of(&code, &[0, 0, 0, 0, 0, 0, 1], &picks);
+        assert_eq!((&state, counts), (&expected, Counts { steps: 2, ..Counts::default() }));
+    }
+}
+
+#[test]
+fn send_backs_exchanged() {
+    let code = writer_and_reader();
+    // thread 0 has read register 0 before thread 1's commit wrote it, and is at its COMMIT; thread 1 is at a PUSH
+    let back = Thread { backs: 1, ..record([5, 28, 23], &[0], Rule::SentBack(0)) };
+    let mut expected = state_of(&[back, record([8, 23, 22], &[5, 6], Rule::Push)]);
+    (expected.registers[0], expected.counts[0]) = (5, 1);
+    for picks in [[0, 1], [1, 0]] {
+        let (state, counts, steps) = end_of(&code, &[0, 0, 0, 1, 1, 1, 1], &picks);
+        assert_eq!((&state, counts), (&expected, Counts { steps: 2, back: 1, ..Counts::default() }));
+        assert_eq!(order(&picks, &steps), []);
+    }
+    // beside an outside sum, and beside an idle pick
+    let summed = record([8, 23, 23], &[11], Rule::Sum);
+    let mut expected = state_of(&[back, summed]);
+    (expected.registers[0], expected.counts[0]) = (5, 1);
+    for (before, lists, idle) in [
+        (&[0, 0, 0, 1, 1, 1, 1, 1][..], [[0, 1], [1, 0]], 0),
+        (&[0, 0, 0, 1, 1, 1, 1, 1, 1], [[0, 1], [1, 0]], 1),
+        (&[0, 0, 0, 1, 1, 1, 1, 1, 1], [[0, 16], [16, 0]], 1),
+    ] {
+        for picks in lists {
+            let (state, counts, _) = end_of(&code, before, &picks);
+            assert_eq!((&state, counts), (&expected, Counts { steps: 2 - idle, idle, back: 1, ..Counts::default() }));
+        }
+    }
+    // two send-backs: threads 1 and 2 read register 0, and thread 0 writes it
+    let reader = || fork(atomic(Transaction::Read(0)));
+    let code = compiled(&sum(sum(reader(), reader()), atomic(write(0, Transaction::Val(5)))).job()).unwrap();
+    let before = [0, 0, 0, 1, 1, 2, 2, 0, 0, 0, 0];
+    let one = end_of(&code, &before, &[1, 2]);
+    let other = end_of(&code, &before, &[2, 1]);
+    assert_eq!((&one.0, one.1), (&other.0, Counts { steps: 2, back: 2, ..Counts::default() }));
+    assert_eq!(one.1, other.1);
+    let backs = one.0.threads.map(|thread| (thread.last_rule(), thread.backs));
+    assert_eq!(backs[..3], [(Rule::Commit, 0), (Rule::SentBack(0), 1), (Rule::SentBack(0), 1)]);
+}
+
+/// A FORK and a commit that takes effect: with these the ends are other ones.
+#[test]
+fn which_events_are_free() {
+    for event in Event::ALL {
+        // 3 is fork, 9 a commit that took effect
+        assert_eq!(event.is_free(), ![3, 9].contains(&(event as usize)));
+    }
+}
+
+#[test]
+fn what_is_not_exchanged() {
+    // a FORK and its child's PUSH, which is idle before it: FORK at 5, PUSH at 8
+    let code = compiled(&fork(*number(7)).job()).unwrap();
+    let parent = record([5, 13, 13], &[0], Rule::Fork);
+    let (state, counts, _) = end_of(&code, &[], &[0, 1]);
+    assert_eq!(state, state_of(&[parent, record([8, 13, 13], &[7], Rule::Push)]));
+    assert_eq!(counts, Counts { steps: 2, ..Counts::default() });
+    let (state, counts, _) = end_of(&code, &[], &[1, 0]);
+    assert_eq!(state, state_of(&[parent, record([8, 13, 8], &[], Rule::None)]));
+    assert_eq!(counts, Counts { steps: 1, idle: 1, ..Counts::default() });
+
+    // two FORKs: the children have the numbers in the order of the FORKs. Thread 0 forks at 5 and 16, thread 1 at 8
+    let code = compiled(&sum(fork(fork(*number(1))), fork(*number(2))).job()).unwrap();
+    let starts = |picks: &[u8]| end_of(&code, &[0], picks).0.threads.map(|thread| thread.start);
+    assert_eq!(starts(&[0, 1])[..5], [5, 8, 19, 11, 0]);
+    assert_eq!(starts(&[1, 0])[..5], [5, 8, 11, 19, 0]);
+
+    // a commit and another's READ of what it writes: afterwards the READ is stale, or has the new value
+    let code = writer_and_reader();
+    let before = [0, 0, 1, 1, 1];
+    let read = |picks: &[u8]| {
+        let (mut state, counts, _) = end_of(&code, &before, picks);
+        assert_eq!((counts.steps, counts.commits, state.registers[0], state.counts[0]), (2, 1, 5, 1));
+        let thread = &state.threads[0];
+        let log = (thread.reads, thread.readlog[0], thread.readcounts[0]);
+        (log, state.step(&code, 0).unwrap().event)
+    };
+    assert_eq!(read(&[0, 1]), ((1, 0, 0), Event::SentBack));
+    assert_eq!(read(&[1, 0]), ((1, 5, 1), Event::Commit));
+
+    // a commit and another's COMMIT, in the whole case: the second one is sent back
+    let code = compiled(&whole_case()).unwrap();
+    let before = [0, 0, 1, 1, 1, 1, 1, 2, 2, 2, 2, 2];
+    for picks in [[1, 2], [2, 1]] {
+        let (state, counts, steps) = end_of(&code, &before, &picks);
+        assert_eq!(counts, Counts { steps: 2, commits: 1, back: 1, ..Counts::default() });
+        assert_eq!([steps[0].event, steps[1].event], [Event::Commit, Event::SentBack]);
+        let backs = state.threads.map(|thread| thread.backs);
+        assert_eq!(backs[..3], if picks == [1, 2] { [0, 0, 1] } else { [0, 1, 0] });
+    }
+}
+
+/// Thread 1's pick goes over thread 2's and then over thread 3's; and so on to all orders of the three.
+#[test]
+fn exchanges_one_after_the_other() {
+    let tree = sum(sum(fork(*number(1)), fork(*number(2))), fork(*number(3)));
+    let code = compiled(&tree.job()).unwrap();
+    // FORK at 5, 13 and 22, ADD at 21 and 30; PUSH at 8, 16 and 25
+    let expected = state_of(&[
+        record([5, 31, 30], &[0, 0], Rule::Fork),
+        record([8, 13, 13], &[1], Rule::Push),
+        record([16, 21, 21], &[2], Rule::Push),
+        record([25, 30, 30], &[3], Rule::Push),
+    ]);
+    for picks in [[1, 2, 3], [2, 1, 3], [2, 3, 1], [3, 2, 1], [3, 1, 2], [1, 3, 2]] {
+        let (state, counts, _) = end_of(&code, &[0, 0, 0, 0], &picks);
+        assert_eq!((&state, counts), (&expected, Counts { steps: 3, ..Counts::default() }));
+    }
+
+    // the whole case: from its picks to others by which its threads see the same
+    let code = compiled(&whole_case()).unwrap();
+    let exchanged = [vec![0, 0, 2, 1, 2, 2, 0, 1, 2, 2, 2], vec![1; 10]].concat();
+    let [whole, other] = [whole_picks(), exchanged].map(|picks| end_of(&code, &[], &picks));
+    assert_eq!((&whole.0, whole.1), (&other.0, other.1));
+    assert_eq!(whole.1, Counts { steps: 21, idle: 0, commits: 2, back: 1, over: 0 });
+    assert_ne!(whole.2, other.2);
 }
 
 #[test]

@@ -18,6 +18,8 @@ pub struct Call {
     /// Whether `--formula` was said.
     pub formula: bool,
     picks: Option<Picks>,
+    /// The second list of picks.
+    with: Option<PathBuf>,
     out: Option<PathBuf>,
 }
 
@@ -45,10 +47,20 @@ pub enum Word {
     Run,
     Trace,
     Picture,
+    Exchange,
 }
 
-const WORDS: [Word; 8] =
-    [Word::Formula, Word::Check, Word::Show, Word::Compile, Word::Back, Word::Run, Word::Trace, Word::Picture];
+const WORDS: [Word; 9] = [
+    Word::Formula,
+    Word::Check,
+    Word::Show,
+    Word::Compile,
+    Word::Back,
+    Word::Run,
+    Word::Trace,
+    Word::Picture,
+    Word::Exchange,
+];
 
 impl Word {
     fn named(name: &str) -> Option<Word> {
@@ -65,6 +77,7 @@ impl Word {
             Word::Run => "run",
             Word::Trace => "trace",
             Word::Picture => "picture",
+            Word::Exchange => "exchange",
         }
     }
 
@@ -75,7 +88,11 @@ impl Word {
             Word::Back => "CODE",
             _ => "JOB",
         };
-        let picks = if self.takes_picks() { picks } else { "" };
+        let picks = match self {
+            Word::Exchange => " --picks A --with B",
+            _ if self.takes_picks() => picks,
+            _ => "",
+        };
         let out = match self {
             Word::Compile => " -o CODE",
             Word::Formula | Word::Back => " -o JOB",
@@ -95,6 +112,7 @@ impl Word {
             Word::Run => "run a job, and print what the run program prints",
             Word::Trace => "run a job, and say what each pick did",
             Word::Picture => "run a job, and draw its threads",
+            Word::Exchange => "say whether exchanges of picks lead from A to B",
         }
     }
 
@@ -131,6 +149,22 @@ impl Word {
                  400 picks, wider for more. In a browser each pick tells what it did. It follows the\n\
                  reader's light or dark setting.\n"
             }
+            Word::Exchange => {
+                "A and B are files of picks, each byte the number of a thread; at most 32,768. Says whether B follows\n\
+                 from A, from the job's fresh state: whether one comes from A to B by exchanging two neighbouring\n\
+                 picks of different threads, neither doing a FORK nor a commit that takes effect, again and again,\n\
+                 what they do being judged in the list as it then is. An idle pick is one of its number.\n\
+                 \n\
+                 If B follows, the status is 0: both end in the same state with the same counts. Those are printed,\n\
+                 with how many exchanges are the fewest, and whether the order of turns is the same. If it does not,\n\
+                 the status is 1, and standard output says at which pick of B, counted from 1, and why: no list that\n\
+                 follows from A begins with B's picks up to that one.\n\
+                 \n\
+                 This answer is the program's own reading of the request, and is not proved. What each pick does and\n\
+                 the states at the ends are the library's. It is proved that a list follows exactly if each number\n\
+                 sees the same: its own picks with what they do, and every FORK and commit that took effect, in one\n\
+                 order (README, guarantee/specs/Exchanges).\n"
+            }
         }
     }
 
@@ -144,11 +178,17 @@ impl Word {
             Word::Run => "kuspigo run scan.job --picks scan.picks",
             Word::Trace => "kuspigo trace scan.job --round-robin",
             Word::Picture => "kuspigo picture scan.job --random 7 -o scan.svg",
+            Word::Exchange => "kuspigo exchange scan.job --picks scan.picks --with other.picks",
         }
     }
 
     fn takes_picks(self) -> bool {
         matches!(self, Word::Run | Word::Trace | Word::Picture)
+    }
+
+    /// Two lists of picks.
+    fn takes_lists(self) -> bool {
+        matches!(self, Word::Exchange)
     }
 
     fn takes_out(self) -> bool {
@@ -207,6 +247,7 @@ fn help() -> String {
     }
     text += &format!(
         "\n{JOB}\nformula and show take FILE or --text; show --formula prints any script as a formula.\n\n{PICKS}\n\
+         A and B are files of picks, as behind --picks.\n\n\
          -o is also --output, and -e is --text. A file named - is standard input, or after -o standard\n\
          output.\n\n"
     );
@@ -216,8 +257,8 @@ fn help() -> String {
     }
     text += "  kuspigo trace --text 'fork atomic(r0 := r0 + 1) + fork atomic(r0 := r0 + 1)' --round-robin\n\n\
         kuspigo WORD --help tells more, kuspigo --version the version. The status is 0, or 1 if a\n\
-        formula, job, code or list is refused or a file cannot be read or written, or 2 if the command\n\
-        line is not understood.\n\n\
+        formula, job, code or list is refused, a file cannot be read or written, or exchange says no, or\n\
+        2 if the command line is not understood.\n\n\
         This program is not proved. What is refused, the jobs of formulas, what is compiled and read\n\
         back, each step and the listing come from the proved library, which it calls.\n";
     text
@@ -227,6 +268,14 @@ impl Call {
     /// For words that take picks.
     pub fn picks(&self) -> &Picks {
         self.picks.as_ref().expect("the command line has picks")
+    }
+
+    /// The two lists of `exchange`.
+    pub fn lists(&self) -> [&Path; 2] {
+        match (&self.picks, &self.with) {
+            (Some(Picks::File(picks)), Some(with)) => [picks, with],
+            _ => unreachable!("the command line has two lists"),
+        }
     }
 
     /// For words that take an output.
@@ -265,7 +314,7 @@ pub fn parse(mut arguments: impl Iterator<Item = OsString>) -> Result<Request, F
         }
         ("--version" | "-V", _) => Ok(Request::Say(format!("kuspigo {}\n", env!("CARGO_PKG_VERSION")))),
         (_, Some(word)) => {
-            Parser { word, file: None, text: None, formula: false, picks: None, out: None }.all(arguments)
+            Parser { word, file: None, text: None, formula: false, picks: None, with: None, out: None }.all(arguments)
         }
         _ => Err(usage(&format!("there is no word `{}`", crate::plain_text(&first)))),
     }
@@ -289,6 +338,7 @@ struct Parser {
     text: Option<Vec<u8>>,
     formula: bool,
     picks: Option<Picks>,
+    with: Option<PathBuf>,
     out: Option<PathBuf>,
 }
 
@@ -312,7 +362,7 @@ impl Parser {
                 (_, joined) => joined,
             };
             let valued = match &*name {
-                "--picks" | "--random" | "--text" | "-e" | "-o" | "--output" => true,
+                "--picks" | "--with" | "--random" | "--text" | "-e" | "-o" | "--output" => true,
                 "--formula" | "--round-robin" | "--help" | "-h" | "--" => false,
                 _ => return Err(self.usage(&format!("there is no option {shown}"))),
             };
@@ -329,6 +379,7 @@ impl Parser {
                 "--formula" => self.set_formula()?,
                 "--text" | "-e" => self.set_text(value)?,
                 "--picks" => self.set_picks(Picks::File(value.into()))?,
+                "--with" => self.set_with(value.into())?,
                 "--round-robin" => self.set_picks(Picks::RoundRobin)?,
                 "--random" => {
                     let seed = value.to_string_lossy().parse();
@@ -345,6 +396,9 @@ impl Parser {
         match self.file.replace(file.into()) {
             None => Ok(()),
             Some(_) if self.word.takes_picks() => Err(self.usage("one file is enough; that of picks follows --picks")),
+            Some(_) if self.word.takes_lists() => {
+                Err(self.usage("one file is enough; those of picks follow --picks and --with"))
+            }
             Some(_) => Err(self.usage("one file is enough")),
         }
     }
@@ -369,12 +423,26 @@ impl Parser {
     }
 
     fn set_picks(&mut self, picks: Picks) -> Result<(), Failure> {
-        if !self.word.takes_picks() {
-            return Err(self.usage("no picks are taken"));
+        match (self.word, &picks) {
+            (Word::Exchange, Picks::File(_)) => {}
+            (Word::Exchange, _) => return Err(self.usage("the picks are files")),
+            (word, _) if !word.takes_picks() => return Err(self.usage("no picks are taken")),
+            _ => {}
         }
         match self.picks.replace(picks) {
             None => Ok(()),
+            Some(_) if self.word.takes_lists() => Err(self.usage("one --picks is enough")),
             Some(_) => Err(self.usage("one of --picks, --round-robin and --random is enough")),
+        }
+    }
+
+    fn set_with(&mut self, picks: PathBuf) -> Result<(), Failure> {
+        if !self.word.takes_lists() {
+            return Err(self.usage("no second list is taken"));
+        }
+        match self.with.replace(picks) {
+            None => Ok(()),
+            Some(_) => Err(self.usage("one --with is enough")),
         }
     }
 
@@ -394,34 +462,44 @@ impl Parser {
             (Some(_), Some(_)) => return Err(self.usage("a file or --text is enough")),
             _ => {}
         }
-        if self.word.takes_picks() && self.picks.is_none() {
+        if (self.word.takes_picks() || self.word.takes_lists()) && self.picks.is_none() {
             return Err(self.usage("which picks?"));
+        }
+        if self.word.takes_lists() && self.with.is_none() {
+            return Err(self.usage("with which other picks?"));
         }
         if self.word.takes_out() && self.out.is_none() {
             return Err(self.usage("where to? -o FILE"));
         }
-        let standard = self.file.as_deref().is_some_and(crate::is_standard);
-        if standard && matches!(&self.picks, Some(Picks::File(picks)) if crate::is_standard(picks)) {
-            return Err(self.usage("job and picks cannot both be standard input"));
+        if self.read_files().filter(|file| crate::is_standard(file)).count() > 1 {
+            return Err(self.usage(match self.word.takes_lists() {
+                true => "one of job and lists can be standard input",
+                false => "job and picks cannot both be standard input",
+            }));
         }
         if let Some(out) = self.out.as_deref().filter(|out| self.reads(out)) {
             return Err(self.usage(&format!("{} is read, and would be overwritten", crate::named(out))));
         }
-        let Parser { word, file, text, formula, picks, out } = self;
+        let Parser { word, file, text, formula, picks, with, out } = self;
         let source = match file {
             Some(file) => Source::File(file),
             None => Source::Text(text.expect("tested above")),
         };
-        Ok(Request::Do(Call { word, source, formula, picks, out }))
+        Ok(Request::Do(Call { word, source, formula, picks, with, out }))
     }
 
-    /// Whether an output is a file that is read.
-    fn reads(&self, out: &Path) -> bool {
+    /// The files that are read.
+    fn read_files(&self) -> impl Iterator<Item = &PathBuf> {
         let picks = match &self.picks {
             Some(Picks::File(picks)) => Some(picks),
             _ => None,
         };
-        self.file.iter().chain(picks).any(|file| crate::same_file(file, out))
+        self.file.iter().chain(picks).chain(&self.with)
+    }
+
+    /// Whether an output is a file that is read.
+    fn reads(&self, out: &Path) -> bool {
+        self.read_files().any(|file| crate::same_file(file, out))
     }
 
     fn usage(&self, what: &str) -> Failure {

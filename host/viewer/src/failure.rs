@@ -15,6 +15,8 @@ pub enum Failure {
     Refused { file: String, bytes: Vec<u8>, refusal: Refusal },
     /// The library refused a formula, or the job that it would make.
     RefusedFormula { name: String, text: Vec<u8>, refusal: Refusal },
+    /// The answer is no, and standard output has it.
+    No,
 }
 
 impl Failure {
@@ -30,7 +32,7 @@ impl Failure {
     pub fn status(&self) -> u8 {
         match self {
             Failure::Usage(_) => 2,
-            Failure::File(..) | Failure::Refused { .. } | Failure::RefusedFormula { .. } => 1,
+            Failure::File(..) | Failure::Refused { .. } | Failure::RefusedFormula { .. } | Failure::No => 1,
         }
     }
 }
@@ -51,6 +53,7 @@ impl fmt::Display for Failure {
             Failure::RefusedFormula { name, text, refusal } => {
                 write!(f, "kuspigo: {name}: {refusal}\n{}", telling::told(text, *refusal))
             }
+            Failure::No => Ok(()),
         }
     }
 }

@@ -5,7 +5,9 @@
 //! left, the listing.
 
 mod args;
+mod exchange;
 mod failure;
+mod follows;
 mod formula;
 mod input;
 mod picture;
@@ -18,6 +20,7 @@ mod walk;
 
 use args::{Call, Picks, Request, Word};
 use failure::Failure;
+use follows::Ran;
 use input::{Accepted, Input};
 use kuspigo::State;
 use progress::Progress;
@@ -57,6 +60,7 @@ fn perform(request: Request) -> Result<(), Failure> {
         Word::Run => run(&call),
         Word::Trace => trace(&call),
         Word::Picture => picture(&call),
+        Word::Exchange => exchange(&call),
     }
 }
 
@@ -124,6 +128,31 @@ fn picture(call: &Call) -> Result<(), Failure> {
     write(call.out(), picture::svg(&title, &picks).as_bytes())
 }
 
+/// Whether the second list follows from the first. What is said is on standard output, the status is 1 if it does not.
+fn exchange(call: &Call) -> Result<(), Failure> {
+    let input = Input::read(call)?;
+    let [first, second] = call.lists();
+    let [picks, others] = [read(first)?, read(second)?];
+    let Accepted { code, .. } = input.accepted()?;
+    let (follows, text) = follows::told(&code, &[ran(&code, first, picks)?, ran(&code, second, others)?]);
+    print(text.as_bytes())?;
+    match follows {
+        true => Ok(()),
+        false => Err(Failure::No),
+    }
+}
+
+/// With what a file's picks end, from the fresh state, if the library does not refuse them. That all are idle is said.
+fn ran(code: &[u8], file: &Path, picks: Vec<u8>) -> Result<Ran, Failure> {
+    let name = named(file);
+    let mut state = State::fresh(code).expect("the library compiled this code");
+    let counts = state.run(code, &picks).map_err(|refusal| Failure::refused(name.clone(), &picks, refusal))?;
+    if counts.steps == 0 && counts.idle > 0 {
+        say(&format!("kuspigo: {name}: every pick is idle; its bytes are the threads' numbers\n"));
+    }
+    Ok(Ran { name, picks, state, counts })
+}
+
 /// A job that was accepted, and picks for it.
 struct Prepared {
     job: Vec<u8>,
@@ -143,14 +172,7 @@ impl Prepared {
         let Accepted { job, code } = input.accepted()?;
         let (list, whose) = match (call.picks(), given) {
             (_, Some((file, picks))) => {
-                // whether the list is refused
-                let mut state = State::fresh(&code).expect("the library compiled this code");
-                let counts =
-                    state.run(&code, &picks).map_err(|refusal| Failure::refused(named(file), &picks, refusal))?;
-                if counts.steps == 0 && counts.idle > 0 {
-                    say(&format!("kuspigo: {}: every pick is idle; its bytes are the threads' numbers\n", named(file)));
-                }
-                (List::Given(picks), format!("picks of {}", short_name(file)))
+                (List::Given(ran(&code, file, picks)?.picks), format!("picks of {}", short_name(file)))
             }
             (Picks::Random(seed), None) => (List::random(*seed), format!("random picks, seed {seed}")),
             (_, None) => (List::RoundRobin, "round robin".to_string()),

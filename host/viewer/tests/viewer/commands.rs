@@ -14,6 +14,8 @@ fn the_examples_are_what_they_are_said_to_be() {
     };
     assert_eq!(example("whole.job"), Process::Add(Box::new(increment()), Box::new(increment())).job());
     assert_eq!(example("whole.picks"), [vec![0; 3], vec![1; 2], vec![2; 6], vec![1; 10]].concat());
+    // the same up to the second FORK and from the first commit on
+    assert_eq!(example("whole.exchanged.picks"), [vec![0, 0, 2, 1, 2, 2, 0, 1, 2, 2, 2], vec![1; 10]].concat());
 
     // fifteen tasks that each note the sum of two shared registers and then add 1 to one of them; the root adds 1 to r63
     let atomic = |register, sum| Process::Atomic(Box::new(Transaction::Write(register, Box::new(sum))));
@@ -45,6 +47,7 @@ fn help_names_every_word() {
         ("run", "kuspigo run JOB PICKS"),
         ("trace", "kuspigo trace JOB PICKS"),
         ("picture", "kuspigo picture JOB PICKS -o FILE.svg"),
+        ("exchange", "kuspigo exchange JOB --picks A --with B"),
     ] {
         assert!(help.out.contains(&format!("\n  {usage} ")), "{word}");
         let more = said(&here, &[word, "--help"]);
@@ -96,6 +99,28 @@ fn a_command_line_that_is_not_understood() {
         ),
         (&["run", "-", "--picks", "-"], "kuspigo run: job and picks cannot both be standard input"),
         (&["run", "--formula", "-", "--picks", "-"], "kuspigo run: job and picks cannot both be standard input"),
+        (&["run", "a", "--picks", "b", "--with", "c"], "kuspigo run: no second list is taken"),
+        (&["exchange", "--picks", "a", "--with", "b"], "kuspigo exchange: which file?"),
+        (&["exchange", "a", "--with", "b"], "kuspigo exchange: which picks?"),
+        (&["exchange", "a", "--picks", "b"], "kuspigo exchange: with which other picks?"),
+        (&["exchange", "a", "--picks", "b", "--with"], "kuspigo exchange: --with needs a value"),
+        (&["exchange", "a", "--picks", "b", "--picks", "c"], "kuspigo exchange: one --picks is enough"),
+        (&["exchange", "a", "--with", "b", "--with", "c"], "kuspigo exchange: one --with is enough"),
+        (&["exchange", "a", "--round-robin", "--with", "b"], "kuspigo exchange: the picks are files"),
+        (&["exchange", "a", "--picks", "b", "--random", "1"], "kuspigo exchange: the picks are files"),
+        (
+            &["exchange", "a", "b", "--picks", "c"],
+            "kuspigo exchange: one file is enough; those of picks follow --picks and --with",
+        ),
+        (
+            &["exchange", "-", "--picks", "a", "--with", "-"],
+            "kuspigo exchange: one of job and lists can be standard input",
+        ),
+        (&["exchange", "a", "--picks=-", "--with=-"], "kuspigo exchange: one of job and lists can be standard input"),
+        (
+            &["exchange", "a", "--picks", "b", "--with", "c", "-o", "d"],
+            "kuspigo exchange: nothing is written to a file",
+        ),
     ] {
         let said = said(&here, arguments);
         assert_eq!((said.err.lines().next(), said.out.as_str(), said.status), (Some(what), "", 2));

@@ -56,13 +56,14 @@ fn formula_makes_the_job() {
 }
 
 /// The words that take a job, with what else they need.
-const WORDS: [&[&str]; 6] = [
+const WORDS: [&[&str]; 7] = [
     &["check"],
     &["show"],
     &["compile", "-o", "-"],
     &["run", "--picks", "whole.picks"],
     &["trace", "--round-robin"],
     &["picture", "--random", "7", "-o", "-"],
+    &["exchange", "--picks", "whole.picks", "--with", "whole.exchanged.picks"],
 ];
 
 #[test]

@@ -58,7 +58,7 @@ pub fn folder(name: &str) -> PathBuf {
     let folder = Path::new(env!("CARGO_TARGET_TMPDIR")).join("viewer").join(name);
     let _ = std::fs::remove_dir_all(&folder);
     std::fs::create_dir_all(&folder).expect("there is room for a test's files");
-    for file in ["whole.job", "whole.formula", "whole.picks", "sixteen.job"] {
+    for file in ["whole.job", "whole.formula", "whole.picks", "whole.exchanged.picks", "sixteen.job"] {
         put(&folder, file, &example(file));
     }
     folder
