@@ -1,4 +1,5 @@
 // What a job will need, told from its bytes: nothing is compiled, nothing is run.
+#![tactic(auto)]
 ghost use Rattle.std.specs.Prelude.{ℕ, ◌+◌, ◌*◌, ◌-◌, ◌<◌, ◌≤◌, max, set, List, ◌≡◌};
 ghost use Rattle.forecast.specs.Figures.{forecast_of, refused_with};
 ghost use Rattle.forecast.specs.InnerWalk.{Accepts, CanCount, Small, advanced, begun, behind, counted, first_cursor, forked, inside, raised, state_of, totals_of, with_read, with_totals, with_write};

@@ -1,4 +1,5 @@
 // What the calls that run the machine answer. What one pick does is defined in specs/.
+#![tactic(auto)]
 
 // The answer of `fresh`: document 01's number of the refusal, 0 if there is none, and the place.
 #[repr(C)]

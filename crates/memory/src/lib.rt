@@ -1,4 +1,5 @@
 // The memory that the test program lends to the calls: registers, counts and records by value, and how many of them are lent.
+#![tactic(auto)]
 ghost use Rattle.std.specs.Prelude.{◌≡◌, false};
 ghost use Rattle.memory.specs.Memories.{leaving, provided, sevens, untouched};
 

@@ -61,6 +61,7 @@ take_both (put at same) (there at') =
     let t = take_both same at' in
     let w = swap at t.picks in
     record { others' = w.others; picks = w.first; same = put w.second t.same }
+take_both {A = A} {p = p} {others = others} none x4 = elim x4 [ ]
 
 -- the processes `new` put in before b, and behind all
 added : {A : Type 0} (new f b : List A) {l : List A} → Same (f ++ b) l → Same (f ++ (new ++ b)) (l ++ new)

@@ -1,4 +1,5 @@
 // The run program: reads a job and picks from standard input, and writes the listing of the run.
+#![tactic(auto)]
 use delivery::Answer;
 
 // Writes what an input prints.

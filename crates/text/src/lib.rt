@@ -1,4 +1,5 @@
 // Text for the test programs: lines, words, numbers and bytes in hex are taken apart, and what a case comes to is written.
+#![tactic(auto)]
 ghost use Rattle.std.specs.Prelude.{◌≡◌, ◌+◌, ◌-◌, ◌*◌, ◌%◌, ◌<◌, ◌≤◌, min, false, ◌&&◌, length, take, drop, nat_lt, slice_index};
 ghost use Rattle.io.specs.Counts.{IsPrefixLen};
 ghost use Rattle.text.specs.Texts.{

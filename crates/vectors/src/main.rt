@@ -29,6 +29,7 @@
 // not 0, and a checksum over all registers, counts and records; of a refusal whether the memory was `kept`. `cut` runs the picks in one call and in
 // two, cut at each place: `same` if both leave the same and the counts add up, else `differs at` the first such place. `calls` runs the lists of
 // picks between '|', each in a call on the state that is there, and writes the answer of each with the table's counts, and at the end the state.
+#![tactic(auto)]
 mod outputs;
 mod states;
 
