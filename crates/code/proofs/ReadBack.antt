@@ -433,9 +433,9 @@ unfolding text_of
 start_whole bs p w = w.text
 
 -- the text of a header and a tree, from what its bytes hold
-text_of : (j : Job) (a b c d e : ℕ) (rest : List ℕ) → d < 256 → e < 256 → a ≡ 87 → b ≡ 83 → c ≡ 67 → d * 256 + e ≡ j.version → rest ≡ flat_p j.tree → a ∷ b ∷ c ∷ d ∷ e ∷ rest ≡ compiled j
+text_of_lem : (j : Job) (a b c d e : ℕ) (rest : List ℕ) → d < 256 → e < 256 → a ≡ 87 → b ≡ 83 → c ≡ 67 → d * 256 + e ≡ j.version → rest ≡ flat_p j.tree → a ∷ b ∷ c ∷ d ∷ e ∷ rest ≡ compiled j
 unfolding code_mark
-text_of j a b c d e rest pd pe p q s v r = rw (compiled_flat j, p, q, s, ← v, bytes16_number16 d e pd pe, r)
+text_of_lem j a b c d e rest pd pe p q s v r = rw (compiled_flat j, p, q, s, ← v, bytes16_number16 d e pd pe, r)
 
 -- the bytes are the code of a tree within document 01's limits, in a version taken
 pub record IsCodeTree (bs : List ℕ) (j : Job) : Type 0 where
@@ -465,7 +465,7 @@ sound_long a b c d e rest j small h =
     (record {
       version = eqb-true _ _ (not-false _ t₃.0);
       sized = record { valued = r.valued; few = l.0; flat = l.1; narrow = l.2 };
-      text = text_of k a b c d e rest (bytes_head small₃) (bytes_head (bytes_tail small₃)) (eqb-true a 87 m.0) (eqb-true b 83 m'.0) (eqb-true c 67 m'.1) refl (start_whole rest p r);
+      text = text_of_lem k a b c d e rest (bytes_head small₃) (bytes_head (bytes_tail small₃)) (eqb-true a 87 m.0) (eqb-true b 83 m'.0) (eqb-true c 67 m'.1) refl (start_whole rest p r);
     })
 
 -- what is read back is the code of the job that is given, and that job is within document 01's limits

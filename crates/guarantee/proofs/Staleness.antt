@@ -32,7 +32,7 @@ use Rattle.machine.proofs.Fresh.{fresh_fits, fresh_typed}
 use Rattle.machine.proofs.Numbers.{exists_below, in_table}
 use Rattle.machine.proofs.Passing.{passed_once}
 use Rattle.machine.proofs.Picks.{missing_idle, ended_idle, run_append}
-use Rattle.machine.proofs.Showings.{Shows, shut, open', cell_at}
+use Rattle.machine.proofs.Showings.{Shows, shut, open', cell_at_lem}
 use Rattle.machine.proofs.Stale.{found_stale, found_none}
 use Rattle.machine.proofs.Written.{pick_raises, run_written}
 use Rattle.script.specs.Bytes.{Bytes}
@@ -473,7 +473,7 @@ module _ (job : List ℕ) (j : Job) (b : Bytes job) (accepted : read_job job ≡
       inside_tasks = subst (λ (n : ℕ). i < n) k.mirrors.number (exists_below now.state k.fit.no_gap i e)
 
       cell : cell_at register_cells sys.table v ≡ record { value = get_or now.state.registers v (pos 0); count = get_or now.state.counts v 0 }
-      cell = ap (λ (c : List Counted). cell_at register_cells c v) (sym k.mirrors.table) ∙ cell_at now.state.registers now.state.counts v
+      cell = ap (λ (c : List Counted). cell_at register_cells c v) (sym k.mirrors.table) ∙ cell_at_lem now.state.registers now.state.counts v
 
       go : (task : Task register_cells) → Shows (compiled j) t task → Good register_cells (sum_of j) sys.table task → get_or t.readlog v (pos 0) ≡ get_or now.state.registers v (pos 0)
       go task (shut c r o y) g =

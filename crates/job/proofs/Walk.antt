@@ -305,11 +305,11 @@ record PassedTests {t : Sort} (n f : ℕ) (bs : List ℕ) (node : Node t) : Type
   first : get_or bs 0 0 ≡ kind_byte node
 
 passed : (t : Sort) (n f p : ℕ) (bs : List ℕ) (node : Node t) → Bytes bs → f ≤ 15 → node_at (record { sort = t; depth = n }) f p bs ≡ done node → PassedTests n f bs node
-passed t n f p bs node b l e = let w = seen n f p t bs b l in go w.outcome w.sees (sym (node_sees w.sees) ∙ e)
+passed t n f p bs node b l e = let w = seen n f p t bs b l in go bs w.outcome w.sees (sym (node_sees w.sees) ∙ e)
   where
-    go : (o : Outcome (Node t)) → Sees n f p bs o → o ≡ done node → PassedTests n f bs node
-    go (refused k q) sees e = absurd (let z : ◌≡◌ {A = ℕ} 0 1 = cc in omega arith)
-    go (done _) (good node' rest v h g text) e =
+    go : (bs : List ℕ) (o : Outcome (Node t)) → Sees n f p bs o → o ≡ done node → PassedTests n f bs node
+    go bs (refused k q) sees e = absurd (let z : ◌≡◌ {A = ℕ} 0 1 = cc in omega arith)
+    go bs (done _) (good node' rest v h g text) e =
         subst
         (PassedTests n f bs)
         (cc)

@@ -46,8 +46,8 @@ zero_is (pos zero) e = refl
 zero_is (pos (suc a)) e = never (sym (rw (le-ltb (suc a) 0 (omega arith), lt-ltb 0 (suc a) (omega arith)) at e))
 zero_is (negsuc a) e = never (sym e)
 
-is_zero : (n : ℤ) → n ≡ pos 0 → is_zero n ≡ true
-is_zero n e = rw e
+is_zero_lem : (n : ℤ) → n ≡ pos 0 → is_zero n ≡ true
+is_zero_lem n e = rw e
 
 freed : (left v : ℕ) (marked : ℕ → Bool) (ns : List ℤ) → free_from left v marked ns ≡ true → (i : ℕ) → v ≤ i → i < v + left → marked i ≡ false → get_or ns i (pos 0) ≡ pos 0
 unfolding free_from
@@ -70,7 +70,7 @@ free-from (suc left) v marked ns f =
   where
     go : (b : Bool) → marked v ≡ b → (b || is_zero (get_or ns v (pos 0))) ≡ true
     go true m = refl
-    go false m = is_zero (get_or ns v (pos 0)) (f v m)
+    go false m = is_zero_lem (get_or ns v (pos 0)) (f v m)
 
 all_freed : (marked : ℕ → Bool) (ns : List ℤ) → length ns ≡ 64 → free marked ns ≡ true → (i : ℕ) → marked i ≡ false → get_or ns i (pos 0) ≡ pos 0
 all_freed marked ns n e i m = go (dec_lt i 64)
@@ -608,10 +608,10 @@ one-each (c ∷ cs) ts f =
     rw (has_one c ts (f c here)) (one-each cs ts (λ d i. f d (there i)))
 
 -- ---- the COMMITs passed by all threads, and the send-backs of each
-passed_by : (bytes : List ℕ) (ts : List Thread) → ((i : ℕ) → exists (at ts i) ≡ true → Placed bytes (at ts i)) → CommitsPassed bytes ts (commits_passed bytes ts)
+passed_by_lem : (bytes : List ℕ) (ts : List Thread) → ((i : ℕ) → exists (at ts i) ≡ true → Placed bytes (at ts i)) → CommitsPassed bytes ts (commits_passed bytes ts)
 unfolding commits_passed
-passed_by bytes [] f = no_records
-passed_by bytes (t ∷ ts) f = go (exists t) refl (passed_by bytes ts (λ i. f (suc i)))
+passed_by_lem bytes [] f = no_records
+passed_by_lem bytes (t ∷ ts) f = go (exists t) refl (passed_by_lem bytes ts (λ i. f (suc i)))
   where
     go : (b : Bool) → exists t ≡ b → CommitsPassed bytes ts (commits_passed bytes ts) → CommitsPassed bytes (t ∷ ts) (cond b (commits_of (walk_to bytes t)) 0 + commits_passed bytes ts)
     go true x p =
@@ -696,7 +696,7 @@ is_fit others bytes s y e =
       no_gap = f.no_gap;
       no_thread = f.no_thread;
       commits = commits_passed bytes ts;
-      passed = passed_by bytes ts f.placed;
+      passed = passed_by_lem bytes ts f.placed;
       tallied = λ i h. all-tallied (others + commits_passed bytes ts) (table_in s) ts y (first b8 b9 (second b6 b7 e5)) i;
       counted = all_most s.counts (others + commits_passed bytes ts) (eqb-true (length s.counts) 64 (first b0 (b3 && (b4 && (b5 && (b6 && b7)))) e0)) (second b8 b9 (second b6 b7 e5));
     }
@@ -746,13 +746,13 @@ fit others bytes s f =
         }
 
     most : (v : ℕ) → get_or s.counts v 0 ≤ others + commits_passed bytes s.threads
-    most v = subst (λ (n : ℕ). get_or s.counts v 0 ≤ others + n) (passed_once f.passed (passed_by bytes s.threads f.placed)) (f.counted v)
+    most v = subst (λ (n : ℕ). get_or s.counts v 0 ≤ others + n) (passed_once f.passed (passed_by_lem bytes s.threads f.placed)) (f.counted v)
 
     tallies : (i : ℕ) → BacksWithin (others + commits_passed bytes s.threads) (table_in s) (at s.threads i)
     tallies i = go (exists (at s.threads i)) refl
       where
         go : (b : Bool) → exists (at s.threads i) ≡ b → BacksWithin (others + commits_passed bytes s.threads) (table_in s) (at s.threads i)
-        go true x = subst (λ (n : ℕ). BacksWithin (others + n) (table_in s) (at s.threads i)) (passed_once f.passed (passed_by bytes s.threads f.placed)) (f.tallied i x)
+        go true x = subst (λ (n : ℕ). BacksWithin (others + n) (table_in s) (at s.threads i)) (passed_once f.passed (passed_by_lem bytes s.threads f.placed)) (f.tallied i x)
         go false x = subst (BacksWithin (others + commits_passed bytes s.threads) (table_in s)) (sym (f.no_thread i x)) (tallied_blank (others + commits_passed bytes s.threads) (table_in s))
 
     children : (i : ℕ) → exists (at (drop 1 s.threads) i) ≡ true → In (own_code (at (drop 1 s.threads) i)) (passed_by bytes s.threads)

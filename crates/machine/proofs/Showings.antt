@@ -105,15 +105,15 @@ counted_with set' ns ks v n k l e f = fun_ext (λ u. at u (eqb u v) refl)
         rw (member_other set' v u x, get_or-set_other ns v u n (pos 0) x, get_or-set_other ks v u k 0 x)
 
 -- ---- the table as cells
-pub cell_at : (rs : List ℤ) (ns : List ℕ) (v : ℕ) → cell_at register_cells (cells_from rs ns) v ≡ record { value = get_or rs v (pos 0); count = get_or ns v 0 }
+pub cell_at_lem : (rs : List ℤ) (ns : List ℕ) (v : ℕ) → cell_at register_cells (cells_from rs ns) v ≡ record { value = get_or rs v (pos 0); count = get_or ns v 0 }
 unfolding cells_from
-cell_at [] [] v = refl
-cell_at [] (n ∷ ns) zero = refl
-cell_at [] (n ∷ ns) (suc v) = cell_at [] ns v
-cell_at (r ∷ rs) [] zero = refl
-cell_at (r ∷ rs) [] (suc v) = cell_at rs [] v
-cell_at (r ∷ rs) (n ∷ ns) zero = refl
-cell_at (r ∷ rs) (n ∷ ns) (suc v) = cell_at rs ns v
+cell_at_lem [] [] v = refl
+cell_at_lem [] (n ∷ ns) zero = refl
+cell_at_lem [] (n ∷ ns) (suc v) = cell_at_lem [] ns v
+cell_at_lem (r ∷ rs) [] zero = refl
+cell_at_lem (r ∷ rs) [] (suc v) = cell_at_lem rs [] v
+cell_at_lem (r ∷ rs) (n ∷ ns) zero = refl
+cell_at_lem (r ∷ rs) (n ∷ ns) (suc v) = cell_at_lem rs ns v
 
 pub cells_length : (rs : List ℤ) (ns : List ℕ) → length rs ≡ length ns → length (cells_from rs ns) ≡ length rs
 unfolding cells_from
@@ -140,7 +140,7 @@ cells_set (r ∷ rs) (m ∷ ns) (suc v) n k e = ap (λ (l : List Counted). recor
 -- the first stale register, and the table with the write log in it
 stale_same : (t : Thread) (table : Table) (v : ℕ) → stale t table v ≡ stale_in register_cells (read_log t v) (cell_at register_cells (cells_of table) v)
 unfolding stale counted_log
-stale_same t table v = rw (cell_at table.registers table.counts v) (go (member t.reads v))
+stale_same t table v = rw (cell_at_lem table.registers table.counts v) (go (member t.reads v))
   where
     go : (b : Bool) → (b && not (eqb (get_or t.readcounts v 0) (get_or table.counts v 0))) ≡ stale_in register_cells (cond b (some (record { value = get_or t.readlog v (pos 0); count = get_or t.readcounts v 0 })) none) (record { value = get_or table.registers v (pos 0); count = get_or table.counts v 0 })
     go true = refl
@@ -169,7 +169,7 @@ written_same (suc left) v t rs ns e = go (member t.writes v) (λ rs' ns' e'. wri
     k = suc (get_or ns v 0)
 
     one : cells_from (set rs v n) (set ns v k) ≡ set (cells_from rs ns) v (record { value = n; count = suc (cell_at register_cells (cells_from rs ns) v).count })
-    one = sym (cells_set rs ns v n k e) ∙ ap (λ (c : Counted). set (cells_from rs ns) v (record { value = n; count = suc c.count })) (sym (cell_at rs ns v))
+    one = sym (cells_set rs ns v n k e) ∙ ap (λ (c : Counted). set (cells_from rs ns) v (record { value = n; count = suc c.count })) (sym (cell_at_lem rs ns v))
 
     go : (b : Bool) → ((rs' : List ℤ) (ns' : List ℕ) → length rs' ≡ length ns' → cells_from (overlaid left (suc v) t rs') (recounted left (suc v) t ns') ≡ overwritten register_cells left (suc v) (write_log t) (cells_from rs' ns')) → cells_from (overlaid left (suc v) t (cond b (set rs v (get_or t.writelog v (pos 0))) rs)) (recounted left (suc v) t (cond b (set ns v (suc (get_or ns v 0))) ns)) ≡ overwritten register_cells left (suc v) (write_log t) (tasks.entered register_cells (cond b (some (get_or t.writelog v (pos 0))) none) v (cells_from rs ns))
     go true f =

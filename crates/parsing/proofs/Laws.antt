@@ -55,9 +55,9 @@ pub both : (a b : Bool) → (a && b) ≡ true → (a ≡ true) × (b ≡ true)
 both true b e = (refl, e)
 both false b e = absurd (let z : ◌≡◌ {A = ℕ} 0 1 = cc in omega arith)
 
-pub is_at : (bs : List ℕ) (i b : ℕ) → i < length bs → get_or bs i 0 ≡ b → is_at bs i b ≡ true
+pub is_at_lem : (bs : List ℕ) (i b : ℕ) → i < length bs → get_or bs i 0 ≡ b → is_at bs i b ≡ true
 unfolding is_at
-is_at bs i b h e = rw (lt-ltb _ _ h, eq-eqb _ _ e)
+is_at_lem bs i b h e = rw (lt-ltb _ _ h, eq-eqb _ _ e)
 
 pub not_at : (bs : List ℕ) (i b : ℕ) → i < length bs → (get_or bs i 0 ≡ b → ⊥) → is_at bs i b ≡ false
 unfolding is_at
@@ -72,7 +72,7 @@ unfolding is_at
 there bs i b e = let h = both (ltb i (length bs)) (eqb (get_or bs i 0) b) e in (ltb-true _ _ h.0, eqb-true _ _ h.1)
 
 pub elsewhere : (bs : List ℕ) (i b : ℕ) → is_at bs i b ≡ false → i < length bs → get_or bs i 0 ≡ b → ⊥
-elsewhere bs i b e h g = let z : true ≡ false = sym (is_at bs i b h g) ∙ e in let n : ◌≡◌ {A = ℕ} 0 1 = cc in omega arith
+elsewhere bs i b e h g = let z : true ≡ false = sym (is_at_lem bs i b h g) ∙ e in let n : ◌≡◌ {A = ℕ} 0 1 = cc in omega arith
 
 -- ---- blanks
 pub record Skipping (bs : List ℕ) (from next : ℕ) : Type 0 where

@@ -147,7 +147,7 @@ module _ (inside : Bool) (bs : List ℕ) (at size nodes opened : ℕ) (before ou
 -- ---- a register behind a `+`
 register_settles : (bs : List ℕ) (v : ℕ) (c : TermIn transaction) (i j : ℕ) → i < length bs → get_or bs i 0 ≡ 114 → Later bs i c → (j < length bs → is_digit (get_or bs j 0) ≡ false) → read_from (register v c) (drop j bs) ≡ read_from (after (grown c (Read v)) (sum_in c)) (drop j bs)
 unfolding step finish behind_register grown sum_in
-register_settles bs v (first c) i j h e l k = absurd (let z : true ≡ false = sym (L.is_at bs i 114 h e) ∙ l.no_letter in let n : ◌≡◌ {A = ℕ} 0 1 = cc in omega arith)
+register_settles bs v (first c) i j h e l k = absurd (let z : true ≡ false = sym (L.is_at_lem bs i 114 h e) ∙ l.no_letter in let n : ◌≡◌ {A = ℕ} 0 1 = cc in omega arith)
 register_settles bs v (added a c) i j h e l k = Places.same_on bs (register v (added a c)) (after (sum transaction a (Read v)) c) j (λ m. rw (k m)) refl
 
 module _ (bs : List ℕ) (at size nodes opened : ℕ) (before out : List ℕ) (h : at < length bs) (e : get_or bs at 0 ≡ 114) where

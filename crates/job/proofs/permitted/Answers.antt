@@ -6,8 +6,7 @@ use native.Mathlib.Omega.{arith}
 use borrow.Author.Tests.{le-leb, lt-leb}
 use Rattle.script.specs.InnerTrees.{sort_of}
 use Rattle.script.specs.Reader.{permitted as may}
-use Rattle.job.proofs.permitted.Statement.{statement}
-use Rattle.job.proofs.permitted.Tie as tie
+use Rattle.job.proofs.permitted.Goals as goal
 
 within : (t : Bool) (k : ℕ) → 1 ≤ k → k < 5 → not t ≡ may (sort_of t) k
 unfolding may
@@ -29,17 +28,14 @@ unfolding may
 beyond true k h = rw (le-leb 5 k (omega arith), lt-leb k 8 h)
 beyond false k h = rw (le-leb 1 k (omega arith), lt-leb k 4 (omega arith))
 
-returns : tie.Need-returns
-returns c = within c.before.before.args.transaction _ c.before.if1.false c.if2.true
+pub returns-in-1-to-4 : goal.returns-in-1-to-4
+returns-in-1-to-4 c = within c.args.transaction _ c.in-1-to-4.if-kind-lt1-own.false c.in-1-to-4.if-kind-lt5-own.true
 
-returns-2 : tie.Need-returns-2
-returns-2 c = above c.before.before.before.args.transaction _ c.before.if2.false c.if3.true
+pub returns-in-5-to-8 : goal.returns-in-5-to-8
+returns-in-5-to-8 c = above c.args.transaction _ c.in-5-to-8.if-kind-lt5-own.false c.in-5-to-8.if-kind-lt9-own.true
 
-returns-3 : tie.Need-returns-3
-returns-3 c = below c.before.args.transaction _ c.if1.true
+pub returns-in_default : goal.returns-in_default
+returns-in_default c = below c.args.transaction _ c.in_default.if-kind-lt1-own.true
 
-returns-4 : tie.Need-returns-4
-returns-4 c = beyond c.before.before.before.args.transaction _ c.if3.false
-
-pub permitted-spec : {M : Type 1} → statement M
-permitted-spec = tie.close (tie.spec returns returns-2 returns-3 returns-4)
+pub returns-in_default-2 : goal.returns-in_default-2
+returns-in_default-2 c = beyond c.args.transaction _ c.in_default.if-kind-lt9-own.false
