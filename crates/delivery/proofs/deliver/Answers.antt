@@ -10,10 +10,6 @@ use Rattle.delivery.proofs.Delivers.{too_short, copy_delivers}
 use Rattle.delivery.proofs.Places.{copied}
 use Rattle.delivery.proofs.deliver.Goals as goal
 
--- GONE same-length
-same_length : goal.Need-same-length invariant-loop decreases-loop
-same_length c = c.before.loop.invariant.1
-
 pub returns-then-out-res : goal.returns-then-out-res
 returns-then-out-res c = too_short _ _ c.if-out-res.true
 
@@ -27,11 +23,11 @@ pub loop-i-preserved : goal.loop-i-preserved
 loop-i-preserved c =
     let l = c.loop-i in
     let a = c.args in
-    let h : l.i < length a.result.now = c.loop-i-test.true in
-    let k : length a.result.now ≤ length a.out.now = c.if-out-res.false in (
+    let h : l.i < length a.res.now = c.loop-i-test.true in
+    let k : length a.res.now ≤ length a.out.now = c.if-out-res.false in (
       omega (arith, h),
       length-set l.out l.i _ ∙ l.invariant.1,
-      ap (λ (o : List ℕ). set o l.i (get_or a.result.now l.i 0)) l.invariant.2 ∙ copied l.i a.out.now a.result.now (omega (arith, h, k)) h,
+      ap (λ (o : List ℕ). set o l.i (get_or a.res.now l.i 0)) l.invariant.2 ∙ copied l.i a.out.now a.res.now (omega (arith, h, k)) h,
     )
 
 pub returns : goal.returns

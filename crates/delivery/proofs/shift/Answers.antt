@@ -8,10 +8,6 @@ use Rattle.delivery.proofs.Places.{shift_none, shift_turn, moved_fits, moved_non
 use borrow.Author.Rules.{rules}
 use Rattle.delivery.proofs.shift.Goals as goal
 
--- GONE same-length
-same_length : goal.Need-same-length invariant-loop decreases-loop
-same_length c = c.before.loop.invariant.3
-
 pub returns-then-end-start : goal.returns-then-end-start
 returns-then-end-start c = moved_none c.args.start c.args.end c.args.by c.args.out.now c.if-end-start.true
 
