@@ -53,15 +53,6 @@ overflow_add-place-in-Fork-2 c =
 pub push-t-requires-in-Fork : goal.push-t-requires-in-Fork
 push-t-requires-in-Fork c = (fork_due _ _ _ c.requires _ c.in-Fork.is).0
 
-pub overflow_add-result : goal.overflow_add-result
-overflow_add-result c = add-push-2 c
-
-pub overflow_add-result-in-Fork : goal.overflow_add-result-in-Fork
-overflow_add-result-in-Fork c = add-push-2 c
-
-pub overflow_add-result-in-Fork-2 : goal.overflow_add-result-in-Fork-2
-overflow_add-result-in-Fork-2 c = add-push-3 c
-
 pub returns-in-Push : goal.returns-in-Push
 unfolding performed
 returns-in-Push c = rw (c.did.ensures, c.push-t.ensures, to_z-of_z (sfits_of c.in-Push.known_told-1-own.given.0.1), c.in-Push.is)
@@ -93,3 +84,21 @@ returns-in-Fork c = rw (c.push-t-in-Fork.ensures, c.in-Fork.is)
 pub returns-in-Foreign : goal.returns-in-Foreign
 unfolding performed
 returns-in-Foreign c = rw (c.idle.ensures, c.in-Foreign.is)
+
+pub overflow_add-result : goal.overflow_add-result
+overflow_add-result c =
+    let f = fork_due _ _ _ c.requires _ c.in-Fork.is in
+    let g = f.1 in
+    omega arith
+
+pub overflow_add-result-in-Fork : goal.overflow_add-result-in-Fork
+overflow_add-result-in-Fork c =
+    let f = fork_due _ _ _ c.requires _ c.in-Fork.is in
+    let g = f.1 in
+    omega arith
+
+pub overflow_add-result-in-Fork-2 : goal.overflow_add-result-in-Fork-2
+overflow_add-result-in-Fork-2 c =
+    let f = fork_due _ _ _ c.requires _ c.in-Fork.is in
+    let g = f.1 in
+    omega arith

@@ -15,4 +15,4 @@ returns-then-self c = rw (ne_eqb _ 0 c.if-self-eq0.false, eq-eqb _ _ c.if-self.t
 
 pub returns : goal.returns
 unfolding plain_in
-returns c = rw (ne_eqb _ 0 c.if-self-eq0.false, ne_eqb _ _ c.if-self.false, c.stack_event.ensures, c.LOST.Plain-op.ensures) refl
+returns c = rw (ne_eqb _ 0 c.if-self-eq0.false, ne_eqb _ _ c.if-self.false, c.stack_event.ensures, c.plain_op.ensures) refl
