@@ -87,7 +87,7 @@ module _ {sum : Rule} where
   only (Committed e) a (Failed f) b = absurd (let z : ◌≡◌ {A = ℕ} 0 1 = cc in omega arith)
   only {h = h} (Failed {n = n} {c = c} {f = f} {σ = σ} {r = r} {w = w} {s = s} e) a y b = go y b e
     where
-      go : {h' : Table} {s' : List SThread} (y : StepM sum h (thread (COMMIT ⨾ c) (n ∷ σ) f r w ∷ s) h' s') → First y → (e : consistent 64 0 r h.counts ≡ false) → (h ≡ h') × ((thread f σ f r w ∷ s ≡ s') × (rule_of (Failed {h = h} {n = n} {c = c} {f = f} {σ = σ} {r = r} {w = w} {s = s} e) ≡ rule_of y))
+      go : {h' : Table} {s' : List SThread} (y : StepM sum h (thread (COMMIT ⨾ c) (n ∷ σ) f r w ∷ s) h' s') → First y → (e : consistent 64 0 r h.counts ≡ false) → (h ≡ h') × ((thread f σ f r w ∷ s ≡ s') × (rule_of {sum = sum} (Failed {h = h} {n = n} {c = c} {f = f} {σ = σ} {r = r} {w = w} {s = s} e) ≡ rule_of y))
       go (Preempt y) b e = absurd b
       go (Committed f) b e = absurd (let z : ◌≡◌ {A = ℕ} 0 1 = cc in omega arith)
       go (Failed f) b e = (refl, (refl, refl))

@@ -21,7 +21,7 @@ pub struct Survey {
 }
 
 // The numbers of one thread.
-#[derive(Drop)]
+#[derive(Clone, Copy)]
 pub struct Row {
     pub start: usize,
     pub end: usize,
