@@ -2,3 +2,4 @@
 pub mod Laying
 pub mod Rows
 pub mod Within
+pub mod Picks

@@ -68,7 +68,7 @@ fn gather(threads: &[thread::Thread], counts: &[u32]) -> survey::Survey
     let mut s = survey::Survey::start();
     let mut i: usize = 0;
     while i < threads.len() {
-        let t = threads[i];
+        let t = known(threads[i]);
         s = s.with(t, counts);
         i += 1;
     }
