@@ -1,12 +1,11 @@
 -- `text::signed` meets its contract. Assumes nothing.
-use Rattle.std.proofs.Common.{◌≡◌, ℕ, zero, suc, ◌-◌, ◌≤◌, ℤ, pos, negsuc, ◌+ℤ◌, neg_ℤ, refl, ap, ◌∙◌, arith, to_z-of_z, w32, SFits, to_z, of_z, rules, lt-ltb}
+use Rattle.std.proofs.Common.{◌≡◌, ℕ, zero, suc, ◌-◌, ◌≤◌, ℤ, pos, negsuc, ◌+ℤ◌, neg_ℤ, refl, ap, ◌∙◌, arith, to_z-of_z, w32, SFits, to_z, of_z, lt-ltb}
 use mir.Facts.{to_z_pos, to_z-neg}
 use Rattle.word.specs.Sum.{wrap, wrapping, added}
 use Rattle.word.specs.declared.Added.{Added}
 use Rattle.word.proofs.Sums.{fits→range, wrap_same}
 use Rattle.text.proofs.Numbers.{least, greatest, below, from-zero}
-use Rattle.text.proofs.signed.Statement.{statement}
-use Rattle.text.proofs.signed.Tie as tie
+use Rattle.text.proofs.signed.Goals as goal
 
 -- one more than the number with its bits turned is the number below 0
 one_more : (v : ℕ) → negsuc v +ℤ pos 1 ≡ neg_ℤ (pos v)
@@ -26,28 +25,19 @@ negated v h a e =
     ∙ ap wrap (one_more v)
     ∙ wrap_same (neg_ℤ (pos v)) (fits→range (in_range v h))
 
-returns : tie.Need-returns
-returns c = least _ (omega arith) c.if2.true
+pub returns-then-n : goal.returns-then-n
+returns-then-n c = least _ (omega arith) c.if-n.true
 
-returns-2 : tie.Need-returns-2
-returns-2 c = greatest _ (omega arith) c.if2.false
+pub returns-then-n-gt2147483647 : goal.returns-then-n-gt2147483647
+returns-then-n-gt2147483647 c = greatest _ (omega arith) c.if-n.false
 
-cast-value : tie.Need-overflow-cast-value
-cast-value c = search rules
-
-add-requires : tie.Need-add-requires
-add-requires c κs = search rules
-
-returns-3 : tie.Need-returns-3
-returns-3 c =
-    let v : ℕ = c.before.before.before.before.before.before.args.n.value in
+pub returns-then-n-2 : goal.returns-then-n-2
+returns-then-n-2 c =
+    let v : ℕ = c.args.n.value in
     let h : v ≤ 2147483647 = omega arith in
-    let e : c.before.add.result ≡ added wrapping (to_z w32 (4294967295 - v)) (pos 1) = c.before.add.ensures in
-    let f : c.before.add.result.value ≡ neg_ℤ (pos v) = negated v h _ e in
-    ap (λ (z : ℤ). to_z w32 (of_z w32 z)) f ∙ to_z-of_z (in_range v h) ∙ below _ h c.before.before.if3.true
+    let e : c.add-less.result ≡ added wrapping (to_z w32 (4294967295 - v)) (pos 1) = c.add-less.ensures in
+    let f : c.add-less.result.value ≡ neg_ℤ (pos v) = negated v h _ e in
+    ap (λ (z : ℤ). to_z w32 (of_z w32 z)) f ∙ to_z-of_z (in_range v h) ∙ below _ h c.if-n-2.true
 
-returns-4 : tie.Need-returns-4
-returns-4 c = to_z_pos w32 (omega arith) ∙ from-zero _ (omega arith) c.if3.false
-
-pub signed-spec : {M : Type 1} → statement M
-signed-spec = tie.close (tie.spec returns returns-2 cast-value add-requires returns-3 returns-4)
+pub returns : goal.returns
+returns c = to_z_pos w32 (omega arith) ∙ from-zero _ (omega arith) c.if-n-2.false
