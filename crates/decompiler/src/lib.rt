@@ -18,7 +18,7 @@ use scan::Scanned;
 
 // How far the pass has come: how many parts are on the stack, how many FORKs' children are open, whether a transaction is, where the next instruction is, and how
 // many bytes of the job there are. Beside it stand `starts`, where each part on the stack starts in the job, and `ends`, where each open child ends.
-#[derive(Drop)]
+#[derive(Clone, Copy)]
 struct Cursor {
     height: usize,
     forked: usize,

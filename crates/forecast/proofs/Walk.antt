@@ -1,6 +1,6 @@
 -- The loop walks the trees that are due, and stays within its bounds. Assumes nothing.
 use Prim.Native.Nat.{ℕ, suc, ◌+◌, ◌*◌, ◌-◌, ◌/◌, ◌%◌, ◌≤◌, ◌<◌, max}
-use mathlib.Core.Path.{◌≡◌, refl, sym, ap, subst₂, ◌∙◌}
+use mathlib.Core.Path.{◌≡◌, refl, sym, ap, subst, subst₂, ◌∙◌}
 use mathlib.Core.List.{List, [], ◌∷◌, ◌++◌, append_assoc, append-nil}
 use native.Mathlib.Omega.{arith}
 use lib.ListN.{length, drop, get_or, set, replicate, length-set, length-drop, length-append}
@@ -252,7 +252,7 @@ module _ (job : List ℕ) (tree : Proc) (s : State) where
           parts = q ∷ ps;
           walk = record {
             height = w.height;
-            held = rw h (get_or-set_same s.due (length ps) v 0 (omega (arith, w.long)) ∙ sym k, held_set s.due ps (length ps) v (omega arith) w.held.1);
+            held = subst (λ (i : ℕ). Held (set s.due i v) (q ∷ ps)) (sym h) (get_or-set_same s.due (length ps) v 0 (omega (arith, w.long)) ∙ sym k, held_set s.due ps (length ps) v (omega arith) w.held.1);
             long = length-set s.due (s.height - 1) v ∙ w.long;
             fine = fine;
             bounds = b;
@@ -272,13 +272,13 @@ module _ (job : List ℕ) (tree : Proc) (s : State) where
           walk = record {
             height = omega (arith, w.height);
             held =
-                rw (h, w.height) (
+                subst (λ (i : ℕ). Held (set (set s.due i (part + 1)) s.height part) (a ∷ b ∷ ps)) (sym h) (subst (λ (i : ℕ). Held (set due₁ i part) (a ∷ b ∷ ps)) (sym w.height) (
                   get_or-set_same due₁ (suc n) part 0 (omega arith) ∙ sym ka,
                   (
                     get_or-set_other due₁ (suc n) n part 0 (omega arith) ∙ (get_or-set_same s.due n (part + 1) 0 (omega (arith, w.long)) ∙ sym kb),
                     held_set due₁ ps (suc n) part (omega arith) (held_set s.due ps n (part + 1) (omega arith) w.held.1),
                   ),
-                );
+                ));
             long = length-set (set s.due (s.height - 1) (part + 1)) s.height part ∙ (length-set s.due (s.height - 1) (part + 1) ∙ w.long);
             fine = fine;
             bounds = bs;

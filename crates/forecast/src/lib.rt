@@ -1,5 +1,6 @@
 // What a job will need, told from its bytes: nothing is compiled, nothing is run.
 #![tactic(auto)]
+
 ghost use Rattle.std.specs.Prelude.{ℕ, ◌+◌, ◌*◌, ◌-◌, ◌<◌, ◌≤◌, max, set, List, ◌≡◌};
 ghost use Rattle.forecast.specs.Figures.{forecast_of, refused_with};
 ghost use Rattle.forecast.specs.InnerWalk.{Accepts, CanCount, Small, advanced, begun, behind, counted, first_cursor, forked, inside, raised, state_of, totals_of, with_read, with_totals, with_write};
@@ -30,7 +31,7 @@ pub struct ForecastReply {
 // How far the nodes are counted: how many parts are due, where the next node stands, and the figures so far, `current` being the instructions of
 // the transaction at hand, BEGIN and COMMIT included. The parts that are due stand beside it, each as the number of its thread, times 128, and the
 // height of that thread's stack below the part. The root's thread is 0, and a FORK's child has the number of the FORK in job order.
-#[derive(Drop)]
+#[derive(Clone, Copy)]
 struct Cursor {
     height: usize,
     place: usize,

@@ -1,5 +1,6 @@
 // Scripts typed as formulas: a text becomes a version 1 job.
 #![tactic(auto)]
+
 ghost use Rattle.std.specs.Prelude.{ℕ, ◌+◌, ◌*◌, ◌-◌, ◌<◌, ◌≤◌, eqb, get_or, length, replicate, false, true, List, [], ◌∷◌, ◌⊎◌, ◌≡◌};
 ghost use Rattle.delivery.specs.InnerPlaces.{inserted, placed_at};
 ghost use Rattle.delivery.specs.Delivered.{delivered, onto};

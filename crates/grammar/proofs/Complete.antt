@@ -10,7 +10,7 @@ use lib.IntN.{ℤ}
 use borrow.Author.Tests.{lt-ltb, le-leb, eq-eqb, ne_eqb, eqb-true, leb-true}
 use Rattle.script.specs.Tree.{Tran, Read, Write, Proc, Atomic, Sort, process, transaction, Tree}
 use Rattle.grammar.specs.Grammar.{is_blank, is_digit, value, sum, most_open, Blanks, Spelled, Digits, Decimal, Number, Register, Around, Lexeme, Formula, Terms, Term, IsScript, most_plain, most_negative, most_register}
-use Rattle.grammar.specs.Reader.{SumIn, TermIn, text, bracket, atomic, write, first, added, forked, opens_s, opens_t, sum_in, grown, State, want, dash, number, word, unopened, letter_r, register, registered, after, on, most_size, signed_number, closed, step_after, step_registered, behind_register, step_number, step_register, step_letter, step_want, spelling, step, fails, reads, end_after, finish, read_from, begin}
+use Rattle.grammar.specs.Reader.{SumIn, TermIn, text, bracket, atomic, write, first, added, forked, opens_s, opens_t, sum_in, grown, State, want, dash, number, unopened, letter_r, register, registered, after, on, most_size, signed_number, closed, step_after, step_registered, behind_register, step_number, step_register, step_letter, step_want, spelling, step, fails, reads, end_after, finish, read_from, begin}
 
 -- one byte
 pub goes : (x y : State) (b : ℕ) (bs : List ℕ) → step x b ≡ on y → read_from x (b ∷ bs) ≡ read_from y bs
@@ -130,10 +130,10 @@ pub record Arrives (x : State) (bs rest : List ℕ) {s : Sort} (t : Tree s) (c :
   pub settles : Settles s state t c
 
 pub settle_blanks : {s : Sort} {y : State} {t : Tree s} {c : SumIn s} {bs rest : List ℕ} → Blanks bs rest → Settles s y t c → Arrives y bs rest t c
-settle_blanks Blanks.none h = record { state = _; runs = refl; settles = h }
+settle_blanks {y = y} Blanks.none h = record { state = _; runs = refl; settles = h }
 settle_blanks {y = y} (Blanks.blank {b = b} {bs = bs} e k) h =
     let p = settle_blank b e h in
-    let q = settle_blanks k p.settles in
+    let q = settle_blanks {y = p.state} k p.settles in
     record { state = q.state; runs = goes y p.state b bs p.moves ∙ q.runs; settles = q.settles }
 
 -- ---- numbers and registers

@@ -8,7 +8,7 @@ use native.Mathlib.Decide.{dec_le}
 use lib.Dec.{ltb}
 use lib.ListN.{length, take, drop, take-append-drop}
 use borrow.Author.Tests.{eq-eqb, ltb-true, ltb-false}
-use Rattle.script.specs.Tree.{Tran, Read, Write, Proc, Atomic, Fork, Sort, process, transaction, Tree}
+use Rattle.script.specs.Tree.{Tran, Read, Write, Proc, Atomic, Fork, Sort, transaction, Tree}
 use Rattle.script.specs.Outcome.{Outcome, refused, done, refuse}
 use Rattle.grammar.specs.Grammar.{is_blank, is_digit, value, sum, IsScript, Viable, NoScript, most_text}
 use Rattle.grammar.specs.Grammar.NoScript.{long, at_byte, at-end}

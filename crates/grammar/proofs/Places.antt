@@ -1,7 +1,7 @@
 -- The reader at a place of a text: what functions that go by places are proved with. Assumes nothing.
 use Prim.Native.Nat.{ℕ, suc, ◌+◌, ◌*◌, ◌-◌, ◌≤◌, ◌<◌}
 use mathlib.Core.Path.{◌≡◌, refl, sym, ap, ◌∙◌, subst}
-use mathlib.Core.Bool.{Bool, true, false, not}
+use mathlib.Core.Bool.{Bool, true, false}
 use mathlib.Core.List.{List, [], ◌∷◌}
 use mathlib.Core.Logic.{◌⊎◌, inl, inr, ⊎_elim}
 use native.Mathlib.Omega.{arith}
@@ -12,7 +12,7 @@ use lib.Seq.{drop-cons}
 use borrow.Author.Tests.{lt-ltb, le-ltb, le-leb, lt-leb, eq-eqb, ne_eqb}
 use Rattle.script.specs.Tree.{Tran, Read, Write, Atomic, Sort, process, transaction, Tree}
 use Rattle.grammar.specs.Grammar.{is_blank, is_digit, value, sum, Digits, most_plain, most_negative, most_register, most_open}
-use Rattle.grammar.specs.Reader.{SumIn, TermIn, text, bracket, atomic, write, first, added, forked, opens_s, opens_t, sum_in, grown, State, want, dash, number, word, unopened, letter_r, register, registered, after, Moved, stuck, on, most_size, signed_number, closed, step_after, step_registered, behind_register, step_number, step_register, step_letter, step_want, spelling, step, Result, fails, end_after, finish, read_from}
+use Rattle.grammar.specs.Reader.{SumIn, TermIn, bracket, atomic, write, first, added, forked, opens_s, opens_t, sum_in, grown, State, want, dash, number, word, unopened, letter_r, register, registered, after, Moved, stuck, on, most_size, signed_number, closed, step_after, step_registered, behind_register, step_number, step_register, step_letter, step_want, spelling, step, Result, fails, end_after, finish, read_from}
 use Rattle.grammar.proofs.Complete.{goes, digit_no_blank, blank_no_digit, digits_grow, number_digits, register_digits, alike, no_end, registered_stays}
 
 head_digit : {n : ℕ} {xs rest : List ℕ} → Digits 0 n xs rest → length rest < length xs → (b : ℕ) (ys : List ℕ) → xs ≡ b ∷ ys → (is_digit b ≡ true) × Digits (b - 48) n ys rest

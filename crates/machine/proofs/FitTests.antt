@@ -439,10 +439,12 @@ in_among c (d ∷ ds) (there i) = go (same c d) (in_among c ds i)
     go : (b : Bool) → among c ds ≡ true → (b || among c ds) ≡ true
     go true x = refl
     go false x = x
+in_among c [] x' = elim x' [ ]
 
 in_left : (c : Child) (xs ys : List Child) → In c xs → In c (xs ++ ys)
 in_left c (x ∷ xs) ys here = here
 in_left c (x ∷ xs) ys (there i) = there (in_left c xs ys i)
+in_left c [] ys x' = elim x' [ ]
 
 in_right : (c : Child) (xs ys : List Child) → In c ys → In c (xs ++ ys)
 in_right c [] ys i = i
@@ -464,6 +466,7 @@ is_passed bytes t c i = go (walk_to bytes t) refl i
   where
     go : (o : Option Walked) → walk_to bytes t ≡ o → In c (children_of o) → Passed bytes t c
     go (some w) e j = record { walked = w; walks = found_walked bytes t w e; one = j }
+    go none e j = elim j [ ]
 
 in_passed : (bytes : List ℕ) (t : Thread) (c : Child) → Passed bytes t c → In c (children_of (walk_to bytes t))
 in_passed bytes t c p = subst (λ (o : Option Walked). In c (children_of o)) (sym (walked_found bytes t p.walked p.walks)) p.one
@@ -481,6 +484,7 @@ parent_of bytes (t ∷ ts) c i = go (λ j. parent_of bytes ts c j) (exists t) re
         (λ l. record { parent = 0; there = x; passed = is_passed bytes t c l })
         (λ r. later (k r))
     go k false x j = later (k j)
+parent_of bytes [] c i = elim i [ ]
 
 of_parent : (bytes : List ℕ) (ts : List Thread) (c : Child) (i : ℕ) → exists (at ts i) ≡ true → Passed bytes (at ts i) c → In c (passed_by bytes ts)
 unfolding passed_by
@@ -600,6 +604,7 @@ each_one : (cs : List Child) (ts : List Thread) → one_each cs ts ≡ true → 
 unfolding one_each
 each_one (d ∷ ds) ts e c here = one_has c ts (eqb-true (threads_of d ts) 1 (first (eqb (threads_of d ts) 1) (one_each ds ts) e))
 each_one (d ∷ ds) ts e c (there i) = each_one ds ts (second (eqb (threads_of d ts) 1) (one_each ds ts) e) c i
+each_one [] ts e c x'' = elim x'' [ ]
 
 one-each : (cs : List Child) (ts : List Thread) → ((c : Child) → In c cs → One ts c) → one_each cs ts ≡ true
 unfolding one_each

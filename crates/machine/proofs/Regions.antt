@@ -287,16 +287,19 @@ among_right (m ∷ ns) a = tail (among_right ns a)
 abbrev without : {n : ℕ} (ns : List ℕ) → Among n ns → List ℕ
 without (m ∷ ns) head = ns
 without (m ∷ ns) (tail a) = m ∷ without ns a
+without {n = n} [] x' = elim x' [ ]
 
 without_long : {n : ℕ} (ns : List ℕ) (a : Among n ns) → length ns ≡ suc (length (without ns a))
 without_long (m ∷ ns) head = refl
 without_long (m ∷ ns) (tail a) = ap suc (without_long ns a)
+without_long {n = n} [] a = elim a [ ]
 
 still : {n k : ℕ} (ns : List ℕ) (a : Among n ns) → Among k ns → (k ≡ n → ⊥) → Among k (without ns a)
 still (m ∷ ns) head head d = absurd (d refl)
 still (m ∷ ns) head (tail b) d = b
 still (m ∷ ns) (tail a) head d = head
 still (m ∷ ns) (tail a) (tail b) d = tail (still ns a b d)
+still {n = n} {k = k} [] a _ d = elim a [ ]
 
 -- no number twice
 abbrev Apart : List ℕ → Type 0
@@ -377,6 +380,7 @@ which g (suc m) n a = go n (g m).start (up_to g m) a refl refl (λ b. which g m 
         let r = again (subst (λ (l : List ℕ). Among n l) d b) in
         let l = r.below in
         record { number = r.number; below = omega arith; same = r.same }
+which g zero n a = elim a [ ]
 
 -- children of different FORKs of code are no more than its FORKs
 pub no_more : {c : Code} {q : ℕ} {own : Child} (m : ℕ) (g : ℕ → Child) → ((k : ℕ) → k < m → (a : Child) × Link c q own a (g k)) → ((k l : ℕ) → k < l → l < m → (g k).start ≡ (g l).start → ⊥) → m ≤ forks_of c

@@ -27,7 +27,7 @@ use Rattle.machine.proofs.Codes.{stands_inside, ready_op, ready_next, ready_chil
 use Rattle.machine.proofs.Shapes.{taking_two, taking_less, Shape, out, open' as shape-open, shape}
 use Rattle.machine.proofs.Placings.{typed_push, typed_add, typed_begin, typed_read, typed_write, typed_closed, placed_push, placed_add, placed_read, read_kids, read_commits, placed_write, placed_begin, placed_commit, commit_kids, commit_commits, placed_back, back_kids, back_commits}
 use Rattle.machine.proofs.Stale.{found_stale, stale_by, stale_none, stale-read, never_back, Grown, same_grown, recounted_grown, recounted_length, overlaid_length, low_none, low_read}
-use Rattle.machine.proofs.Showings.{Shows, shut, open', stack_suc, stack_set, stack_push, stack_add, stack_closed, log_none, log_with, counted_none, counted_with, cell_at, first_same, writes_same}
+use Rattle.machine.proofs.Showings.{Shows, shut, open', stack_suc, stack_set, stack_push, stack_add, stack_closed, log_none, log_with, counted_none, counted_with, cell_at_lem, first_same, writes_same}
 use Rattle.stm.specs.InnerTasks.{Log, outside, inside, Did, Found, logged, goes, found, found_in, overwritten, commits, step_outside, step_inside}
 use Rattle.stm.specs.InnerMeaning.{TakesOutside, TakesInside, Outside, Inside, behind}
 use Rattle.word.specs.Registers.{member}
@@ -357,7 +357,7 @@ module _ {bytes : List ℕ} (sum : Rule) (s : State) (j : ℕ) (t : Thread) (h :
     reads = read_log (noted (source_of t v) v (read_from (source_of t v) s.registers t v) (get_or s.counts v 0) t);
   }
   unfolding found source_of log_of counted_log
-  found_cell v l = rw (cell_at s.registers s.counts v) (found_same v l (member t.writes v) (member t.reads v))
+  found_cell v l = rw (cell_at_lem s.registers s.counts v) (found_same v l (member t.writes v) (member t.reads v))
 
   inner_read : (v : ℕ) (body c : Code) (k : ℕ) → Inner (READ v) body c k → Sim (instruction sum s j t (code.read v)) (step_inside register_cells sum (table_of s) body below_base (READ v ⨾ c) (stack_from t.cells t.base k) reads writes t.over)
   unfolding act perform settle step_inside Inside TakesInside Takes next_place walk_op behind read push

@@ -6,7 +6,7 @@ ghost use Rattle.ops.specs.Shown.{shown_op};
 ghost use Rattle.word.specs.Sum.{signed};
 
 // An instruction as it stands in the code; a FORK has its child's length.
-#[derive(Drop)]
+#[derive(Clone, Copy)]
 pub enum Op {
     Push(i32),
     Add,

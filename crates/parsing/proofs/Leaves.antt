@@ -3,7 +3,7 @@ use Prim.Native.Nat.{ℕ, zero, suc, ◌+◌, ◌*◌, ◌-◌, ◌%◌, ◌≤�
 use mathlib.Core.Path.{◌≡◌, refl, sym, ap, ◌∙◌, subst}
 use mathlib.Core.Bool.{Bool, true, false}
 use mathlib.Core.List.{List, [], ◌∷◌, ◌++◌, append-nil}
-use mathlib.Core.Logic.{◌⊎◌, ⊎_elim}
+use mathlib.Core.Logic.{⊎_elim}
 use native.Mathlib.Omega.{arith}
 use native.Mathlib.Decide.{dec_lt}
 use lib.IntN.{ℤ, pos}
@@ -11,12 +11,12 @@ use lib.ListN.{length, drop, get_or, length-drop, length-append}
 use borrow.Author.Tests.{ne_eqb}
 use Rattle.word.specs.Sum.{residue}
 use Rattle.delivery.specs.InnerPlaces.{placed_at}
-use Rattle.script.specs.Tree.{Read, Write, transaction}
+use Rattle.script.specs.Tree.{Read, transaction}
 use Rattle.script.specs.Count.{nodes_p, nodes_t}
 use Rattle.script.specs.InnerTrees.{sort_of, nodes as nodesOf, bytes, kind_in}
 use Rattle.script.specs.Bytes.{bytes_p, bytes_t, node_bytes, bytes32}
 use Rattle.grammar.specs.Grammar.{is_digit, minus, value, sum, Digits}
-use Rattle.grammar.specs.Reader.{SumIn, TermIn, first, added, write, sum_in, grown, State, want, dash, number, word, letter_r, register, after, most_size, signed_number, spelling, step, finish, behind_register, fails, read_from}
+use Rattle.grammar.specs.Reader.{SumIn, TermIn, first, added, write, sum_in, grown, State, want, dash, word, letter_r, register, after, most_size, signed_number, spelling, step, finish, behind_register, fails, read_from}
 use Rattle.grammar.proofs.Complete.{want_stays, digit_low}
 use Rattle.grammar.proofs.Places
 use Rattle.parsing.specs.declared.Cursor.{Cursor}

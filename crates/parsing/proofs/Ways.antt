@@ -14,7 +14,7 @@ use Rattle.script.specs.Count.{nodes_p, nodes_t}
 use Rattle.script.specs.InnerTrees.{sort_of, nodes as nodesOf, bytes, kind_in}
 use Rattle.script.specs.Bytes.{bytes_p, bytes_t, node_bytes}
 use Rattle.grammar.specs.Grammar.{is_blank, is_digit, sum}
-use Rattle.grammar.specs.Reader.{SumIn, TermIn, bracket, atomic, write, first, added, forked, opens_s, opens_t, sum_in, grown, want, unopened, register, after, on, spelling, step, step_after, fails, end_after, finish, read_from}
+use Rattle.grammar.specs.Reader.{SumIn, TermIn, bracket, atomic, write, first, added, forked, opens_s, opens_t, sum_in, grown, want, unopened, after, on, spelling, step, step_after, fails, end_after, finish, read_from}
 use Rattle.grammar.proofs.Complete.{want_stays, unopened_stays, no_end}
 use Rattle.grammar.proofs.Places
 use Rattle.parsing.specs.declared.Cursor.{Cursor}

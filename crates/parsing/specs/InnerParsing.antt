@@ -6,7 +6,7 @@ use Rattle.script.specs.Tree as T
 use Rattle.script.specs.InnerTrees.{sort_of, nodes as nodesOf, bytes, kind_in}
 use Rattle.grammar.specs.Grammar.{is_blank, is_digit, Digits}
 use Rattle.grammar.specs.Reader.{SumIn, TermIn, first, added, write, opens_s, opens_t, sum_in, grown}
-use Rattle.grammar.specs.Reader.{State, want, word, spelling, after, on, step, fails, read_from}
+use Rattle.grammar.specs.Reader.{State, want, spelling, after, on, step, fails, read_from}
 use Rattle.parsing.specs.declared.Cursor.{Cursor}
 use Rattle.parsing.specs.declared.Scanned.{Scanned}
 use Rattle.parsing.specs.declared.Opening.{Opening}

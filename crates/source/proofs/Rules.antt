@@ -1,10 +1,12 @@
 -- The source's rules: which thread steps, and that its step is the only one. Assumes nothing.
 use Prim.Native.Nat.{ℕ}
 use mathlib.Core.Path.{◌≡◌, refl, ap, subst}
+use mathlib.Core.Bool.{false}
 use mathlib.Core.List.{List, [], ◌∷◌, ◌++◌}
 use native.Mathlib.Omega.{arith}
 use Rattle.stm.specs.Counted.{Table}
-use Rattle.source.specs.Source.{SThread, StepM, Preempt, ForkM, PushM, AddM, BeginM, ReadM, WriteM, Committed, Failed}
+use Rattle.code.specs.Compile.{COMMIT, ◌⨾◌}
+use Rattle.source.specs.Source.{SThread, thread, consistent, united, StepM, Preempt, ForkM, PushM, AddM, BeginM, ReadM, WriteM, Committed, Failed}
 use Rattle.source.specs.Soup.{Name, First, rule_of, IsFor, ByRule}
 use Rattle.stm.specs.Events.{Event}
 use Rattle.word.specs.Sum.{Rule}
@@ -83,9 +85,12 @@ module _ {sum : Rule} where
   only (Committed e) a (Preempt y) b = absurd b
   only (Committed e) a (Committed f) b = (refl, (refl, refl))
   only (Committed e) a (Failed f) b = absurd (let z : ◌≡◌ {A = ℕ} 0 1 = cc in omega arith)
-  only (Failed e) a (Preempt y) b = absurd b
-  only (Failed e) a (Committed f) b = absurd (let z : ◌≡◌ {A = ℕ} 0 1 = cc in omega arith)
-  only (Failed e) a (Failed f) b = (refl, (refl, refl))
+  only {h = h} (Failed {n = n} {c = c} {f = f} {σ = σ} {r = r} {w = w} {s = s} e) a y b = go y b e
+    where
+      go : {h' : Table} {s' : List SThread} (y : StepM sum h (thread (COMMIT ⨾ c) (n ∷ σ) f r w ∷ s) h' s') → First y → (e : consistent 64 0 r h.counts ≡ false) → (h ≡ h') × ((thread f σ f r w ∷ s ≡ s') × (rule_of {sum = sum} (Failed {h = h} {n = n} {c = c} {f = f} {σ = σ} {r = r} {w = w} {s = s} e) ≡ rule_of y))
+      go (Preempt y) b e = absurd b
+      go (Committed f) b e = absurd (let z : ◌≡◌ {A = ℕ} 0 1 = cc in omega arith)
+      go (Failed f) b e = (refl, (refl, refl))
 
   pub own : {h h' : Table} {m : SThread} {behind left : List SThread} → (x : StepM sum h (m ∷ behind) h' left) → First x → Own sum h m h' behind left (rule_of x)
   unfolding First rule_of

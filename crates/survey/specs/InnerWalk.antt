@@ -18,8 +18,8 @@ use Rattle.word.specs.Registers.{member, with}
 -- ---- a FORK that was passed
 
 -- record i's own code
-abbrev pub field_own : (starts ends : List ℕ) → ℕ → Child
-field_own starts ends i = record { start = get_or starts i 0; end = get_or ends i 0 }
+abbrev pub own_at : (starts ends : List ℕ) → ℕ → Child
+own_at starts ends i = record { start = get_or starts i 0; end = get_or ends i 0 }
 
 -- record i is one that is asked for, or not
 unfoldable pub noted : Asked → (i : ℕ) (hit : Bool) → Asked
@@ -28,7 +28,7 @@ noted a i hit = cond hit (record { number = a.number + 1; asked = with a.asked i
 -- the records from i on
 unfoldable pub asks : (left i : ℕ) (starts ends : List ℕ) → Child → Asked → Asked
 asks zero i starts ends c a = a
-asks (suc left) i starts ends c a = asks left (suc i) starts ends c (noted a i (same (field_own starts ends i) c))
+asks (suc left) i starts ends c a = asks left (suc i) starts ends c (noted a i (same (own_at starts ends i) c))
 
 -- the records whose own code this is
 unfoldable pub asked_for : (starts ends : List ℕ) → Child → (asked : ℕ) → Asked
@@ -208,6 +208,6 @@ survey_fits s bytes registers counts others =
     && (eqb s.seen 16
     && (eqb registers 64
     && (eqb (length counts) 64
-    && (same (field_own s.starts s.ends 0) (record { start = 5; end = length bytes })
+    && (same (own_at s.starts s.ends 0) (record { start = 5; end = length bytes })
     && (all_judged (judge_all bytes s) s.starts
     && (all_met 16 0 s.needs (saturated others (judge_all bytes s).commits) && at_most_from 64 0 counts (saturated others (judge_all bytes s).commits)))))))

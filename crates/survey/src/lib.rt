@@ -8,7 +8,7 @@ ghost use Rattle.word.specs.Registers.{member};
 
 // What the records that came so far leave: the numbers of each thread, how many threads there are, how many records came, and whether
 // each of them passed the tests that need no code.
-#[derive(Drop)]
+#[derive(Clone, Copy)]
 pub struct Survey {
     pub starts: [usize; 16],
     pub ends: [usize; 16],
@@ -21,7 +21,7 @@ pub struct Survey {
 }
 
 // The numbers of one thread.
-#[derive(Drop)]
+#[derive(Clone, Copy)]
 pub struct Row {
     pub start: usize,
     pub end: usize,
@@ -41,7 +41,7 @@ struct Asked {
 
 // How far the walk along a thread's own code has come: what the instructions before a place leave there, and the records that the
 // FORKs passed ask for. A walk that is not `good` does not come to the thread's place, or a FORK passed has not exactly one thread.
-#[derive(Drop)]
+#[derive(Clone, Copy)]
 struct Walk {
     place: usize,
     height: usize,

@@ -8,7 +8,7 @@ ghost use Rattle.word.specs.Sum.{wrapping};
 
 // A thread. Places count from the code's first byte, so 0 is no place; a record whose `start` is 0 is of no thread.
 #[repr(C)]
-#[derive(Drop)]
+#[derive(Clone, Copy)]
 pub struct Thread {
     // its own code: from `start` up to `end`, less the child code of the FORKs in it
     pub start: usize,

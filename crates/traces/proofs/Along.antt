@@ -85,9 +85,9 @@ module _ (bytes : List ℕ) (start end : ℕ) where
     pub inside : place < end
     pub stands : op_at (drop place bytes) ≡ done (op_of i)
 
-  pub place_of : {q : ℕ} {w : Walked} {c : Code} (x : Instruction) → Own x c → Ready bytes q end c w.height → Walks bytes start end q w → Place x
-  place_of {q} {w} x own_first r ws = record { place = q; walked = w; walks = ws; inside = stands_inside r.stands; stands = ready_op r }
-  place_of {q} {w} x (own_later o) r ws = place_of x o (next_ready w r) (next_walk r ws)
+  pub place_of : (x : Instruction) {q : ℕ} {w : Walked} {c : Code} → Own x c → Ready bytes q end c w.height → Walks bytes start end q w → Place x
+  place_of x {q} {w} own_first r ws = record { place = q; walked = w; walks = ws; inside = stands_inside r.stands; stands = ready_op r }
+  place_of x {q} {w} (own_later {i = i} o) r ws = place_of x {q = next_place (op_of i) q} {w = walk_op (op_of i) q w} o (next_ready w r) (next_walk r ws)
 
   -- a place where the height is the greatest of the code
   pub record Highest (n : ℕ) : Type 0 where
@@ -99,7 +99,7 @@ module _ (bytes : List ℕ) (start end : ℕ) where
   pub highest : {q : ℕ} {w : Walked} (c : Code) → Ready bytes q end c w.height → Walks bytes start end q w → Highest (greatest c w.height)
   unfolding greatest
   highest {q} {w} ε r ws = record { place = q; walked = w; walks = ws; height = refl }
-  highest {q} {w} (i ⨾ c) r ws = go (highest c (next_ready w r) (next_walk r ws)) (dec_lt w.height (greatest c (height_after i w.height)))
+  highest {q} {w} (i ⨾ c) r ws = go (highest {q = next_place (op_of i) q} {w = walk_op (op_of i) q w} c (next_ready w r) (next_walk r ws)) (dec_lt w.height (greatest c (height_after i w.height)))
     where
       same : greatest c (walk_op (op_of i) q w).height ≡ greatest c (height_after i w.height)
       same = ap (greatest c) (walk_height i q w)
@@ -117,7 +117,7 @@ module _ (bytes : List ℕ) (start end : ℕ) where
   pub to_end : {q : ℕ} {w : Walked} (c : Code) → Ready bytes q end c w.height → Walks bytes start end q w → Whole w
   to_end {q} {w} ε r ws = record { walked = w; walks = subst (λ (n : ℕ). Walks bytes start end n w) (stands_end r.stands) ws; kept = λ x i. i }
   to_end {q} {w} (i ⨾ c) r ws =
-      let e = to_end c (next_ready w r) (next_walk r ws) in
+      let e = to_end {q = next_place (op_of i) q} {w = walk_op (op_of i) q w} c (next_ready w r) (next_walk r ws) in
       record { walked = e.walked; walks = e.walks; kept = λ x k. e.kept x (walk_children (op_of i) q w x k) }
 
   -- ---- from places to the code

@@ -1,0 +1,20 @@
+-- `compiler::put_push` meets its contract: five stores at the front. Assumes nothing.
+use mathlib.Core.Path.{refl}
+use mathlib.Core.List.{[], ◌∷◌}
+use native.Mathlib.Omega.{arith}
+use lib.ListN.{length-set}
+use borrow.Author.Rules.{rules}
+use Rattle.delivery.proofs.Places.{front_stored}
+use Rattle.compiler.proofs.put_push.Goals as goal
+
+pub bounds-out-1 : goal.bounds-out-1
+bounds-out-1 c = simp length-set (omega arith)
+
+pub bounds-out-2 : goal.bounds-out-2
+bounds-out-2 c = simp length-set (omega arith)
+
+pub bounds-out-3 : goal.bounds-out-3
+bounds-out-3 c = simp length-set (omega arith)
+
+pub returns : goal.returns
+returns c = (refl, front_stored (_ ∷ _ ∷ _ ∷ _ ∷ _ ∷ []) c.args.out.now c.requires.1)

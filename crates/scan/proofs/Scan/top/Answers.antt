@@ -1,0 +1,8 @@
+-- `scan::Scan::top` meets its contract. Assumes nothing.
+use Rattle.scan.specs.InnerView.{top_to}
+use borrow.Author.Rules.{rules}
+use Rattle.scan.proofs.Scan.top.Goals as goal
+
+pub returns : goal.returns
+unfolding top_to
+returns c = c.set.ensures

@@ -1,0 +1,7 @@
+use Rattle.thread.specs.Threads.{closed}
+use borrow.Author.Rules.{rules}
+use Rattle.thread.proofs.Thread.closed.Goals as goal
+
+pub returns : goal.returns
+unfolding closed
+returns c = rw (c.clear-freed.ensures, c.empty.ensures, c.empty-2.ensures)

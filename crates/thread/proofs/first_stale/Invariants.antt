@@ -1,0 +1,13 @@
+use Prim.Native.Nat.{◌≤◌, ◌<◌, ◌-◌, ◌+◌}
+use mathlib.Core.Path.{◌≡◌, refl, sym, ◌∙◌}
+use native.Mathlib.Omega.{arith}
+use borrow.Author.Rules.{rules}
+use Rattle.thread.specs.InnerStep.{first_stale_in}
+use Rattle.thread.proofs.Loops.{found_here, found_later, found_past, found_end}
+use Rattle.thread.proofs.first_stale.Given as goal
+
+abbrev pub invariant-loop-v : goal.invariant-loop-v
+invariant-loop-v l = (l.v ≤ 64) × (first_stale_in (64 - l.v) l.v l.reads l.readcounts l.counts ≡ first_stale_in 64 0 l.reads l.readcounts l.counts)
+
+abbrev pub decreases-loop-v : goal.decreases-loop-v
+decreases-loop-v l = 64 - l.v
