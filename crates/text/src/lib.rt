@@ -31,7 +31,7 @@ pub struct Hex {
 }
 
 // What a text in decimal comes to: whether a minus stands in front, and the digits' number; `good` if it is one, below 2^64.
-#[derive(Drop)]
+#[derive(Clone, Copy)]
 pub struct Number {
     pub good: bool,
     pub minus: bool,
