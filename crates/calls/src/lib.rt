@@ -6,9 +6,11 @@ ghost use Rattle.machine.specs.Answers.{fresh_call, run_call};
 ghost use Rattle.memory.specs.Memories.{leaving};
 
 use memory::Memory;
+use std::io;
+use std::io::Write;
 
 // What a call left and answered: refusal and place, and its other numbers in their order.
-#[derive(Drop)]
+#[derive(Clone, Copy)]
 struct Taken {
     after: Memory,
     refusal: usize,
@@ -129,72 +131,76 @@ pub fn begun(code: &[u8], m: Memory, picks: &[u8]) -> Memory
 }
 
 // Writes a refusal, if there is one, and tells whether there is.
-fn refused(m: Memory, taken: Taken) -> bool {
+fn refused(out: &mut impl Write, m: Memory, taken: Taken) -> io::Result<bool> {
     if taken.refusal == 0 {
-        return false;
+        return Ok(false);
     }
     let after = taken.after;
-    memory::write_refused(taken.refusal, taken.place, m, after);
-    true
+    memory::write_refused(out, taken.refusal, taken.place, m, after)?;
+    Ok(true)
 }
 
-fn write_after(taken: Taken) {
+fn write_after(out: &mut impl Write, taken: Taken) -> io::Result<()> {
     let after = taken.after;
-    memory::write_state(after);
+    memory::write_state(out, after)
 }
 
 // `fresh`, and what is written of it.
-pub fn run_fresh(code: &[u8], m: Memory) {
+pub fn run_fresh(out: &mut impl Write, code: &[u8], m: Memory) -> io::Result<()> {
     let taken = call_fresh(code, m);
-    if refused(m, taken) {
-        return;
+    if refused(out, m, taken)? {
+        return Ok(());
     }
-    text::write(b"laid");
-    write_after(taken);
+    text::write(out, b"laid")?;
+    write_after(out, taken)
 }
 
 // `step` of the one pick, and what is written of it.
-pub fn run_step(code: &[u8], m: Memory, picks: &[u8]) {
+pub fn run_step(out: &mut impl Write, code: &[u8], m: Memory, picks: &[u8]) -> io::Result<()> {
     if picks.len() != 1 {
-        text::write_malformed();
-        return;
+        return text::write_malformed(out);
     }
     let taken = call_step(code, m, text::first(picks));
-    if refused(m, taken) {
-        return;
+    if refused(out, m, taken)? {
+        return Ok(());
     }
-    text::write_step(taken.a, taken.b, taken.c, taken.d);
-    write_after(taken);
+    text::write_step(out, taken.a, taken.b, taken.c, taken.d)?;
+    write_after(out, taken)
 }
 
 // `run`, and what is written of it.
-pub fn run_run(code: &[u8], m: Memory, picks: &[u8]) {
+pub fn run_run(out: &mut impl Write, code: &[u8], m: Memory, picks: &[u8]) -> io::Result<()> {
     let taken = call_run(code, m, picks);
-    if refused(m, taken) {
-        return;
+    if refused(out, m, taken)? {
+        return Ok(());
     }
-    text::write_counts(taken.a, taken.b, taken.c, taken.d, taken.e);
-    write_after(taken);
+    text::write_counts(out, taken.a, taken.b, taken.c, taken.d, taken.e)?;
+    write_after(out, taken)
 }
 
 // Writes the counts of a call and those of the table that it left, or its refusal.
-fn write_call(m: Memory, taken: Taken) {
-    if refused(m, taken) {
-        return;
+fn write_call(out: &mut impl Write, m: Memory, taken: Taken) -> io::Result<()> {
+    if refused(out, m, taken)? {
+        return Ok(());
     }
-    text::write_counts(taken.a, taken.b, taken.c, taken.d, taken.e);
+    text::write_counts(out, taken.a, taken.b, taken.c, taken.d, taken.e)?;
     let after = taken.after;
     let counts = after.counts;
-    memory::write_table_counts(counts);
+    memory::write_table_counts(out, counts)
 }
 
-// `run`, what is written of it without threads and registers, and what it leaves.
-pub fn run_next(code: &[u8], m: Memory, picks: &[u8]) -> Memory
-    ensures { result ≡ left_by m (λ s. run_call code.now s picks.now) }
+// `run`, and what is written of it without threads and registers. Answers what it leaves, and beside it whether that could be written.
+pub fn run_next(
+    out: &mut impl Write,
+    code: &[u8],
+    m: Memory,
+    picks: &[u8],
+) -> (Memory, io::Result<()>)
+    ensures { result.0 ≡ left_by m (λ s. run_call code.now s picks.now) }
 {
     let taken = call_run(code, m, picks);
-    write_call(m, taken);
-    taken.after
+    let written = write_call(out, m, taken);
+    (taken.after, written)
 }
 
 // ---- calls cut in two
@@ -270,11 +276,10 @@ fn first_cut(code: &[u8], m: Memory, picks: &[u8], whole: Taken) -> usize {
 }
 
 // `run` in one call and in two, cut at each place, and what is written of it.
-pub fn run_cut(code: &[u8], m: Memory, picks: &[u8]) {
+pub fn run_cut(out: &mut impl Write, code: &[u8], m: Memory, picks: &[u8]) -> io::Result<()> {
     let k = first_cut(code, m, picks, call_run(code, m, picks));
     if k > picks.len() {
-        text::write(b"same");
-        return;
+        return text::write(out, b"same");
     }
-    text::write_number(b"differs at ", k);
+    text::write_number(out, b"differs at ", k)
 }

@@ -1,7 +1,8 @@
 // Text for the test programs: lines, words, numbers and bytes in hex are taken apart, and what a case comes to is written.
 #![tactic(auto)]
+
 ghost use Rattle.std.specs.Prelude.{◌≡◌, ◌+◌, ◌-◌, ◌*◌, ◌%◌, ◌<◌, ◌≤◌, min, false, ◌&&◌, length, take, drop, nat_lt, slice_index};
-ghost use Rattle.io.specs.Counts.{IsPrefixLen};
+ghost use Rattle.std.specs.Counts.{IsPrefixLen};
 ghost use Rattle.text.specs.Texts.{
   zeros,
   place,
@@ -19,6 +20,9 @@ ghost use Rattle.text.specs.Texts.{
   lettered,
 };
 
+use std::io;
+use std::io::Write;
+
 // What a text in hex comes to: how many bytes were put, and whether they are all.
 #[derive(Drop)]
 pub struct Hex {
@@ -27,7 +31,7 @@ pub struct Hex {
 }
 
 // What a text in decimal comes to: whether a minus stands in front, and the digits' number; `good` if it is one, below 2^64.
-#[derive(Drop)]
+#[derive(Clone, Copy)]
 pub struct Number {
     pub good: bool,
     pub minus: bool,
@@ -446,41 +450,41 @@ fn letter(n: u8) -> u8 {
     }
 }
 
-fn write_byte(byte: u8) {
+fn write_byte(out: &mut impl Write, byte: u8) -> io::Result<()> {
     let text = [letter(byte / 16), letter(byte % 16)];
-    io::write_all(1, &text);
+    out.write_all(&text)
 }
 
 // Writes bytes as pairs of digits, with a space between.
-fn write_pairs(bytes: &[u8]) {
+fn write_pairs(out: &mut impl Write, bytes: &[u8]) -> io::Result<()> {
     let mut at = 0;
     while at < bytes.len() {
         if at > 0 {
-            io::write_all(1, b" ");
+            out.write_all(b" ")?;
         }
-        write_byte(bytes[at]);
+        write_byte(out, bytes[at])?;
         at += 1;
     }
+    Ok(())
 }
 
 // Writes a result, or of a long one its length and checksum.
-pub fn write_bytes(bytes: &[u8]) {
+pub fn write_bytes(out: &mut impl Write, bytes: &[u8]) -> io::Result<()> {
     if bytes.len() <= 64 {
-        write_pairs(bytes);
-        return;
+        return write_pairs(out, bytes);
     }
-    write_number(b"", bytes.len());
-    write_number(b" bytes sum ", checksum(bytes) as usize);
+    write_number(out, b"", bytes.len())?;
+    write_number(out, b" bytes sum ", checksum(bytes) as usize)
 }
 
-pub fn write(text: &[u8]) {
-    io::write_all(1, text);
+pub fn write(out: &mut impl Write, text: &[u8]) -> io::Result<()> {
+    out.write_all(text)
 }
 
 // Writes a word and a number.
-pub fn write_number(word: &[u8], n: usize) {
-    io::write_all(1, word);
-    io::print_decimal(1, n as u64);
+pub fn write_number(out: &mut impl Write, word: &[u8], n: usize) -> io::Result<()> {
+    out.write_all(word)?;
+    write!(out, "{n}")
 }
 
 // A number from 0 up, or 0 for one below.
@@ -494,57 +498,71 @@ pub fn natural(n: i32) -> u64
 }
 
 // Writes a word and a number with its sign.
-pub fn write_signed(word: &[u8], n: i32) {
-    io::write_all(1, word);
+pub fn write_signed(out: &mut impl Write, word: &[u8], n: i32) -> io::Result<()> {
+    out.write_all(word)?;
     if n < 0 {
-        io::write_all(1, b"-");
-        io::print_decimal(1, std::num::wrapping_add_u64(natural(!n), 1));
-        return;
+        out.write_all(b"-")?;
+        let below = std::num::wrapping_add_u64(natural(!n), 1);
+        return write!(out, "{below}");
     }
-    io::print_decimal(1, natural(n));
+    let above = natural(n);
+    write!(out, "{above}")
 }
 
-pub fn write_refusal(number: usize, place: usize) {
-    write_number(b"refused ", number);
-    write_number(b" at ", place);
+pub fn write_refusal(out: &mut impl Write, number: usize, place: usize) -> io::Result<()> {
+    write_number(out, b"refused ", number)?;
+    write_number(out, b" at ", place)
 }
 
 // Writes what a line comes to that is no case.
-pub fn write_malformed() {
-    io::write_all(1, b"malformed");
+pub fn write_malformed(out: &mut impl Write) -> io::Result<()> {
+    out.write_all(b"malformed")
 }
 
-pub fn write_kept() {
-    io::write_all(1, b" kept");
+pub fn write_kept(out: &mut impl Write) -> io::Result<()> {
+    out.write_all(b" kept")
 }
 
-pub fn write_altered() {
-    io::write_all(1, b" altered");
+pub fn write_altered(out: &mut impl Write) -> io::Result<()> {
+    out.write_all(b" altered")
 }
 
 // Writes a line's label.
-pub fn write_label(line: &[u8]) {
-    io::write_all(1, before(line, b':'));
-    io::write_all(1, b": ");
+pub fn write_label(out: &mut impl Write, line: &[u8]) -> io::Result<()> {
+    out.write_all(before(line, b':'))?;
+    out.write_all(b": ")
 }
 
-pub fn write_end() {
-    io::write_all(1, b"\n");
+pub fn write_end(out: &mut impl Write) -> io::Result<()> {
+    out.write_all(b"\n")
 }
 
 // Writes the numbers of a step's answer.
-pub fn write_step(event: usize, register: usize, turn: usize, over: usize) {
-    write_number(b"event ", event);
-    write_number(b" register ", register);
-    write_number(b" turn ", turn);
-    write_number(b" over ", over);
+pub fn write_step(
+    out: &mut impl Write,
+    event: usize,
+    register: usize,
+    turn: usize,
+    over: usize,
+) -> io::Result<()> {
+    write_number(out, b"event ", event)?;
+    write_number(out, b" register ", register)?;
+    write_number(out, b" turn ", turn)?;
+    write_number(out, b" over ", over)
 }
 
 // Writes the counts of a run's answer.
-pub fn write_counts(steps: usize, idle: usize, commits: usize, back: usize, over: usize) {
-    write_number(b"steps ", steps);
-    write_number(b" idle ", idle);
-    write_number(b" commits ", commits);
-    write_number(b" back ", back);
-    write_number(b" over ", over);
+pub fn write_counts(
+    out: &mut impl Write,
+    steps: usize,
+    idle: usize,
+    commits: usize,
+    back: usize,
+    over: usize,
+) -> io::Result<()> {
+    write_number(out, b"steps ", steps)?;
+    write_number(out, b" idle ", idle)?;
+    write_number(out, b" commits ", commits)?;
+    write_number(out, b" back ", back)?;
+    write_number(out, b" over ", over)
 }

@@ -30,8 +30,12 @@
 // two, cut at each place: `same` if both leave the same and the counts add up, else `differs at` the first such place. `calls` runs the lists of
 // picks between '|', each in a call on the state that is there, and writes the answer of each with the table's counts, and at the end the state.
 #![tactic(auto)]
+
 mod outputs;
 mod states;
+
+use std::io;
+use std::io::Write;
 
 // The command of a line, as a number by `text::word_number`; 0 where a space and a colon do not follow it.
 fn command(line: &[u8]) -> u64 {
@@ -45,46 +49,48 @@ fn command(line: &[u8]) -> u64 {
 }
 
 // Runs a case. What is run is chosen here.
-fn run_case(what: u64, label: &[u8], body: &[u8]) {
+fn run_case(out: &mut impl Write, what: u64, label: &[u8], body: &[u8]) -> io::Result<()> {
     match what {
         10722 | 3738707333 | 66667 | 6965089665 | 609762900 | 222873880180 => outputs::run_case(
-            what, label, body,
+            out, what, label, body,
         ), // job, compile, back, formula, report, forecast
-        6887016 | 643248 | 19118 | 3764 | 3191187 => states::run_case(what, body), // fresh, step, run, cut, calls
-        _ => text::write_malformed(),
+        6887016 | 643248 | 19118 | 3764 | 3191187 => states::run_case(out, what, body), // fresh, step, run, cut, calls
+        _ => text::write_malformed(out),
     }
 }
 
 // Runs one line, and writes its label and what the case comes to.
-fn run_line(line: &[u8]) {
+fn run_line(out: &mut impl Write, line: &[u8]) -> io::Result<()> {
     if !text::says(line) {
-        return;
+        return Ok(());
     }
-    text::write_label(line);
+    text::write_label(out, line)?;
     run_case(
+        out,
         command(line),
         text::before(line, b':'),
         text::behind(line, b':'),
-    );
-    text::write_end();
+    )?;
+    text::write_end(out)
 }
 
 // Runs each line of the text.
-fn run_lines(lines: &[u8]) {
+fn run_lines(out: &mut impl Write, lines: &[u8]) -> io::Result<()> {
     let mut left = lines;
     while left.len() > 0 {
-        run_line(text::before(left, b'\n'));
+        run_line(out, text::before(left, b'\n'))?;
         let next = text::behind(left, b'\n');
         left = next;
     }
+    Ok(())
 }
 
-fn main() {
+fn main(rt: HostRuntime) -> io::Result<()> {
     let mut space = text::input();
-    let length = io::read_full(0, &mut space);
+    let length = input::read_full(&mut rt.reader(), &mut space)?;
+    let mut out = io::writer(&rt);
     if length > 1350000 {
-        text::write(b"input longer than 1350000 bytes\n");
-        return;
+        return text::write(&mut out, b"input longer than 1350000 bytes\n");
     }
-    run_lines(&space[..length]);
+    run_lines(&mut out, &space[..length])
 }
