@@ -1,15 +1,6 @@
 -- `listing::print` meets its contract. Assumes nothing.
-use Prim.Native.Nat.{ℕ, suc, ◌+◌, ◌-◌, ◌*◌, ◌<◌, ◌≤◌, ◌^◌}
-use mathlib.Core.Path.{◌≡◌, refl, sym, ap, ◌∙◌}
-use native.Mathlib.Omega.{arith}
 use Rattle.listing.proofs.Jobs.{too_few, cut, with_job}
 use Rattle.listing.proofs.Pages.{put_same}
-use borrow.Author.Rules.{rules}
-use Rattle.listing.proofs.print.Reads as reads
-use Rattle.listing.proofs.print.Lts as lts
-use Rattle.listing.proofs.put_job.Reads as put-job-reads
-use Rattle.listing.proofs.put_refusal.Reads as put-refusal-reads
-use Rattle.word.proofs.number16.Reads as number16-reads
 use Rattle.listing.proofs.print.Goals as goal
 
 -- src/lib.rt:220:9

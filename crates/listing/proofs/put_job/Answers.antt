@@ -1,18 +1,12 @@
 -- `listing::put_job` meets its contract. Assumes nothing.
-use Prim.Native.Nat.{ℕ, suc, ◌+◌, ◌-◌, ◌*◌, ◌<◌, ◌≤◌, ◌^◌}
-use mathlib.Core.Path.{◌≡◌, refl, sym, ap, ◌∙◌}
-use native.Mathlib.Omega.{arith}
-use lib.ListN.{length, take, length-replicate}
+use Prim.Native.Nat.{ℕ}
+use mathlib.Core.Path.{sym, ap, ◌∙◌}
+use lib.ListN.{length, length-replicate}
 use Rattle.code.specs.Reader.{read_code}
 use Rattle.script.proofs.Numbers.{bytes_of}
 use Rattle.listing.proofs.Jobs.{refused_job, coded, coded_run, code_within}
 use Rattle.listing.proofs.Pages.{put_same}
 use borrow.Author.Rules.{rules}
-use Rattle.listing.proofs.put_job.Reads as reads
-use Rattle.listing.proofs.put_job.Lts as lts
-use Rattle.compiler.proofs.compile.Reads as compile_reads
-use Rattle.listing.proofs.put_refusal.Reads as put-refusal-reads
-use Rattle.listing.proofs.put_run.Reads as put-run-reads
 use Rattle.listing.proofs.put_job.Goals as goal
 
 -- src/lib.rt:210:47
