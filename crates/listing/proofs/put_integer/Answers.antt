@@ -12,9 +12,11 @@ use Rattle.listing.proofs.Lines.{integer_line}
 use Rattle.listing.proofs.Pages.{put_put, put_same}
 use Rattle.listing.proofs.put_integer.Goals as goal
 
--- src/lib.rt:64:1
 pub returns : goal.returns
 unfolding ascii
 returns c =
     let p = put_put (put_put (put_put c.put-a.ensures c.put_sign-b.ensures.put) (put_same (ap (λ (n : ℕ). [] ++ decimal n) c.magnitude-size.ensures) c.put_number-c.ensures.put)) c.put.ensures in
-    record { put = put_same (integer_line c.args.word.now (to_z w32 (of_z w32 c.args.n)) ∙ ap (λ (z : ℤ). c.args.word.now ++ (integer z ++ ascii "\n")) (to_z-of_z c.ranges.n)) p; upper_bound = omega (arith, c.put-a.ensures.end, c.put_sign-b.ensures.upper_bound, c.put_number-c.ensures.upper_bound, c.put.ensures.end) }
+    record {
+      put = put_same (integer_line c.args.word.now (to_z w32 (of_z w32 c.args.n)) ∙ ap (λ (z : ℤ). c.args.word.now ++ (integer z ++ ascii "\n")) (to_z-of_z c.ranges.n)) p;
+      upper_bound = omega (arith, c.put-a.ensures.end, c.put_sign-b.ensures.upper_bound, c.put_number-c.ensures.upper_bound, c.put.ensures.end);
+    }

@@ -3,6 +3,5 @@ use Rattle.listing.proofs.Lines.{listing_is}
 use Rattle.listing.proofs.Pages.{put_put, put_same}
 use Rattle.listing.proofs.put_listing.Goals as goal
 
--- src/lib.rt:177:1
 pub returns : goal.returns
 returns c = put_same (listing_is _ _ _ _) (put_put (put_put c.put_counts-a.ensures.put c.put_threads-b.ensures.put) c.put_registers.ensures.put)

@@ -9,13 +9,17 @@ use Rattle.listing.proofs.Lines.{sign_below, sign_above}
 use Rattle.listing.proofs.Pages.{put_none, put_same}
 use Rattle.listing.proofs.put_sign.Goals as goal
 
--- src/lib.rt:58:9
 pub returns-then-n-lt0 : goal.returns-then-n-lt0
 unfolding ascii
 returns-then-n-lt0 c =
-    record { put = put_same (sign_below _ (ap (λ (z : ℤ). lt_z z (pos 0)) (sym (to_z-of_z c.ranges.n)) ∙ c.if-n-lt0.true)) c.put.ensures; upper_bound = omega (arith, c.put.ensures.end) }
+    record {
+      put = put_same (sign_below _ (ap (λ (z : ℤ). lt_z z (pos 0)) (sym (to_z-of_z c.ranges.n)) ∙ c.if-n-lt0.true)) c.put.ensures;
+      upper_bound = omega (arith, c.put.ensures.end);
+    }
 
--- src/lib.rt:52:1
 pub returns : goal.returns
 returns c =
-    record { put = put_same (sign_above _ (ap (λ (z : ℤ). lt_z z (pos 0)) (sym (to_z-of_z c.ranges.n)) ∙ c.if-n-lt0.false)) (put_none _ _); upper_bound = omega arith }
+    record {
+      put = put_same (sign_above _ (ap (λ (z : ℤ). lt_z z (pos 0)) (sym (to_z-of_z c.ranges.n)) ∙ c.if-n-lt0.false)) (put_none _ _);
+      upper_bound = omega arith;
+    }

@@ -18,4 +18,7 @@ slice_bounds-deliver-end c = let w = whole c.print-length.ensures in w.size ∙ 
 pub returns : goal.returns
 returns c =
     let w = whole c.print-length.ensures in
-    record { out_value = ap (λ (t : List ℕ). delivered (done t) c.args.out.now) (sym w.front) ∙ c.deliver.ensures; input_len_bound = omega (arith, w.size, w.within) }
+    record {
+      out_value = ap (λ (t : List ℕ). delivered (done t) c.args.out.now) (sym w.front) ∙ c.deliver.ensures;
+      input_len_bound = omega (arith, w.size, w.within);
+    }
