@@ -1,5 +1,6 @@
 // The compiler: a job's stack code, written into the front of a lent output.
 #![tactic(auto)]
+
 ghost use Rattle.std.specs.Prelude.{◌+◌, ◌≤◌, length, [], ◌∷◌, ◌≡◌};
 ghost use Rattle.compiler.specs.CompileTo.{compile_to};
 ghost use Rattle.decompiler.specs.ReadBackTo.{read_back_to};

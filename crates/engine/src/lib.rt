@@ -3,6 +3,7 @@
 ghost use Rattle.std.specs.Prelude.{◌<◌, ◌≤◌, cond, true, ◌≡◌, ltb, get_or, length};
 ghost use Rattle.engine.specs.InnerEngine.{Admitted, Gathered, cleared, drove, forgotten, laid, record_of};
 ghost use Rattle.machine.specs.Answers.{answered, fresh_call, run_call, step_call};
+ghost use Rattle.machine.specs.Fits.{RangedThread, TypedThread};
 ghost use Rattle.machine.specs.Steps.{state_from};
 ghost use Rattle.progress.specs.InnerProgress.{driven, driven_by, picked_by, plain_pick, which_of};
 ghost use Rattle.thread.specs.InnerStep.{table_from};
@@ -51,6 +52,15 @@ fn record_of(i: usize, end: usize) -> thread::Thread
     spawned(0, 0)
 }
 
+// The record itself. Its contract also hands on what a record has by its type: each array has 64 entries, and each number is in its range.
+fn known(t: thread::Thread) -> thread::Thread
+    ensures same { result ≡ t }
+    ensures typed { TypedThread t }
+    ensures ranged { RangedThread t }
+{
+    t
+}
+
 // The survey of all records; the counts say which of them have a stale read.
 fn gather(threads: &[thread::Thread], counts: &[u32]) -> survey::Survey
     ensures { Gathered counts.now threads.now result }
@@ -58,7 +68,7 @@ fn gather(threads: &[thread::Thread], counts: &[u32]) -> survey::Survey
     let mut s = survey::Survey::start();
     let mut i: usize = 0;
     while i < threads.len() {
-        let t = threads[i];
+        let t = known(threads[i]);
         s = s.with(t, counts);
         i += 1;
     }

@@ -54,14 +54,17 @@ module _ (bytes : List ℕ) where
   rises stop = omega arith
   rises (go {p} {op = op} e x a) = let r = rises a in let l = next_after op p in omega arith
 
-  once : {p n q m k : ℕ} → Ahead p n q m → Ahead p n q k → m ≡ k
-  once stop stop = refl
-  once {p} stop (go {op = op} e x a) = absurd (let r = rises a in let l = next_after op p in omega arith)
-  once {p} (go {op = op} e x a) stop = absurd (let r = rises a in let l = next_after op p in omega arith)
-  once {p} {n} {q} {m} {k} (go {k = a''} {op = a'} e x a) (go {k = b''} {op = b'} d y b) =
+  once_at : {p n q r m k : ℕ} → Ahead p n q m → Ahead p n r k → q ≡ r → m ≡ k
+  once_at stop stop s = refl
+  once_at {p} stop (go {op = op} e x a) s = absurd (let r = rises a in let l = next_after op p in omega arith)
+  once_at {p} (go {op = op} e x a) stop s = absurd (let r = rises a in let l = next_after op p in omega arith)
+  once_at {p} {n} {q} {r} {m} {k} (go {k = a''} {op = a'} e x a) (go {k = b''} {op = b'} d y b) w =
       let s : b' ≡ a' = same_op (sym d ∙ e) in
       let t : b'' ≡ a'' = same_number (sym y ∙ (ap (λ (o : Op). adds_past o n) s ∙ x)) in
-      once a (subst (λ (z : ℕ). Ahead (next_place a' p) z q k) t (subst (λ (o : Op). Ahead (next_place o p) b'' q k) s b))
+      once_at a (subst (λ (z : ℕ). Ahead (next_place a' p) z r k) t (subst (λ (o : Op). Ahead (next_place o p) b'' r k) s b)) w
+
+  once : {p n q m k : ℕ} → Ahead p n q m → Ahead p n q k → m ≡ k
+  once a b = once_at a b refl
 
   since_once : {b q m k : ℕ} → AddsSince bytes b q m → AddsSince bytes b q k → m ≡ k
   since_once x y = once (ahead x) (ahead y)

@@ -1,7 +1,6 @@
 -- `compiler::put_add` meets its contract: one store at a place. Assumes nothing.
 use mathlib.Core.Path.{refl}
 use native.Mathlib.Omega.{arith}
-use borrow.Author.Rules.{rules}
 use Rattle.delivery.proofs.Places.{one_stored}
 use Rattle.compiler.proofs.put_add.Goals as goal
 

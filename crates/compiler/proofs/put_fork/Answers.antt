@@ -3,7 +3,6 @@ use mathlib.Core.Path.{refl}
 use mathlib.Core.List.{[], ◌∷◌}
 use native.Mathlib.Omega.{arith}
 use lib.ListN.{length-set}
-use borrow.Author.Rules.{rules}
 use Rattle.script.specs.Bytes.{bytes16}
 use Rattle.delivery.proofs.Places.{front_stored}
 use Rattle.compiler.proofs.put_fork.Goals as goal

@@ -2,7 +2,6 @@
 use mathlib.Core.List.{[], ◌∷◌}
 use native.Mathlib.Omega.{arith}
 use lib.ListN.{length-set}
-use borrow.Author.Rules.{rules}
 use Rattle.code.specs.Bytes.{code_mark}
 use Rattle.script.specs.Bytes.{bytes16}
 use Rattle.delivery.proofs.Places.{front_stored}

@@ -1,7 +1,6 @@
 -- `compiler::put_read` meets its contract: two stores at the front. Assumes nothing.
 use mathlib.Core.List.{[], ◌∷◌}
 use mathlib.Core.Path.{refl}
-use borrow.Author.Rules.{rules}
 use Rattle.delivery.proofs.Places.{front_stored}
 use Rattle.compiler.proofs.put_read.Goals as goal
 

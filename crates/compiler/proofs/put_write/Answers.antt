@@ -2,7 +2,6 @@
 use mathlib.Core.Path.{refl}
 use native.Mathlib.Omega.{arith}
 use lib.ListN.{length-set}
-use borrow.Author.Rules.{rules}
 use Rattle.delivery.proofs.Places.{two_stored}
 use Rattle.compiler.proofs.put_write.Goals as goal
 

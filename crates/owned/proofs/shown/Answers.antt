@@ -10,33 +10,18 @@ use Rattle.thread.specs.declared.Thread.{Thread}
 use Rattle.owned.specs.Owned.{on_first}
 use Rattle.owned.specs.declared.Laid.{Laid}
 use Rattle.owned.proofs.Freshly.{freshly}
-use Rattle.owned.proofs.shown.Statement.{statement}
-use Rattle.owned.proofs.shown.Tie as tie
 use Rattle.owned.proofs.shown.Reads as reads
 use Rattle.owned.proofs.shown.Lts as lts
 use Rattle.owned.proofs.fresh.Reads as fresh-reads
 use Rattle.engine.proofs.spawned.Reads as spawned-reads
 use Rattle.owned.proofs.run.Reads as run-reads
-
--- no call asks anything
-spawned-requires : tie.Need-spawned-requires
-spawned-requires c κs = search rules
-
-fresh-requires : tie.Need-fresh-requires
-fresh-requires c κs = search rules
-
-run-requires : tie.Need-run-requires
-run-requires c κs = search rules
+use Rattle.owned.proofs.shown.Goals as goal
 
 -- the two calls are one
-returns : tie.Need-returns
+pub returns : goal.returns
 returns c =
-    let laid : Laid = c.before.before.before.before.fresh.result in
+    let laid : Laid = c.fresh-laid.result in
     freshly _ _ (replicate 65 (pos 0)) (replicate 65 0) (replicate 17 blank) refl refl refl _ _ _ laid.reply
     (subst (λ (t : Thread). answered laid.registers laid.counts laid.threads laid.reply ≡
-    on_first 64 64 16 (fresh_call c.before.before.before.before.before.before.before.before.args.code.now) (replicate 65 (pos 0)) (replicate 65 0) (replicate 17 t))
-    (c.before.before.before.before.before.spawned.ensures ∙ unspawned) c.before.before.before.before.fresh.ensures) _ c.run.ensures
-
--- the function meets its contract
-pub shown-spec : {M : Type 1} → statement M
-shown-spec = tie.close (tie.spec spawned-requires fresh-requires run-requires returns)
+    on_first 64 64 16 (fresh_call c.args.code.now) (replicate 65 (pos 0)) (replicate 65 0) (replicate 17 t))
+    (c.spawned-t.ensures ∙ unspawned) c.fresh-laid.ensures) _ c.run.ensures
