@@ -5,7 +5,7 @@ ghost use Rattle.delivery.specs.Delivered.{delivered};
 ghost use Rattle.delivery.specs.InnerPlaces.{moved};
 ghost use Rattle.script.specs.Outcome.{done};
 
-#[derive(Drop)]
+#[derive(Clone, Copy)]
 pub enum Answer {
     // so many bytes of the output, counted from its start, are the result
     Done(usize),

@@ -16,7 +16,7 @@ use forecast::ForecastReply;
 
 // The answer: the papers' number of the refusal, 0 if there is none, and the place; the length of the result, 0 if it was refused.
 #[repr(C)]
-#[derive(Drop)]
+#[derive(Clone, Copy)]
 pub struct Written {
     pub refusal: usize,
     pub place: usize,

@@ -8,7 +8,7 @@ ghost use Rattle.script.specs.Reader.{read_job};
 
 // The forecast: the papers' number of the refusal, 0 if there is none, and the place; then the figures, 0 throughout if the job was refused.
 #[repr(C)]
-#[derive(Drop)]
+#[derive(Clone, Copy)]
 pub struct ForecastReply {
     pub refusal: usize,
     pub place: usize,

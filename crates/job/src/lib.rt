@@ -9,7 +9,7 @@ ghost use Rattle.script.specs.Outcome.{onward};
 ghost use Rattle.script.specs.Reader.{node_at, read_job, read_nodes, short_only, whole, permitted as may};
 
 // What reading a job comes to.
-#[derive(Drop)]
+#[derive(Clone, Copy)]
 pub enum Reading {
     // the job's version, and its code's length in bytes
     Accepted(u16, usize),

@@ -3,7 +3,7 @@
 
 // The answer of `fresh`: document 01's number of the refusal, 0 if there is none, and the place.
 #[repr(C)]
-#[derive(Drop)]
+#[derive(Clone, Copy)]
 pub struct FreshReply {
     pub refusal: usize,
     pub place: usize,
@@ -11,7 +11,7 @@ pub struct FreshReply {
 
 // The answer of `step`: the refusal as above, and what the pick did, 0 throughout if it was refused.
 #[repr(C)]
-#[derive(Drop)]
+#[derive(Clone, Copy)]
 pub struct StepReply {
     pub refusal: usize,
     pub place: usize,
@@ -29,7 +29,7 @@ pub struct StepReply {
 
 // The answer of `run`: the refusal as above, and the counts of its picks, 0 throughout if it was refused.
 #[repr(C)]
-#[derive(Drop)]
+#[derive(Clone, Copy)]
 pub struct RunReply {
     pub refusal: usize,
     pub place: usize,

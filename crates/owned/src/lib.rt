@@ -7,7 +7,7 @@ ghost use Rattle.owned.specs.Owned.{freshly_run, on_first};
 ghost use Rattle.thread.specs.Threads.{blank};
 
 // What `fresh` leaves and answers.
-#[derive(Drop)]
+#[derive(Clone, Copy)]
 pub struct Laid {
     pub registers: [i32; 65],
     pub counts: [u32; 65],
@@ -43,7 +43,7 @@ pub fn fresh(
 }
 
 // What `step` leaves and answers.
-#[derive(Drop)]
+#[derive(Clone, Copy)]
 pub struct Stepped {
     pub registers: [i32; 65],
     pub counts: [u32; 65],
@@ -80,7 +80,7 @@ pub fn step(
 }
 
 // What `run` leaves and answers.
-#[derive(Drop)]
+#[derive(Clone, Copy)]
 pub struct Ran {
     pub registers: [i32; 65],
     pub counts: [u32; 65],

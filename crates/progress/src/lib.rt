@@ -8,7 +8,7 @@ ghost use Rattle.thread.specs.InnerStep.{table_from};
 
 // The number of threads, how many picks are to be done, document 01's number of the refusal, 0 if there is none, the counts so far, and what
 // the last pick did, in the numbers of a step's answer. (A step's `over` is that of its one pick, so far.)
-#[derive(Drop)]
+#[derive(Clone, Copy)]
 pub struct Progress {
     pub threads: usize,
     pub limit: usize,
@@ -24,7 +24,7 @@ pub struct Progress {
 }
 
 // What a pick of a record leaves: the record, the seat of a forked child, 16 if there is none, the child's own code, and the progress.
-#[derive(Drop)]
+#[derive(Clone, Copy)]
 pub struct Picked {
     pub thread: thread::Thread,
     pub seat: usize,

@@ -6,7 +6,7 @@ ghost use Rattle.scan.specs.Answer.{told};
 ghost use Rattle.scan.specs.InnerView.{Followed, GoodScan, ItemRoom, Limits, Settled, ShortFork, add_to, bad, close_to, commit_to, counted_to, ends_long, finish_to, fork_to, leaf_to, moved_to, enter_to, set_to, empty_scan, state, step_to, top_to, write_to};
 
 // What scanning code comes to.
-#[derive(Drop)]
+#[derive(Clone, Copy)]
 pub enum Scanned {
     // the job's version, its node count, and its length in bytes
     Job(u16, usize, usize),

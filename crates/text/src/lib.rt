@@ -24,7 +24,7 @@ use std::io;
 use std::io::Write;
 
 // What a text in hex comes to: how many bytes were put, and whether they are all.
-#[derive(Drop)]
+#[derive(Clone, Copy)]
 pub struct Hex {
     pub count: usize,
     pub whole: bool,

@@ -38,7 +38,7 @@ pub struct Thread {
 }
 
 // What a step hands back.
-#[derive(Drop)]
+#[derive(Clone, Copy)]
 pub struct Action {
     pub thread: Thread,
     // what was done: 0 nothing, 1 push, 2 sum, 3 fork, 4 begin, 5, 6, 7 read from the write log, the read log, the table, 8 write,

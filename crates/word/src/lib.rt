@@ -6,7 +6,7 @@ ghost use Rattle.word.specs.InnerCount.{saturated};
 ghost use Rattle.word.specs.Sum.{added, wrapping};
 
 // A sum, and whether the exact sum fell outside the range of 32 bits.
-#[derive(Drop)]
+#[derive(Clone, Copy)]
 pub struct Added {
     pub value: i32,
     pub overflowed: bool,

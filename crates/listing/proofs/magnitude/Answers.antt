@@ -10,10 +10,9 @@ use lib.Signed.{non_neg, lt_z}
 use mir.Syntax.{w32, w64}
 use mir.Val.{Fits, SFits, to_z, of_z}
 use mir.Facts.{to_z-of_z, sfits_widen, Fits-nat_abs}
-use Rattle.listing.proofs.magnitude.Statement.{statement}
-use Rattle.listing.proofs.magnitude.Tie as tie
 use Rattle.listing.proofs.magnitude.Reads as reads
 use Rattle.listing.proofs.magnitude.Lts as lts
+use Rattle.listing.proofs.magnitude.Goals as goal
 
 wide : (z : ℤ) → SFits w32 z → to_z w64 (of_z w64 (to_z w32 (of_z w32 z))) ≡ z
 wide z p = ap (λ (y : ℤ). to_z w64 (of_z w64 y)) (to_z-of_z p) ∙ to_z-of_z (sfits_widen tt p)
@@ -44,23 +43,20 @@ above (negsuc n) e = absurd (subst T e tt)
 is_below : (c : lts.Then1 reads.Pre reads.Post) → Below c.before.args.n
 is_below c = below c.before.args.n c.before.ranges.n (ap (λ (z : ℤ). lt_z z (pos 0)) (sym (to_z-of_z c.before.ranges.n)) ∙ c.if1.true)
 
-cast-wide : tie.Need-overflow-cast-wide
-cast-wide c = rw (to_z-of_z c.before.ranges.n) (sfits_widen tt c.before.ranges.n)
+pub overflow_cast-wide : goal.overflow_cast-wide
+overflow_cast-wide c = rw (to_z-of_z c.ranges.n) (sfits_widen tt c.ranges.n)
 
-sub-result : tie.Need-overflow-sub-result
-sub-result c = rw (wide _ c.before.ranges.n) (is_below c).ranges
+pub overflow_sub-result : goal.overflow_sub-result
+overflow_sub-result c = rw (wide _ c.ranges.n) (is_below c).ranges
 
-cast-result : tie.Need-overflow-cast-result
-cast-result c = rw (wide _ c.before.ranges.n, to_z-of_z (is_below c).ranges) ((is_below c).sign, Fits-nat_abs tt (is_below c).ranges)
+pub overflow_cast-result : goal.overflow_cast-result
+overflow_cast-result c = rw (wide _ c.ranges.n, to_z-of_z (is_below c).ranges) ((is_below c).sign, Fits-nat_abs tt (is_below c).ranges)
 
-returns : tie.Need-returns
-returns c = rw (wide _ c.before.ranges.n, to_z-of_z (is_below c).ranges) (is_below c).size
+pub returns-then-n-lt0 : goal.returns-then-n-lt0
+returns-then-n-lt0 c = rw (wide _ c.ranges.n, to_z-of_z (is_below c).ranges) (is_below c).size
 
-cast-result-2 : tie.Need-overflow-cast-result-2
-cast-result-2 c = rw (to_z-of_z c.before.ranges.n) (above c.before.args.n (ap (λ (z : ℤ). lt_z z (pos 0)) (sym (to_z-of_z c.before.ranges.n)) ∙ c.if1.false), Fits-nat_abs tt c.before.ranges.n)
+pub overflow_cast-result-2 : goal.overflow_cast-result-2
+overflow_cast-result-2 c = rw (to_z-of_z c.ranges.n) (above c.args.n (ap (λ (z : ℤ). lt_z z (pos 0)) (sym (to_z-of_z c.ranges.n)) ∙ c.if-n-lt0.false), Fits-nat_abs tt c.ranges.n)
 
-returns-2 : tie.Need-returns-2
-returns-2 c = rw (to_z-of_z c.before.ranges.n) refl
-
-pub magnitude-spec : {M : Type 1} → statement M
-magnitude-spec = tie.close (tie.spec cast-wide sub-result cast-result returns cast-result-2 returns-2)
+pub returns : goal.returns
+returns c = rw (to_z-of_z c.ranges.n) refl
