@@ -1,6 +1,6 @@
 -- The bytes of a tree's code, by structure: what `compile_t` and `compile_p` put in front of the code that they are handed, and how long it is.
 -- Assumes nothing.
-use Prim.Native.Nat.{ℕ, ◌+◌}
+use Prim.Native.Nat.{ℕ}
 use mathlib.Core.Path.{◌≡◌, refl}
 use mathlib.Core.List.{List, [], ◌∷◌, ◌++◌, append_assoc, append-nil}
 use native.Mathlib.Omega.{arith}

@@ -1,5 +1,6 @@
 // The answer of a call that writes its result to the front of a lent output, and what writes and moves bytes there.
 #![tactic(auto)]
+
 ghost use Rattle.std.specs.Prelude.{◌≡◌};
 ghost use Rattle.delivery.specs.Delivered.{delivered};
 ghost use Rattle.delivery.specs.InnerPlaces.{moved};

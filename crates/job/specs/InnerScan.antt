@@ -1,11 +1,11 @@
 -- For the proof of `read_job` only: what its functions do, a step of `read_nodes` on a small array of what is due.
-use Rattle.std.specs.Prelude.{ℕ, zero, suc, ◌+◌, ◌-◌, ◌%◌, ◌≤◌, ◌<◌, Bool, true, false, cond, ◌&&◌, ◌||◌, List, [], ◌∷◌, eqb, leb, ltb, get_or, set}
+use Rattle.std.specs.Prelude.{ℕ, zero, suc, ◌+◌, ◌-◌, ◌%◌, ◌≤◌, ◌<◌, cond, ◌&&◌, ◌||◌, List, [], ◌∷◌, eqb, leb, ltb, get_or, set}
 use Rattle.job.specs.declared.Tested.{Tested}
 use Rattle.job.specs.declared.Tested.TheVariants.{Kind, Refused}
 use Rattle.job.specs.declared.Cursor.{Cursor}
 use Rattle.job.specs.declared.Transactions.{Transactions}
 use Rattle.script.specs.InnerTrees.{sort_of}
-use Rattle.script.specs.Tree.{Sort, process, transaction}
+use Rattle.script.specs.Tree.{Sort}
 use Rattle.script.specs.Bytes.{Node, VALP, ADDP, ATOMIC, FORK, VALT, ADDT, READ, WRITE}
 use Rattle.script.specs.Outcome.{Outcome, refused, done}
 use Rattle.script.specs.Jobs.{Due, operand}

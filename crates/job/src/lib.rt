@@ -1,5 +1,6 @@
 // The job reader: which bytes are a job, and what is refused with which number at which place.
 #![tactic(auto)]
+
 ghost use Rattle.std.specs.Prelude.{ℕ, ◌+◌, ◌<◌, ◌≤◌, eqb, leb, ltb, drop, length, ◌&&◌, ◌||◌, List, ◌≡◌};
 ghost use Rattle.job.specs.Answer.{answer};
 ghost use Rattle.script.specs.InnerTrees.{sort_of};

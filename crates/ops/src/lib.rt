@@ -1,5 +1,6 @@
 // The instruction that stands at a place of the code, with its operand.
 #![tactic(auto)]
+
 ghost use Rattle.std.specs.Prelude.{◌*◌, ◌+◌, drop, ◌≡◌};
 ghost use Rattle.code.specs.Ops.{op_at, opcode_operand};
 ghost use Rattle.ops.specs.Shown.{shown_op};

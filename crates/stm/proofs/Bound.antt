@@ -11,7 +11,7 @@ use lib.IntN.{ℤ}
 use lib.ListN.{length, get_or, set, length-set, length-append}
 use lib.Seq.{get_or-set_same}
 use Rattle.stm.specs.InnerCells.{Cells}
-use Rattle.stm.specs.InnerTasks.{Log, Task, outside, inside, ended, Did, first_stale, overwritten, commits, stays, goes, step_outside, step_inside, step_task, System, task_at, started, did, next, end_of, events_of, start}
+use Rattle.stm.specs.InnerTasks.{Log, Task, outside, inside, ended, Did, first_stale, overwritten, commits, stays, step_outside, step_inside, step_task, System, task_at, started, did, next, end_of, events_of, start}
 use Rattle.stm.specs.InnerMeaning.{TakesOutside, TakesInside, Outside, Inside, behind, begins_in, begins, forks_in, forks_of, to_come, commits_to_come, forks_to_come, dirty, total}
 use Rattle.stm.proofs.Codes.{proc_runs}
 use Rattle.stm.proofs.SentBack.{StepStaleness, staleness, at_next, never, no}

@@ -10,7 +10,7 @@ use Rattle.code.specs.Compile.{Code, PUSH, ADD, READ, WRITE, BEGIN, COMMIT, FORK
 use Rattle.script.specs.Tree.{Tran, ValT, AddT, Read, Write, Proc, ValP, AddP, Atomic, Fork}
 use Rattle.script.specs.Limits.{ValuedT, ValuedP}
 use Rattle.script.specs.Overflows.{overflows_t, overflows_p}
-use Rattle.script.specs.Turns.{Registers, work, value, moved, reduce}
+use Rattle.script.specs.Turns.{Registers, work, moved, reduce}
 use Rattle.word.specs.Sum.{Rule}
 
 -- ---- compiled code stands for its tree

@@ -5,7 +5,7 @@ use mathlib.Core.Path.{◌≡◌, refl, sym, ap}
 use mathlib.Core.List.{List, [], ◌∷◌, ◌++◌}
 use native.Mathlib.Omega.{arith}
 use lib.Dec.{eqb}
-use Rattle.stm.specs.Events.{Source, from_writes, from_reads, from_table, Event, idle, pushed, summed, forked, begun, looked, wrote, committed, sent_back, Happened, counted, is_idle, is_commit, is_back, is_turn, order, backs, Counts, uncounted, more, tally, counts_of, together, event_number, event_register, turn_number, event_of}
+use Rattle.stm.specs.Events.{from_writes, from_reads, from_table, Event, idle, pushed, summed, forked, begun, looked, wrote, committed, sent_back, Happened, counted, is_idle, is_commit, is_back, is_turn, order, backs, Counts, uncounted, more, tally, counts_of, together, event_number, event_register, turn_number, event_of}
 use Rattle.stm.specs.InnerTasks.{overs}
 
 pub counted_append : (f : Event → Bool) (hs ks : List Happened) → counted f (hs ++ ks) ≡ counted f hs + counted f ks

@@ -18,7 +18,7 @@ use Rattle.code.specs.Compile.{Code, PUSH, ADD, READ, WRITE, BEGIN, COMMIT, FORK
 use Rattle.stm.specs.Events.{Event, idle, pushed, summed, begun, looked, wrote, committed, sent_back, is_turn}
 use Rattle.script.specs.Tree.{Tran, Proc, ValP, AddP, Atomic, Fork}
 use Rattle.script.specs.Overflows.{overflows_p}
-use Rattle.script.specs.Turns.{Registers, Reduced, value, moved, reduce}
+use Rattle.script.specs.Turns.{Registers, Reduced, moved, reduce}
 use Rattle.word.specs.Sum.{Rule, over_of}
 
 pub values_long : (σ : List ℤ) → length (values σ) ≡ length σ

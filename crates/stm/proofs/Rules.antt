@@ -1,12 +1,12 @@
 -- The numbers of the machine rules: each rule has one, and below 74 each number has a rule or, 0, none. Assumes nothing.
 use Prim.Native.Nat.{ℕ, zero, suc, ◌+◌, ◌-◌, ◌≤◌, ◌<◌}
-use mathlib.Core.Bool.{Bool, true, false, cond}
-use mathlib.Core.Path.{◌≡◌, refl, sym, ap, ◌∙◌}
+use mathlib.Core.Bool.{cond}
+use mathlib.Core.Path.{◌≡◌, refl, ap, ◌∙◌}
 use mathlib.Core.Option.{Option, none, some}
 use native.Mathlib.Omega.{arith}
 use borrow.Author.Tests.{lt-ltb, le-ltb, ne_eqb}
-use lib.Dec.{eqb, ltb}
-use Rattle.stm.specs.Events.{Event, idle, pushed, summed, forked, begun, looked, from_writes, from_reads, from_table, wrote, committed, sent_back, event_number, event_register, is_idle}
+use lib.Dec.{ltb}
+use Rattle.stm.specs.Events.{Event, idle, pushed, summed, forked, begun, looked, from_writes, from_reads, from_table, wrote, committed, sent_back, event_number, event_register}
 use Rattle.stm.specs.Rules.{MachineRule, push, sum, fork, begin, read_from_write_log, read_from_read_log, read_from_table, write, commit, sent_back_with, used_by, rule_number, rule_of_number, OfMachine}
 
 -- a number above 9

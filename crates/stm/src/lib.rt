@@ -1,1 +1,3 @@
+#![tactic(auto)]
+
 // The machine with logs on threads that carry their code, for any rule for sums and any staleness. Definitions and theorems. No function.

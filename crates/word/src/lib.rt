@@ -1,5 +1,6 @@
 // Numbers of 32 bits, of two bytes, and sets of 64 registers: the leaves of every layer above.
 #![tactic(auto)]
+
 ghost use Rattle.std.specs.Prelude.{◌*◌, ◌+◌, ◌/◌, ◌%◌, ◌≡◌};
 ghost use Rattle.word.specs.Registers.{member, none, with};
 ghost use Rattle.word.specs.InnerCount.{saturated};

@@ -1,11 +1,9 @@
 -- `delivery::deliver` meets its contract: the loop's invariant is that the first `i` bytes are copied. Assumes nothing.
-use Prim.Native.Nat.{ℕ, ◌-◌, ◌<◌, ◌≤◌}
-use mathlib.Core.Path.{◌≡◌, refl, ap, ◌∙◌}
+use Prim.Native.Nat.{ℕ, ◌<◌, ◌≤◌}
+use mathlib.Core.Path.{refl, ap, ◌∙◌}
 use mathlib.Core.List.{List}
 use native.Mathlib.Omega.{arith}
 use lib.ListN.{length, get_or, set, length-set}
-use lib.Seq.{paste}
-use borrow.Author.Rules.{rules}
 use Rattle.delivery.proofs.Delivers.{too_short, copy_delivers}
 use Rattle.delivery.proofs.Places.{copied}
 use Rattle.delivery.proofs.deliver.Goals as goal

@@ -1,11 +1,10 @@
 -- `delivery::shift` meets its contract: the loop's invariant is that the part from `i` on is moved. Assumes nothing.
-use Prim.Native.Nat.{ℕ, ◌+◌, ◌-◌, ◌≤◌}
+use Prim.Native.Nat.{ℕ, ◌≤◌}
 use mathlib.Core.Path.{◌≡◌, refl, sym, ap, ◌∙◌}
 use native.Mathlib.Omega.{arith}
-use lib.ListN.{length, length-set}
+use lib.ListN.{length-set}
 use Rattle.delivery.specs.InnerPlaces.{shifted}
 use Rattle.delivery.proofs.Places.{shift_none, shift_turn, moved_fits, moved_none, moved_out}
-use borrow.Author.Rules.{rules}
 use Rattle.delivery.proofs.shift.Goals as goal
 
 pub returns-then-end-start : goal.returns-then-end-start

@@ -1,11 +1,8 @@
 -- `delivery::shift` meets its contract: the loop's invariant is that the part from `i` on is moved. Assumes nothing.
-use Prim.Native.Nat.{ℕ, ◌+◌, ◌-◌, ◌≤◌}
-use mathlib.Core.Path.{◌≡◌, refl, sym, ap, ◌∙◌}
-use native.Mathlib.Omega.{arith}
-use lib.ListN.{length, length-set}
+use Prim.Native.Nat.{◌+◌, ◌-◌, ◌≤◌}
+use mathlib.Core.Path.{◌≡◌}
+use lib.ListN.{length}
 use Rattle.delivery.specs.InnerPlaces.{shifted}
-use Rattle.delivery.proofs.Places.{shift_none, shift_turn, moved_fits, moved_none, moved_out}
-use borrow.Author.Rules.{rules}
 use Rattle.delivery.proofs.shift.Given as goal
 
 abbrev pub invariant-loop-i : goal.invariant-loop-i

@@ -1,8 +1,6 @@
 -- `job::node` meets its contract: each answer is one of the tests. Assumes nothing.
 use mathlib.Core.Path.{sym, ◌∙◌}
-use borrow.Author.Tests.{not-true, not-false}
 use Rattle.job.proofs.Tests.{no_byte, bad_kind, too_deep, cut, bad_register, good_register, many_forks, good_fork, good_other}
-use borrow.Author.Rules.{rules}
 use Rattle.job.proofs.node.Goals as goal
 
 pub returns-then-place-length : goal.returns-then-place-length

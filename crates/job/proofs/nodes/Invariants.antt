@@ -1,21 +1,10 @@
 -- `job::nodes` meets its contract: the loop follows `read_nodes` and counts each transaction's nodes, and what is left of the count falls. Assumes nothing.
-use Prim.Native.Nat.{ℕ, ◌≤◌}
-use mathlib.Core.Bool.{Bool, false, ◌||◌}
-use mathlib.Core.Path.{◌≡◌, refl, sym, ap, subst, ◌∙◌}
-use native.Mathlib.Omega.{arith}
-use lib.Dec.{ltb}
-use lib.ListN.{drop, set, replicate}
-use borrow.Author.Rules.{rules}
-use borrow.Author.Tests.{ltb-false}
+use lib.ListN.{drop}
 use Rattle.script.specs.Jobs.{root}
 use Rattle.script.specs.Reader.{read_nodes, whole}
-use Rattle.script.proofs.Numbers.{bytes_of}
-use Rattle.job.specs.declared.Cursor.{Cursor}
-use Rattle.job.specs.InnerScan.{Reader, joined, held_part}
-use Rattle.job.proofs.Advance.{one_less}
-use Rattle.job.proofs.Walk.{ReaderInv, inv_start, height_most, neither, used_up, node_refused, node_ready, node_stands, node_read, over, complete}
-use Rattle.job.proofs.Header.{refused_at_once, long_answer, short_answer}
-use Rattle.job.proofs.Long.{Counting, counting_first, counts_on, counted}
+use Rattle.job.specs.InnerScan.{joined}
+use Rattle.job.proofs.Walk.{ReaderInv}
+use Rattle.job.proofs.Long.{Counting}
 use Rattle.job.proofs.nodes.Given as goal
 
 abbrev pub invariant-loop-s : goal.invariant-loop-s

@@ -3,11 +3,10 @@ use Prim.Native.Nat.{ℕ}
 use mathlib.Core.Bool.{◌&&◌}
 use lib.Dec.{leb}
 use mathlib.Core.Path.{sym, ap, ◌∙◌}
-use borrow.Author.Tests.{not-true, not-false, leb-true}
+use borrow.Author.Tests.{leb-true}
 use Rattle.script.proofs.Accepts.{both}
 use Rattle.script.specs.Reader.{job_marked}
 use Rattle.job.proofs.Header.{cut, bad_mark, bad_version, bad_count, passed}
-use borrow.Author.Rules.{rules}
 use Rattle.job.proofs.read_job.Goals as goal
 
 pub returns-then-length-lt7 : goal.returns-then-length-lt7

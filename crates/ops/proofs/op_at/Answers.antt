@@ -1,9 +1,7 @@
 -- `ops::op_at` meets its contract: by the opcode. Assumes nothing.
-use mathlib.Core.Logic.{◌⊎◌}
-use mathlib.Core.Path.{◌≡◌, ap, ◌∙◌}
+use mathlib.Core.Path.{ap, ◌∙◌}
 use native.Mathlib.Omega.{arith}
-use lib.ListN.{get_or}
-use borrow.Author.Rules.{rules, sfits_of}
+use borrow.Author.Rules.{sfits_of}
 use mir.Facts.{to_z-of_z}
 use Rattle.word.specs.Sum.{signed}
 use Rattle.ops.specs.declared.Op.TheVariants as op

@@ -1,6 +1,5 @@
 -- `word::has` meets its contract. Assumes nothing.
 use mathlib.Core.Path.{sym}
-use borrow.Author.Rules.{rules}
 use native.Mathlib.Omega.{arith}
 use lib.Bits.{and_mask}
 use Rattle.word.proofs.Sets.{member_low, member_high}

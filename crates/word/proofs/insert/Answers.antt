@@ -1,6 +1,5 @@
 -- `word::insert` meets its contract. Assumes nothing.
 use mathlib.Core.Path.{sym, ap, ◌∙◌}
-use borrow.Author.Rules.{rules}
 use native.Mathlib.Omega.{arith}
 use lib.Bits.{bit_or}
 use Rattle.word.proofs.Sets.{mask, with_low, with_high}

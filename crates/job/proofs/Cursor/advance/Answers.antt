@@ -2,7 +2,6 @@
 use mathlib.Core.Path.{◌∙◌}
 use native.Mathlib.Omega.{arith}
 use Rattle.job.proofs.Advance.{is_addp, is_atomic, is-fork, is_addt, is_read, is_write, is_value, read_ready, value_ready, operand_read, operand_write, operand_value}
-use borrow.Author.Rules.{rules}
 use Rattle.job.proofs.Cursor.advance.Goals as goal
 
 pub leaf-requires : goal.leaf-requires
