@@ -1,5 +1,6 @@
 // The calls on the test program's memory, and what is written of them.
 #![tactic(auto)]
+
 ghost use Rattle.std.specs.Prelude.{◌≡◌};
 ghost use Rattle.calls.specs.Calls.{left_by};
 ghost use Rattle.machine.specs.Answers.{fresh_call, run_call};

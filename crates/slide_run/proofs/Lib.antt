@@ -1,0 +1,2 @@
+mod Shown
+mod Taken
