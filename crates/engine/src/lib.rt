@@ -224,8 +224,7 @@ fn admit(
 }
 
 // A fresh state for the code, laid down over whatever the registers, counts and records held. Refused with 11, then 12; nothing is altered then.
-#[unsafe(no_mangle)]
-pub extern "C" fn kuspigo_fresh(
+pub fn kuspigo_fresh(
     code: &[u8],
     registers: &mut [i32],
     counts: &mut [u32],
@@ -243,8 +242,7 @@ pub extern "C" fn kuspigo_fresh(
 }
 
 // One pick. Refused with 11, then 12; nothing is altered then.
-#[unsafe(no_mangle)]
-pub extern "C" fn kuspigo_step(
+pub fn kuspigo_step(
     code: &[u8],
     registers: &mut [i32],
     counts: &mut [u32],
@@ -261,8 +259,7 @@ pub extern "C" fn kuspigo_step(
 }
 
 // A list of picks, one after the other. Refused with 11, then 12, then 13; nothing is altered then.
-#[unsafe(no_mangle)]
-pub extern "C" fn kuspigo_run(
+pub fn kuspigo_run(
     code: &[u8],
     registers: &mut [i32],
     counts: &mut [u32],

@@ -43,48 +43,42 @@ fn numbers(answer: Answer) -> Written
 }
 
 // `formula::formula`.
-#[unsafe(no_mangle)]
-pub extern "C" fn kuspigo_formula(text: &[u8], out: &mut [u8]) -> Written
+pub fn kuspigo_formula(text: &[u8], out: &mut [u8]) -> Written
     ensures { written (formula_to text.now out.old) ≡ record { reply = result; output = out.new } }
 {
     numbers(formula::formula(text, out))
 }
 
 // `compiler::compile`.
-#[unsafe(no_mangle)]
-pub extern "C" fn kuspigo_compile(job: &[u8], out: &mut [u8]) -> Written
+pub fn kuspigo_compile(job: &[u8], out: &mut [u8]) -> Written
     ensures { written (compile_to job.now out.old) ≡ record { reply = result; output = out.new } }
 {
     numbers(compiler::compile(job, out))
 }
 
 // `compiler::read_back`.
-#[unsafe(no_mangle)]
-pub extern "C" fn kuspigo_read_back(code: &[u8], out: &mut [u8]) -> Written
+pub fn kuspigo_read_back(code: &[u8], out: &mut [u8]) -> Written
     ensures { written (read_back_to code.now out.old) ≡ record { reply = result; output = out.new } }
 {
     numbers(compiler::read_back(code, out))
 }
 
 // `forecast::forecast`.
-#[unsafe(no_mangle)]
-pub extern "C" fn kuspigo_forecast(job: &[u8]) -> ForecastReply
+pub fn kuspigo_forecast(job: &[u8]) -> ForecastReply
     ensures { result ≡ forecast_of (read_job job.now) }
 {
     forecast::forecast(job)
 }
 
 // `listing::report`.
-#[unsafe(no_mangle)]
-pub extern "C" fn kuspigo_report(input: &[u8], out: &mut [u8]) -> Written
+pub fn kuspigo_report(input: &[u8], out: &mut [u8]) -> Written
     ensures { written (delivered (done (listed input.now)) out.old) ≡ record { reply = result; output = out.new } }
 {
     numbers(listing::report(input, out))
 }
 
 // The version of the C interface. Its name holds the number, so that a header or wrapper of another version does not link.
-#[unsafe(no_mangle)]
-pub extern "C" fn kuspigo_api_3() -> usize
+pub fn kuspigo_api_3() -> usize
     ensures { result ≡ 3 }
 {
     3
