@@ -1,5 +1,5 @@
 //! Links the library's archive, which `host/archive` makes. Before that: header, wrapper and archive are of one version of
-//! the C interface, and the archive is the one that was last built, if that lies in its crate.
+//! the C interface, and the archive is made of the parts that lie beside it.
 
 use std::path::Path;
 
@@ -9,14 +9,14 @@ mod api;
 
 const HEADER: &str = "include/kuspigo.h";
 const ARCHIVE: &str = "target/staticlib/libkuspigo.a";
-const BUILT: &str = "crates/kuspigo/out/libkuspigo.a";
+const PARTS: [&str; 2] = ["target/staticlib/libexports_c.a", "target/staticlib/libengine_c.a"];
 
 fn main() {
     let package = std::env::var("CARGO_MANIFEST_DIR").expect("Cargo names the package's folder");
     let project = Path::new(&package).join("..");
     println!("cargo:rerun-if-changed=build.rs");
     println!("cargo:rerun-if-changed=src/api.rs");
-    for file in [HEADER, ARCHIVE, BUILT] {
+    for file in [HEADER, ARCHIVE].iter().chain(&PARTS) {
         println!("cargo:rerun-if-changed={}", project.join(file).display());
     }
     if let Err(message) = check(&project) {
@@ -42,9 +42,12 @@ fn check(project: &Path) -> Result<(), String> {
     let archive = std::fs::read(project.join(ARCHIVE)).map_err(|error| {
         format!("The archive {ARCHIVE} is missing: run `bash host/archive` in the project's folder first. ({error})")
     })?;
-    // an archive that was installed or copied lies alone
-    if std::fs::read(project.join(BUILT)).is_ok_and(|built| built != archive) {
-        return Err(format!("{ARCHIVE} is not {BUILT}: run `bash host/archive` in the project's folder."));
+    for part in PARTS {
+        // an archive that was installed or copied lies alone
+        let Ok(bytes) = std::fs::read(project.join(part)) else { continue };
+        if !members(&bytes).all(|member| archive.windows(member.len()).any(|bytes| bytes == member)) {
+            return Err(format!("{ARCHIVE} is not made of {part}: run `bash host/archive` in the project's folder."));
+        }
     }
     let numbers = versions(&archive);
     if !numbers.contains(&own) {
@@ -55,6 +58,21 @@ fn check(project: &Path) -> Result<(), String> {
         ));
     }
     Ok(())
+}
+
+/// The files that an archive has, without its own lists: each stands behind 60 bytes, its name in the first 16 and its
+/// length in those from 48 on, at an even place.
+fn members(archive: &[u8]) -> impl Iterator<Item = &[u8]> {
+    let mut at = "!<arch>\n".len();
+    std::iter::from_fn(move || {
+        let head = archive.get(at..at + 60)?;
+        let length: usize = std::str::from_utf8(&head[48..58]).ok()?.trim_end().parse().ok()?;
+        let member = archive.get(at + 60..at + 60 + length)?;
+        at += 60 + length.next_multiple_of(2);
+        Some((head, member))
+    })
+    .filter(|(head, _)| !head.starts_with(b"/ ") && !head.starts_with(b"//"))
+    .map(|(_, member)| member)
 }
 
 /// The numbers that an archive's list of symbols has behind `kuspigo_api_`.

@@ -15,9 +15,10 @@ fn program(here: &Path, name: &str, text: &str) {
     std::fs::set_permissions(&file, std::fs::Permissions::from_mode(0o755)).expect("a test's file is made a program");
 }
 
-/// An archive with one member, of the same name in each.
+/// An archive with one member, of the same name in each, where rt would put it.
 fn part(here: &Path, name: &str, source: &str) {
-    let folder = here.join("target/staticlib");
+    let folder = here.join("crates").join(name).join("out");
+    std::fs::create_dir_all(&folder).expect("there is room for a test's files");
     std::fs::write(folder.join("part.c"), source).expect("a test's file is written");
     let archive = format!("lib{name}.a");
     let _ = std::fs::remove_file(folder.join(&archive));
@@ -42,17 +43,17 @@ fn the_parts_are_put_together() {
         return;
     }
     let here = folder("archive");
-    for folder in ["bin", "host", "target/staticlib"] {
+    for folder in ["bin", "host"] {
         std::fs::create_dir_all(here.join(folder)).expect("there is room for a test's files");
     }
     std::fs::copy(package().join("archive"), here.join("host/archive")).expect("a test's file is written");
     program(&here, "rt", "#!/bin/sh\n");
-    part(&here, "exports", "static int own(void) { return 1; }\nint kuspigo_one(void) { return own(); }\n");
-    part(&here, "engine", "static int own(void) { return 2; }\nint kuspigo_two(void) { return own(); }\n");
+    part(&here, "exports_c", "static int own(void) { return 1; }\nint kuspigo_one(void) { return own(); }\n");
+    part(&here, "engine_c", "static int own(void) { return 2; }\nint kuspigo_two(void) { return own(); }\n");
     let both = "target/staticlib/libkuspigo.a has kuspigo_one kuspigo_two\n";
     assert_eq!(made(&here), (both.to_string(), 0));
     let members = Command::new("ar").arg("t").arg(here.join(WHOLE)).output().expect("ar starts").stdout;
-    assert_eq!(String::from_utf8_lossy(&members), "exports-part.o\nengine-part.o\n");
+    assert_eq!(String::from_utf8_lossy(&members), "exports_c-part.o\nengine_c-part.o\n");
 
     let whole = std::fs::read(here.join(WHOLE)).expect("the archive is there");
     let refuses = |expected: &str| {
@@ -62,10 +63,10 @@ fn the_parts_are_put_together() {
         let left = here.join("target/staticlib").read_dir().expect("a folder").map(|file| file.unwrap().file_name());
         assert!(left.into_iter().all(|name| !name.to_string_lossy().starts_with("merge")), "{expected}");
     };
-    part(&here, "engine", "int kuspigo_one(void) { return 2; }\n");
+    part(&here, "engine_c", "int kuspigo_one(void) { return 2; }\n");
     refuses("defined twice: kuspigo_one");
-    part(&here, "engine", "int two;\n");
+    part(&here, "engine_c", "int two;\n");
     refuses("exported, and not named kuspigo_: two");
     program(&here, "rt", "#!/bin/sh\nexit 1\n");
-    refuses("rt staticlib exports failed");
+    refuses("rt lib failed in crates/exports_c");
 }

@@ -128,11 +128,11 @@ fn the_build_script_compares() {
     assert!(said.contains(&expected), "{said}");
 
     // an archive with one file in it that the whole has not
-    let part = format!("!<arch>\n{:<16}{:<32}{:<10}`\nanother\n", "engine.o/", "0", 8);
-    put(&here, "target/staticlib/libengine.a", part);
+    let part = format!("!<arch>\n{:<16}{:<32}{:<10}`\nanother\n", "engine_c.o/", "0", 8);
+    put(&here, "target/staticlib/libengine_c.a", part);
     let said = unbuilt(&here);
     assert!(
-        said.contains("libkuspigo.a is not made of target/staticlib/libengine.a: run `bash host/archive`"),
+        said.contains("libkuspigo.a is not made of target/staticlib/libengine_c.a: run `bash host/archive`"),
         "{said}"
     );
 }

@@ -1,4 +1,4 @@
-// The calls for C and Rust: numbers and slices only, answers as structs of numbers. Each is the library's, with its contract.
+// The calls over bytes and the version of the interface, for C and Rust. Each is the one of exports, with its contract.
 #![tactic(auto)]
 
 ghost use Rattle.std.specs.Prelude.{◌≡◌};
@@ -9,15 +9,11 @@ ghost use Rattle.exports.specs.Written.{written};
 ghost use Rattle.forecast.specs.Figures.{forecast_of};
 ghost use Rattle.formula.specs.FormulaTo.{formula_to};
 ghost use Rattle.listing.specs.Listed.{listed};
-ghost use Rattle.machine.specs.Answers.{answered, fresh_call, run_call, step_call};
-ghost use Rattle.machine.specs.Steps.{state_from};
 ghost use Rattle.script.specs.Outcome.{done};
 ghost use Rattle.script.specs.Reader.{read_job};
 
 use exports::Written;
 use forecast::ForecastReply;
-use machine::{FreshReply, RunReply, StepReply};
-use thread::Thread;
 
 // The job of a typed script.
 #[unsafe(no_mangle)]
@@ -57,47 +53,6 @@ pub extern "C" fn kuspigo_report(input: &[u8], out: &mut [u8]) -> Written
     ensures { written (delivered (done (listed input.now)) out.old) ≡ record { reply = result; output = out.new } }
 {
     exports::kuspigo_report(input, out)
-}
-
-// A fresh state for the code.
-#[unsafe(no_mangle)]
-pub extern "C" fn kuspigo_fresh(
-    code: &[u8],
-    registers: &mut [i32],
-    counts: &mut [u32],
-    threads: &mut [Thread],
-) -> FreshReply
-    ensures { answered registers.new counts.new threads.new result ≡ fresh_call code.now (state_from registers.old counts.old threads.old) }
-{
-    engine::kuspigo_fresh(code, registers, counts, threads)
-}
-
-// One pick.
-#[unsafe(no_mangle)]
-pub extern "C" fn kuspigo_step(
-    code: &[u8],
-    registers: &mut [i32],
-    counts: &mut [u32],
-    threads: &mut [Thread],
-    pick: u8,
-) -> StepReply
-    ensures { answered registers.new counts.new threads.new result ≡ step_call code.now (state_from registers.old counts.old threads.old) pick }
-{
-    engine::kuspigo_step(code, registers, counts, threads, pick)
-}
-
-// A list of picks, one after the other.
-#[unsafe(no_mangle)]
-pub extern "C" fn kuspigo_run(
-    code: &[u8],
-    registers: &mut [i32],
-    counts: &mut [u32],
-    threads: &mut [Thread],
-    picks: &[u8],
-) -> RunReply
-    ensures { answered registers.new counts.new threads.new result ≡ run_call code.now (state_from registers.old counts.old threads.old) picks.now }
-{
-    engine::kuspigo_run(code, registers, counts, threads, picks)
 }
 
 // The version of the C interface. Its name holds the number, so that a header or wrapper of another version does not link.
