@@ -1,9 +1,9 @@
 -- The worked cases of document 02 No. 8 hold, by computation. Assumes nothing.
-use Prim.Native.Nat.{ℕ}
+use Prim.Native.Nat.{ℕ, ◌<◌}
 use mathlib.Core.Path.{◌≡◌, refl, ap}
 use mathlib.Core.List.{List, [], ◌∷◌}
 use native.Mathlib.Omega.{arith}
-use lib.ListN.{get_or}
+use lib.ListN.{get_or, length}
 use Rattle.code.specs.Compile.{compile_t, compile_p}
 use Rattle.code.specs.Bytes.{instruction_bytes, instructions_bytes, code_mark, code_bytes, compiled}
 use Rattle.code.specs.Ops.{opcode_operand, decoded, op_at}
@@ -30,12 +30,20 @@ use Rattle.cases.specs.Inputs.{whole_code, times}
 no_none : {code : List ℕ} {s : State} → Exchanged wrapping code s [] [] → ⊥
 no_none = elim [ ]
 
+-- nor has a list of fewer than two
+too_few : {code : List ℕ} {s : State} {is ks : List ℕ} → Exchanged wrapping code s is ks → length is < 2 → ⊥
+too_few (here n f g) h = omega (arith, h)
+too_few (later x) h = too_few x (omega (arith, h))
+
 no_one : {code : List ℕ} {s : State} {i : ℕ} → Exchanged wrapping code s (i ∷ []) (i ∷ []) → ⊥
-no_one (later x) = no_none x
+no_one x = too_few x (omega arith)
+
+two_same : {code : List ℕ} {s : State} {is ks : List ℕ} (i : ℕ) → Exchanged wrapping code s is ks → is ≡ i ∷ i ∷ [] → ⊥
+two_same i (here {i = a} {k = b} n f g) e = n (let c : a ≡ b = cc in c)
+two_same i (later {is = is} x) e = too_few x (omega (arith, ap length e))
 
 no_same : {code : List ℕ} {s : State} (i : ℕ) → Exchanged wrapping code s (i ∷ i ∷ []) (i ∷ i ∷ []) → ⊥
-no_same i (here n f g) = n refl
-no_same i (later x) = no_one x
+no_same i x = two_same i x refl
 
 -- the thread of the n-th pick that thread x sees is the same in lists that follow from one another
 differ : {is ks : List ℕ} (code : List ℕ) (x n : ℕ) → Exchanges wrapping code (fresh code) is ks

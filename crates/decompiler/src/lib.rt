@@ -1,5 +1,6 @@
 // Reading code back: the job that compiles to it, in one pass forward over the code.
 #![tactic(auto)]
+
 ghost use Rattle.std.specs.Prelude.{ℕ, ◌*◌, ◌+◌, ◌-◌, ◌<◌, ◌≤◌, get_or, length, false, true, List, [], ◌∷◌, ◌≡◌};
 ghost use Rattle.decompiler.specs.ReadBackTo.{bytes_of, read_back_to};
 ghost use Rattle.decompiler.specs.InnerParts.{job_header};

@@ -1,5 +1,6 @@
 // The calls over a state that is lent: every record is read or written one by one, in a slice of any length.
 #![tactic(auto)]
+
 ghost use Rattle.std.specs.Prelude.{◌<◌, ◌≤◌, cond, true, ◌≡◌, ltb, get_or, length};
 ghost use Rattle.engine.specs.InnerEngine.{Admitted, Gathered, cleared, drove, forgotten, laid, record_of};
 ghost use Rattle.machine.specs.Answers.{answered, fresh_call, run_call, step_call};

@@ -1,5 +1,6 @@
 // The calls that write to a lent output, and the forecast, for C and Rust: numbers and slices only, answers as structs of numbers.
 #![tactic(auto)]
+
 ghost use Rattle.std.specs.Prelude.{◌≡◌, List};
 ghost use Rattle.exports.specs.Written.{written, writing};
 ghost use Rattle.compiler.specs.CompileTo.{compile_to};

@@ -7,7 +7,7 @@ use Rattle.guarantee.proofs.Agreement.{agreement}
 use Rattle.guarantee.proofs.Histories.{call_lists, sound, told_overs, every_order, sent-back, bounded}
 use Rattle.guarantee.proofs.RoundTrip.{read_back_exactly, compile_then_back, back_then_compile}
 use Rattle.guarantee.proofs.Rows.{job_rows, compile_rows, back_rows}
-use Rattle.code.specs.Bytes.{compiled, IsCode}
+use Rattle.code.specs.Bytes.{IsCode}
 use Rattle.code.specs.Reader.{read_code}
 use Rattle.code.proofs.Foreign.{foreign_exactly, only_foreign}
 use Rattle.code.proofs.ReadBack.{code_read, read_is_code}
@@ -15,10 +15,6 @@ use Rattle.machine.proofs.FitTests.{fits_exactly}
 use Rattle.script.proofs.Accepts.{accepted_is_job, job_is_accepted}
 use Rattle.script.proofs.Refuses.{refused_is_read, read_is_refused}
 use Rattle.machine.proofs.Calls.{fresh_answers, step_answers, run_answers, fresh-says, step-says, run-says}
-use Rattle.script.specs.Bytes.{Bytes}
-use Rattle.script.specs.Outcome.{done}
-use Rattle.script.specs.Jobs.{Job}
-use Rattle.script.specs.Reader.{read_job}
 use Rattle.script.specs.Refusal.{Refused}
 use Rattle.script.specs.Turns.{Script, turn, idle, Turned, left, turns}
 use Rattle.script.proofs.Overflows.{idle_overflows}

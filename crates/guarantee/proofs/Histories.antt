@@ -9,7 +9,6 @@ use borrow.Author.Tests.{le-ltb, lt-ltb}
 use lib.Dec.{ltb}
 use lib.IntN.{ℤ, pos}
 use lib.ListN.{length, get_or}
-use Rattle.thread.specs.Threads.{exists}
 use Rattle.guarantee.specs.Histories.{Call, step, run, code_of, state_of, picks_of, Lent, alone, comes_to, Session, History, none, turned-down, followed, script_after, Ended, SameResult, calls_of, picks_taken, state_after, reported_by, reported, CallLists, Whole, IsOrder, SentBack}
 use Rattle.guarantee.proofs.RoundTrip.{mapped_done}
 use Rattle.code.specs.Compile.{Code, ε, ◌⨾◌, compile_p}

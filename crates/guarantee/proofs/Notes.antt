@@ -1,10 +1,10 @@
 -- Document 02 No. 2's sentence on the count among the notes holds for every accepted job. Assumes nothing.
-use Prim.Native.Nat.{ℕ, zero, suc, ◌+◌, ◌≤◌, ◌<◌}
+use Prim.Native.Nat.{ℕ, suc, ◌+◌, ◌≤◌, ◌<◌}
 use mathlib.Core.Bool.{Bool, true, false, cond}
 use mathlib.Core.Logic.{◌↔◌}
 use mathlib.Core.Path.{◌≡◌, refl, sym, ap, subst, ◌∙◌}
 use mathlib.Core.List.{List}
-use mathlib.Core.Option.{Option, none, some}
+use mathlib.Core.Option.{Option, some}
 use native.Mathlib.Omega.{arith}
 use borrow.Author.Tests.{eqb-true, eqb-false, ne_eqb}
 use lib.Dec.{eqb}
@@ -27,7 +27,7 @@ use Rattle.machine.proofs.Numbers.{in_table}
 use Rattle.machine.proofs.Walking.{next_after, same_op, walks_once, no_adds}
 use Rattle.script.specs.Bytes.{Bytes}
 use Rattle.script.specs.Jobs.{Job}
-use Rattle.script.specs.Outcome.{Outcome, refused, done}
+use Rattle.script.specs.Outcome.{refused, done}
 use Rattle.script.specs.Reader.{read_job}
 use Rattle.thread.specs.declared.Thread.{Thread}
 use Rattle.thread.specs.Threads.{blank, exists, with_notes}

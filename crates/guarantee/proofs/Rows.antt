@@ -1,6 +1,5 @@
 -- The job reader, compiling and reading back return what one row says, and what a row says is what the call returns. Assumes nothing.
 use Prim.Native.Nat.{ℕ, ◌<◌, ◌≤◌}
-use mathlib.Core.Bool.{Bool, true, false}
 use mathlib.Core.Logic.{◌↔◌}
 use mathlib.Core.Path.{◌≡◌, refl, sym, ap, subst, ◌∙◌}
 use mathlib.Core.List.{List}
@@ -16,7 +15,7 @@ use Rattle.code.proofs.Foreign.{only_foreign, foreign_exactly}
 use Rattle.code.proofs.ReadBack.{code_read, read_is_code}
 use Rattle.compiler.specs.CompileTo.{compile_to}
 use Rattle.decompiler.specs.ReadBackTo.{bytes_of, read_back_to}
-use Rattle.delivery.specs.Delivered.{Delivered, onto, delivered}
+use Rattle.delivery.specs.Delivered.{Delivered, delivered}
 use Rattle.delivery.specs.declared.Answer.TheVariants as answer
 use Rattle.delivery.proofs.Delivers.{delivers, too_short}
 use Rattle.job.specs.Answer as job-answer
@@ -26,7 +25,6 @@ use Rattle.script.specs.Bytes.{Bytes}
 use Rattle.script.specs.Outcome.{Outcome, refused, done, mapped}
 use Rattle.script.specs.Jobs.{Job}
 use Rattle.script.specs.Reader.{read_job}
-use Rattle.script.specs.Refusal.{IsJob}
 use Rattle.script.proofs.Accepts.{accepted_is_job, job_is_accepted}
 use Rattle.script.proofs.Refuses.{refused_is_read, read_is_refused}
 

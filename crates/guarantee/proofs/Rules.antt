@@ -35,7 +35,7 @@ use Rattle.script.specs.Jobs.{Job}
 use Rattle.script.specs.Outcome.{Outcome, refused, done, mapped}
 use Rattle.script.specs.Reader.{read_job}
 use Rattle.stm.specs.Counted.{Table}
-use Rattle.stm.specs.Events.{Event, idle, pushed, summed, forked, begun, looked, from_writes, from_reads, from_table, wrote, committed, sent_back, is_idle, Happened, backs, counts_of}
+use Rattle.stm.specs.Events.{Event, idle, pushed, summed, forked, begun, looked, wrote, committed, sent_back, is_idle, Happened, backs, counts_of}
 use Rattle.stm.specs.Rules.{MachineRule, used_by, rule_number, held, last_rule}
 use Rattle.stm.proofs.Rules.{rule-of-number, number_of_rule, no_rule, answer_number}
 use Rattle.thread.specs.declared.Thread.{Thread}

@@ -1,6 +1,6 @@
 -- Demand 2 on the machine: every step agrees with the machine of source document 002, chapter 5, "as document 01 fixes them", its COMMIT asking for
 -- the counts of document 02 No. 6 where `r ⊆ h` is printed (source/specs/Source).
-use Rattle.std.specs.Prelude.{ℕ, ◌<◌, true, false, ◌↔◌, ◌≡◌, List, ◌∷◌, ℤ, pos, drop, replicate}
+use Rattle.std.specs.Prelude.{ℕ, ◌<◌, false, ◌↔◌, ◌≡◌, List, ◌∷◌, ℤ, pos, drop, replicate}
 use Rattle.std.proofs.Math.Option.{some}
 use Rattle.guarantee.specs.Histories.{Session, History, Ended}
 use Rattle.code.specs.Bytes.{compiled}

@@ -1,6 +1,6 @@
 -- Document 02 No. 7: "Scripts typed as formulas". Which texts are scripts, of which tree, is `IsScript`; refusal 15 and its place is `NoScript`
 -- (grammar/specs/Grammar). The theorem `formulas` (guarantee/proofs/Formulas) says that it holds.
-use Rattle.std.specs.Prelude.{ℕ, ◌≤◌, ◌<◌, List, ◌↔◌, ◌⊎◌, ◌≡◌, length}
+use Rattle.std.specs.Prelude.{ℕ, ◌≤◌, List, ◌↔◌, ◌⊎◌, ◌≡◌, length}
 use Rattle.delivery.specs.Delivered.{Delivered, onto}
 use Rattle.delivery.specs.declared.Answer.TheVariants.{Done, Refused}
 use Rattle.formula.specs.FormulaTo.{formula_to}

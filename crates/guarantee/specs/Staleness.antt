@@ -13,7 +13,6 @@ use Rattle.machine.specs.Written.{written, GoesOn, Entered}
 use Rattle.script.specs.Jobs.{Job}
 use Rattle.script.specs.Outcome.{done}
 use Rattle.stm.specs.Events.{from_table, looked, committed, sent_back, Happened}
-use Rattle.thread.specs.declared.Thread.{Thread}
 use Rattle.thread.specs.Threads.{with_logs, stale}
 use Rattle.word.specs.Registers.{member}
 use Rattle.word.specs.Sum.{Rule}

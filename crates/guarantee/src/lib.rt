@@ -1,1 +1,3 @@
+#![tactic(auto)]
+
 // What is promised of the whole: the theorems over all layers. No function.

@@ -1,18 +1,17 @@
 -- The lines of a listing from their words and numbers. Assumes nothing.
-use Prim.Native.Nat.{ℕ, zero, suc, ◌+◌, ◌<◌, ◌≤◌}
-use mathlib.Core.Bool.{Bool, true, false, cond, not}
+use Prim.Native.Nat.{ℕ, suc, ◌+◌, ◌<◌, ◌≤◌}
+use mathlib.Core.Bool.{true, false, cond}
 use mathlib.Core.Path.{◌≡◌, refl, sym, ap, subst, ◌∙◌}
-use mathlib.Core.List.{List, [], ◌∷◌, ◌++◌, append_assoc, append-nil}
+use mathlib.Core.List.{List, [], ◌++◌, append_assoc}
 use native.Mathlib.Omega.{arith}
 use borrow.Author.Tests.{ltb-true, eq-eqb, ne_eqb}
-use lib.Dec.{T, eqb}
+use lib.Dec.{T}
 use lib.IntN.{ℤ, pos, negsuc, nat_abs}
 use lib.Signed.{lt_z}
-use lib.ListN.{length, take, drop, get_or, drop_of_length-le}
+use lib.ListN.{length, drop, get_or, drop_of_length-le}
 use lib.Seq.{drop-cons}
-use Rattle.listing.specs.InnerPage.{Put, sign_of}
+use Rattle.listing.specs.InnerPage.{sign_of}
 use Rattle.listing.specs.Listed.{ascii, decimal, integer, counts_line, thread_line, thread_lines, register_line, register_lines, refusal_line, is_zero, listing}
-use Rattle.listing.proofs.Pages.{put_put, put_same}
 use Rattle.machine.specs.Steps.{state_from}
 use Rattle.stm.specs.Events.{Counts}
 use Rattle.thread.specs.Threads.{exists}

@@ -3,16 +3,15 @@ use Prim.Native.Nat.{ℕ, zero, suc, ◌+◌, ◌-◌, ◌*◌, ◌/◌, ◌%◌
 use mathlib.Core.Bool.{Bool, true, false, cond}
 use mathlib.Core.Path.{◌≡◌, refl, sym, ap, subst, ◌∙◌}
 use mathlib.Core.List.{List, [], ◌∷◌, ◌++◌, append_assoc, append-nil}
-use native.Mathlib.Nat.{pow-suc, one-le-pow, pow-le-pow_right}
+use native.Mathlib.Nat.{pow-suc, one-le-pow}
 use native.Mathlib.Omega.{arith}
-use borrow.Author.Tests.{ltb-true, ltb-false, lt-ltb, le-ltb}
+use borrow.Author.Tests.{lt-ltb, le-ltb}
 use lib.Dec.{ltb, lit<}
-use lib.IntN.{ℤ, pos, negsuc}
 use lib.ListN.{length, take, get_or, set, length-append, length-set, length-take}
 use lib.Seq.{take-suc, take-set-le, get_or-set_same}
 use Rattle.io.specs.Digits as io
 use Rattle.listing.specs.InnerPage.{Put}
-use Rattle.listing.specs.Listed.{digits, decimal, integer}
+use Rattle.listing.specs.Listed.{digits, decimal}
 
 -- two texts, one behind the other
 pub put_put : {a r s : ℕ} {t u e m x : List ℕ} → Put a t e r m → Put r u m s x → Put a (t ++ u) e s x

@@ -1,16 +1,14 @@
 -- What is printed of a run on a fresh state, from what `owned::shown` hands back: one register, one count and one record more than a state has, which are 0.
 -- Assumes nothing.
-use Prim.Native.Nat.{ℕ, zero, suc, ◌+◌, ◌<◌, ◌≤◌}
+use Prim.Native.Nat.{ℕ, suc}
 use mathlib.Core.Bool.{Bool, true, false, not, cond}
-use mathlib.Core.Path.{◌≡◌, refl, sym, ap, subst, ◌∙◌}
-use mathlib.Core.List.{List, [], ◌∷◌, ◌++◌, append_assoc}
+use mathlib.Core.Path.{◌≡◌, refl, sym, ap, ◌∙◌}
+use mathlib.Core.List.{List, [], ◌∷◌, ◌++◌}
 use native.Mathlib.Omega.{arith}
-use borrow.Author.Tests.{ltb-true, ltb-false}
 use lib.Dec.{ltb}
 use lib.IntN.{ℤ, pos}
 use lib.ListN.{length, replicate}
-use Rattle.code.proofs.Foreign.{only_foreign, there_and_back}
-use Rattle.code.specs.Bytes.{compiled}
+use Rattle.code.proofs.Foreign.{only_foreign}
 use Rattle.code.specs.Reader.{read_code}
 use Rattle.machine.specs.Answers.{Returned, answered, returned, sum_of, fitting, run_of, run_reply, fresh_reply, right_lengths, fresh_of, fresh_call, run_call}
 use Rattle.machine.specs.FitTest.{fits}

@@ -1,5 +1,6 @@
 // What the run program prints, as bytes.
 #![tactic(auto)]
+
 ghost use Rattle.std.specs.Prelude.{◌+◌, ◌≤◌, ◌<◌, length, get_or, cond, [], ◌++◌, ◌≡◌, nat_abs};
 ghost use Rattle.delivery.specs.Delivered.{delivered};
 ghost use Rattle.listing.specs.InnerPage.{Put, sign_of};

@@ -1,13 +1,13 @@
 -- The by-value step of a record is `act` in a state that fits, and picks go through it. Assumes nothing.
 use Prim.Native.Nat.{ℕ, zero, suc, ◌+◌, ◌-◌, ◌≤◌, ◌<◌}
-use mathlib.Core.Bool.{Bool, true, false, cond, not, ◌||◌}
+use mathlib.Core.Bool.{Bool, true, false, cond, not}
 use mathlib.Core.Logic.{◌⊎◌, inl, inr}
-use mathlib.Core.Path.{◌≡◌, refl, sym, ap, ap₂, subst, ◌∙◌}
-use mathlib.Core.List.{List, [], ◌∷◌, ◌++◌}
+use mathlib.Core.Path.{◌≡◌, refl, sym, ap, subst, ◌∙◌}
+use mathlib.Core.List.{List, ◌++◌}
 use native.Mathlib.Omega.{arith}
 use borrow.Author.Tests.{le-ltb, lt-ltb, le-leb, eq-eqb, ne_eqb, eqb-true, eqb-false}
 use lib.Dec.{eqb, ltb}
-use lib.IntN.{ℤ, pos}
+use lib.IntN.{ℤ}
 use lib.ListN.{length, drop, get_or, set, length-append}
 use lib.Seq.{set-get_or, get_or-set_other}
 use Rattle.stm.specs.Counted.{Table}
@@ -24,13 +24,12 @@ use Rattle.thread.specs.declared.Action.{Action}
 use Rattle.thread.specs.declared.Thread.{Thread}
 use Rattle.thread.specs.Threads.{exists, blank, with_rule, below, sum_told, adding, push, add, begin, read, write, closed, source_of, first_stale, overlaid, recounted}
 use Rattle.thread.specs.InnerStep.{rule_at, enough_for, takes_op, source_number, outside_turn, Handed, handed, unacted, acting, note_after, over_at_once, summing, committed, committed_by, performed, attempted, stepped, recounted_in, risen_by, sized_by, table_from}
-use Rattle.machine.specs.Steps.{State, Stepped, Acted, Child, alters, committing, commit, ruled, act, perform, settle, thread_at, pick_among, DoesOne, table_in}
+use Rattle.machine.specs.Steps.{State, Acted, alters, committing, commit, ruled, act, perform, settle, thread_at, pick_among, DoesOne, table_in}
 use Rattle.machine.specs.Fits.{Exists, Fits, Typed}
 use Rattle.machine.specs.InnerStands.{register_cells, op_of, Ready}
 use Rattle.machine.specs.InnerTurn.{children_as, acted_as, handed_as}
 use Rattle.machine.specs.Stands.{Stands, ValuedI, ValuedC}
-use Rattle.machine.proofs.Numbers.{in_table}
-use Rattle.machine.proofs.Codes.{stands_end, stands_inside, ready_op, ready_takes}
+use Rattle.machine.proofs.Codes.{stands_end, ready_op, ready_takes}
 use Rattle.machine.proofs.Mirrors.{no_inside}
 use Rattle.machine.proofs.Picks.{missing_idle, ended_idle, does}
 use Rattle.machine.proofs.Regions.{held}
@@ -41,12 +40,12 @@ use Rattle.machine.proofs.Runs.{shows_of}
 use Rattle.machine.proofs.Showings.{Shows, shut, open'}
 use Rattle.machine.proofs.Ranges.{low_fits, counts_low}
 use Rattle.machine.proofs.Agrees.{outer, does_one}
-use Rattle.stm.specs.Events.{Source, from_writes, from_reads, from_table, looked, idle, summed, committed as takenEffect, sent_back, more, event_number, event_register, turn_number, event_of}
+use Rattle.stm.specs.Events.{from_writes, from_reads, from_table, looked, idle, summed, event_number, event_register, turn_number, event_of}
 use Rattle.stm.specs.Rules.{used_by, rule_number, rule_after, backs_after}
 use Rattle.stm.specs.InnerTasks.{Task}
 use Rattle.word.specs.InnerCount.{saturated}
 use Rattle.word.specs.Registers.{member}
-use Rattle.word.specs.Sum.{Rule, InRange, overflows, added}
+use Rattle.word.specs.Sum.{Rule, overflows, added}
 use Rattle.word.proofs.Counting.{saturated_exact}
 
 -- ---- a record has what its instruction takes

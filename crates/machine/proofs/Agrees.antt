@@ -8,7 +8,6 @@ use lib.Dec.{ltb}
 use lib.ListN.{length}
 use Rattle.code.specs.Compile.{Instruction, Code, ε, ◌⨾◌, compile_p}
 use Rattle.code.specs.Bytes.{IsCode}
-use Rattle.code.specs.Reader as code
 use Rattle.script.specs.Jobs.{Job}
 use Rattle.machine.specs.Steps.{State, Stepped, number_of, thread_at, settle, pick, run, DoesOne, table_in}
 use Rattle.machine.specs.Fits.{Exists, Fits, Typed}

@@ -1,10 +1,10 @@
 -- Document 02 No. 13: what another job does to the table leaves a state that fits as one that fits. Assumes nothing.
 use Prim.Native.Nat.{ℕ, ◌+◌, ◌≤◌}
 use mathlib.Core.Bool.{Bool, true, false}
-use mathlib.Core.Path.{◌≡◌, refl, sym, ap, subst, ◌∙◌}
+use mathlib.Core.Path.{◌≡◌, refl, sym, subst}
 use mathlib.Core.List.{List}
 use native.Mathlib.Omega.{arith}
-use lib.ListN.{length, get_or}
+use lib.ListN.{get_or}
 use Rattle.machine.specs.Fits.{BacksWithin, FitsBeside}
 use Rattle.machine.specs.Steps.{State, table_in, thread_at}
 use Rattle.machine.proofs.Keeps.{Sized}

@@ -1,25 +1,24 @@
 -- A run cut in two leaves the same and reports the same as in one call, from every state that is lent. Assumes nothing.
 use Prim.Native.Nat.{ℕ, ◌+◌, ◌≤◌}
 use mathlib.Core.Bool.{Bool, true, false}
-use mathlib.Core.Path.{◌≡◌, refl, sym, ap, ◌∙◌}
+use mathlib.Core.Path.{◌≡◌, refl, sym}
 use mathlib.Core.List.{List, ◌++◌}
 use native.Mathlib.Omega.{arith}
 use borrow.Author.Tests.{le-ltb}
 use lib.ListN.{length, length-append}
 use Rattle.code.specs.Bytes.{IsCode}
 use Rattle.code.specs.Reader.{read_code}
-use Rattle.machine.specs.Answers.{sum_of, run_of, run_reply, Returned, run_call, run_counts}
+use Rattle.machine.specs.Answers.{sum_of, run_of, run_reply, run_call, run_counts}
 use Rattle.machine.specs.Fits.{Typed}
 use Rattle.machine.specs.FitTest.{fits}
-use Rattle.machine.specs.Steps.{State, Ran, run}
-use Rattle.machine.specs.declared.RunReply.{RunReply}
+use Rattle.machine.specs.Steps.{State, run}
 use Rattle.machine.proofs.Agrees.{run_fits}
 use Rattle.machine.proofs.Calls.{run_refused, run_taken}
 use Rattle.machine.proofs.FitTests.{fits_exactly}
-use Rattle.machine.proofs.Picks.{goes_on, run_append}
+use Rattle.machine.proofs.Picks.{run_append}
 use Rattle.script.specs.Jobs.{Job}
 use Rattle.script.specs.Outcome.{refused, done}
-use Rattle.stm.specs.Events.{together, uncounted, counts_of}
+use Rattle.stm.specs.Events.{together, uncounted}
 use Rattle.stm.proofs.Counts.{together_none, counts_append}
 
 module _ {code : List ℕ} {j : Job} (c : IsCode code j) (read : read_code code ≡ done j) where

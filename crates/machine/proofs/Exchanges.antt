@@ -29,8 +29,8 @@ use Rattle.script.specs.Bytes.{Bytes}
 use Rattle.script.specs.Jobs.{Job}
 use Rattle.script.specs.Outcome.{Outcome, refused, done}
 use Rattle.stm.specs.Counted.{Table}
-use Rattle.stm.specs.Events.{from_writes, from_reads, from_table, Event, idle, pushed, summed, forked, begun, looked, wrote, committed, sent_back, is_idle, is_fork, is_commit, is_back}
-use Rattle.stm.specs.Events.{Happened, Counts, tally, counts_of, more, event_number, event_register, turn_number}
+use Rattle.stm.specs.Events.{from_writes, from_reads, from_table, Event, idle, pushed, summed, forked, begun, looked, wrote, committed, sent_back, is_fork, is_commit}
+use Rattle.stm.specs.Events.{Happened, tally, counts_of, event_number, event_register, turn_number}
 use Rattle.stm.proofs.Counts.{tally_swap}
 use Rattle.thread.specs.declared.Thread.{Thread}
 use Rattle.thread.specs.Threads.{blank, exists}

@@ -25,7 +25,7 @@ use Rattle.machine.proofs.Walking.{walks_once}
 use Rattle.machine.proofs.Placings.{typed_spawned, placed_spawned, typed_moved, placed_moved}
 use Rattle.machine.proofs.Mirrors.{spawned_exists}
 use Rattle.machine.proofs.Passing.{passed_set, passed_new}
-use Rattle.machine.proofs.Stale.{stale_by, stale_none, Grown, low_none}
+use Rattle.machine.proofs.Stale.{stale_by, stale_none, low_none}
 use Rattle.machine.proofs.Regions.{link_low, link_once, none_in, FirstOr, first, other, first_or, LastOnce, last_once, LinkOf, passed_link, no_more}
 use Rattle.machine.proofs.Showings.{cells_length}
 use Rattle.machine.proofs.Simulates.{Born, nobody, child, WasStale, Simulated}

@@ -16,7 +16,7 @@ use Rattle.code.specs.Ops.{op_at}
 use Rattle.script.specs.Outcome.{done}
 use Rattle.thread.specs.declared.Thread.{Thread}
 use Rattle.thread.specs.Threads.{blank, spawned, exists}
-use Rattle.machine.specs.Steps.{State, Stepped, number_of, thread_at, instruction, pick, Child, moved_by, act, perform, settle}
+use Rattle.machine.specs.Steps.{State, Stepped, number_of, thread_at, instruction, pick, Child, moved_by}
 use Rattle.stm.specs.Events.{idle}
 use Rattle.machine.specs.Fits.{Walked, Exists}
 use Rattle.machine.specs.InnerStands.{register_cells, table_of, op_of, Ready, cells_from}

@@ -4,7 +4,7 @@ use mathlib.Core.Bool.{Bool, true, false, cond, not}
 use mathlib.Core.Path.{◌≡◌, refl, sym, ap, subst, ◌∙◌}
 use mathlib.Core.List.{List, [], ◌∷◌}
 use native.Mathlib.Omega.{arith}
-use borrow.Author.Tests.{eqb-true, eqb-false, lt-ltb}
+use borrow.Author.Tests.{eqb-true, eqb-false}
 use lib.Dec.{eqb, ltb}
 use lib.IntN.{ℤ}
 use lib.ListN.{length, drop, get_or, set}
@@ -14,7 +14,7 @@ use Rattle.code.specs.Bytes.{IsCode}
 use Rattle.code.specs.Ops.{Op, op_at}
 use Rattle.code.specs.Ops as code
 use Rattle.machine.specs.Fits.{Placed, Exists, Fits, Typed}
-use Rattle.machine.specs.Steps.{State, Stepped, Acted, Child, thread_at, number_of, committing, commit, act, perform, seated, settle, doing, pick_among, pick, instruction, told_by, noted_by, table_in}
+use Rattle.machine.specs.Steps.{State, Stepped, Acted, Child, thread_at, number_of, committing, commit, act, perform, seated, settle, doing, pick_among, pick, told_by, noted_by, table_in}
 use Rattle.machine.proofs.Agrees.{does_one}
 use Rattle.machine.proofs.Numbers.{exists_below, in_table}
 use Rattle.machine.proofs.Picks.{no_record, missing_idle, ended_idle, busy}

@@ -10,7 +10,7 @@ use native.Mathlib.Decide.{dec_lt}
 use lib.ListN.{length, drop, get_or, set, replicate, drop_of_length-le}
 use Rattle.code.specs.Ops.{Op, op_at}
 use Rattle.code.specs.Ops as code
-use Rattle.script.specs.Outcome.{Outcome, done}
+use Rattle.script.specs.Outcome.{done}
 use Rattle.thread.specs.declared.Thread.{Thread}
 use Rattle.thread.specs.Threads.{blank, exists, spawned}
 use Rattle.machine.specs.Fits.{Walked, unmoved, walk_op, next_place, Walks, starts, passes, CommitsPassed, no_records, of_thread, of_none}

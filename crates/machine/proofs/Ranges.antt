@@ -16,7 +16,7 @@ use Rattle.code.proofs.ReadBack.{code_small}
 use Rattle.script.specs.Count.{code_length}
 use Rattle.script.specs.Jobs.{Job}
 use Rattle.thread.specs.declared.Thread.{Thread}
-use Rattle.thread.specs.Threads.{blank, spawned, push, add, begin, below, source_of, read_from, noted, read, write, closed, first_stale, overlaid, exists}
+use Rattle.thread.specs.Threads.{blank, spawned, push, add, begin, below, source_of, read_from, noted, read, write, closed, overlaid, exists}
 use Rattle.machine.specs.Steps.{State, Stepped, number_of, thread_at, instruction, pick, fresh, run, ruled, act, perform, settle, committing, commit, seated, Acted, Child, table_in}
 use Rattle.machine.specs.Fits.{Walked, Exists, Fits, Typed, RangedThread, Ranged}
 use Rattle.machine.specs.InnerStands.{op_of, Ready, InRangeRule}

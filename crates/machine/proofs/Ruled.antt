@@ -1,12 +1,12 @@
 -- Document 02 No. 4: the rule that a pick used, and what it makes of each record's last rule and number of send-backs. Assumes nothing.
 use Prim.Native.Nat.{ℕ, zero, suc, ◌+◌, ◌≤◌, ◌<◌}
-use mathlib.Core.Bool.{Bool, true, false, cond, not, ◌&&◌}
+use mathlib.Core.Bool.{Bool, true, false, cond, ◌&&◌}
 use mathlib.Core.Path.{◌≡◌, refl, sym, ap, subst, ◌∙◌}
 use mathlib.Core.List.{List, [], ◌∷◌}
 use mathlib.Core.Option.{Option, none, some}
 use native.Mathlib.Decide.{dec_lt}
 use native.Mathlib.Omega.{arith}
-use borrow.Author.Tests.{eqb-true, eqb-false, eq-eqb, ne_eqb}
+use borrow.Author.Tests.{eqb-true, eqb-false}
 use lib.Dec.{eqb, ltb}
 use lib.IntN.{ℤ}
 use lib.ListN.{length, get_or, set, length-set, get_or-eq_default}
@@ -17,14 +17,14 @@ use Rattle.code.specs.Ops.{Op}
 use Rattle.code.specs.Ops as code
 use Rattle.machine.specs.Answers.{backs_of}
 use Rattle.machine.specs.Fits.{CommitsPassed, Exists, Fits, Typed}
-use Rattle.machine.specs.Steps.{State, Stepped, Acted, Child, thread_at, number_of, committing, commit, ruled, perform, act, seated, settle, instruction, pick, run, table_in}
+use Rattle.machine.specs.Steps.{State, Stepped, Acted, Child, thread_at, number_of, committing, commit, perform, act, seated, settle, instruction, pick, run, table_in}
 use Rattle.machine.proofs.Agrees.{outer, does_one, step_fits}
 use Rattle.machine.proofs.Runs.{mirror, pick_keeps}
-use Rattle.machine.proofs.Numbers.{at-end, exists_below, in_table}
+use Rattle.machine.proofs.Numbers.{exists_below, in_table}
 use Rattle.machine.proofs.Picks.{missing_idle, ended_idle}
 use Rattle.script.specs.Jobs.{Job}
 use Rattle.stm.specs.Events.{Source, from_writes, from_reads, from_table, Event, idle, pushed, summed, forked, begun, looked, wrote, committed, sent_back, is_commit, is_back, Happened, backs, more, counts_of, tally}
-use Rattle.stm.specs.Rules.{MachineRule, sent_back_with, read_rule, used_by, rule_number, held, rule_after, backs_after, lastly, last_rule}
+use Rattle.stm.specs.Rules.{MachineRule, sent_back_with, read_rule, used_by, held, rule_after, backs_after, lastly, last_rule}
 use Rattle.thread.specs.declared.Thread.{Thread}
 use Rattle.thread.specs.Threads.{blank, exists, spawned, push, add, begin, source_of, read_from, noted, read, write, closed, first_stale}
 use Rattle.word.specs.Sum.{Rule}

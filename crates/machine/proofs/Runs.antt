@@ -11,7 +11,7 @@ use Rattle.script.specs.Jobs.{Job}
 use Rattle.thread.specs.declared.Thread.{Thread}
 use Rattle.thread.specs.Threads.{read_log, write_log}
 use Rattle.machine.specs.Steps.{State, Stepped, number_of, thread_at, pick, run}
-use Rattle.stm.specs.Events.{Event, idle, is_commit, more, Happened}
+use Rattle.stm.specs.Events.{idle, is_commit, more}
 use Rattle.machine.specs.Fits.{CommitsPassed, Exists, Placed, FitsBeside, Typed}
 use Rattle.machine.specs.InnerStands.{register_cells, Ready, table_of}
 use Rattle.machine.specs.Stands.{stack_from}

@@ -13,7 +13,7 @@ use lib.Seq.{get_or-set_same, get_or-set_other}
 use Rattle.stm.specs.Counted.{Counted, Table}
 use Rattle.code.specs.Compile.{Code, BEGIN, ◌⨾◌}
 use Rattle.thread.specs.declared.Thread.{Thread}
-use Rattle.thread.specs.Threads.{with_rule, begin, stale, first_stale, overlaid, recounted, with_writes, log_of, counted_log, read_log, write_log}
+use Rattle.thread.specs.Threads.{with_rule, stale, first_stale, overlaid, recounted, with_writes, log_of, counted_log, read_log, write_log}
 use Rattle.machine.specs.InnerStands.{register_cells, cells_from, cells_of, Ready}
 use Rattle.machine.specs.Stands.{stack_from}
 use Rattle.machine.proofs.Placings.{closed_below}

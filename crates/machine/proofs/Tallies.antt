@@ -1,18 +1,16 @@
 -- A run told forward, the number of threads being carried, is the run and its counts. Assumes nothing.
 use Prim.Native.Nat.{ℕ}
-use mathlib.Core.Bool.{Bool}
-use mathlib.Core.Path.{◌≡◌, refl, sym, ap, ap₂, subst, ◌∙◌}
+use mathlib.Core.Path.{◌≡◌, sym, ap, ap₂, ◌∙◌}
 use mathlib.Core.List.{List, [], ◌∷◌}
 use Rattle.code.specs.Bytes.{IsCode}
-use Rattle.machine.specs.Steps.{State, Stepped, number_of, pick_among, pick, run}
+use Rattle.machine.specs.Steps.{State, number_of, pick, run}
 use Rattle.machine.specs.Fits.{Fits, Typed}
 use Rattle.machine.specs.InnerStands.{register_cells}
-use Rattle.machine.specs.InnerTally.{Progress, advanced, Tallied, turned, tallied}
+use Rattle.machine.specs.InnerTally.{turned, tallied}
 use Rattle.machine.proofs.Runs.{mirror, pick_keeps}
 use Rattle.machine.proofs.Agrees.{outer, step_fits}
 use Rattle.script.specs.Jobs.{Job}
 use Rattle.stm.specs.Events.{Event, is_fork, more, Counts, tally, counts_of, together, uncounted}
-use Rattle.stm.specs.InnerTasks.{System, did, next}
 use Rattle.stm.proofs.Sizes.{next_number}
 use Rattle.stm.proofs.Counts.{tally_behind, together_none, none_together}
 use Rattle.word.specs.Sum.{Rule}

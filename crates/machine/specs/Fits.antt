@@ -1,5 +1,5 @@
 -- Document 01: "A state fits its code if ..". A test that decides it is in FitTest.
-use Rattle.std.specs.Prelude.{ℕ, suc, ◌+◌, ◌-◌, ◌≤◌, ◌<◌, ◌^◌, ◌≡◌, true, false, cond, List, [], ◌∷◌, eqb, ℤ, pos, length, drop, get_or}
+use Rattle.std.specs.Prelude.{ℕ, suc, ◌+◌, ◌-◌, ◌≤◌, ◌<◌, ◌^◌, ◌≡◌, true, false, cond, List, [], ◌∷◌, eqb, pos, length, drop, get_or}
 use Rattle.thread.specs.declared.Thread.{Thread}
 use Rattle.thread.specs.Threads.{blank, exists, stale}
 use Rattle.machine.specs.Steps.{State, table_in, thread_at, Child}

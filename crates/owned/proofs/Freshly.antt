@@ -1,5 +1,5 @@
 -- A fresh state laid down over the first 64 registers, 64 counts and 16 records, then picks on the same ones: one call on them. Assumes nothing.
-use mathlib.Core.Path.{◌≡◌, refl, sym, subst, ◌∙◌, ap}
+use mathlib.Core.Path.{◌≡◌, refl, ◌∙◌, ap}
 use mathlib.Core.Bool.{Bool, true, false, not, ◌&&◌}
 use Prim.Native.Nat.{ℕ, zero, suc}
 use native.Mathlib.Omega.{arith}
@@ -16,7 +16,6 @@ use Rattle.script.specs.Jobs.{Job}
 use Rattle.script.specs.Outcome.{Outcome, refused, done, onward, refuse}
 use Rattle.thread.specs.declared.Thread.{Thread}
 use Rattle.owned.specs.Owned.{freshly_run, on_first}
-use Rattle.owned.proofs.First.{first_length}
 
 module _ {A : Type 0} where
   -- the first of two lists, as long as it is

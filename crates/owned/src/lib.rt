@@ -1,6 +1,7 @@
 // The calls on a state that is owned: registers, counts and records by value, of which the first so many are lent, as far as there are so many, all of them
 // handed back. Whoever calls these needs no proof over lent records.
 #![tactic(auto)]
+
 ghost use Rattle.std.specs.Prelude.{pos, replicate, ◌≡◌};
 ghost use Rattle.machine.specs.Answers.{answered, fresh_call, run_call, step_call};
 ghost use Rattle.owned.specs.Owned.{freshly_run, on_first};

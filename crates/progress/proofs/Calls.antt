@@ -1,24 +1,23 @@
 -- A call done by value: admitted or not, its picks driven, its answer. Assumes nothing.
-use Prim.Native.Nat.{ℕ, zero, suc, ◌+◌, ◌<◌, ◌≤◌}
-use mathlib.Core.Bool.{Bool, true, false, cond, not, ◌&&◌}
+use Prim.Native.Nat.{ℕ, zero, suc, ◌+◌, ◌≤◌}
+use mathlib.Core.Bool.{Bool, true, false, cond}
 use mathlib.Core.Path.{◌≡◌, refl, sym, ap, ap₂, subst, ◌∙◌}
 use mathlib.Core.List.{List, [], ◌∷◌}
 use native.Mathlib.Omega.{arith}
 use borrow.Author.Tests.{ne_eqb, le-ltb}
-use lib.Dec.{eqb, ltb}
-use lib.IntN.{ℤ}
+use lib.Dec.{ltb}
 use Rattle.stm.specs.Counted.{Table}
 use lib.ListN.{length}
 use Rattle.code.specs.Bytes.{IsCode}
 use Rattle.code.specs.Reader.{read_code}
 use Rattle.code.proofs.Foreign.{only_foreign}
 use Rattle.code.proofs.ReadBack.{read_is_code}
-use Rattle.progress.specs.InnerProgress.{beginning, refusal_of, admitted_to, shown, Driven, driven, Room, run_reply_of, answering, admitting, ran_by, stepped_by, step_reply_of, Low, settled_by, which_of, Given, picked_of, picked_by, advanced_to, driven_by}
+use Rattle.progress.specs.InnerProgress.{beginning, refusal_of, shown, Driven, driven, Room, answering, admitting, ran_by, stepped_by, step_reply_of, Low, settled_by, which_of, Given, picked_of, picked_by, advanced_to, driven_by}
 use Rattle.progress.specs.declared.Progress.{Progress}
 use Rattle.progress.proofs.Turns.{Tells, perform_turns, perform_tells}
-use Rattle.progress.proofs.Drives.{drive_runs, run_refuses, Taken, admits}
-use Rattle.machine.specs.Answers.{Returned, step_of, step_call, step_reply, run_of, run_call, run_reply, sum_of}
-use Rattle.machine.specs.Fits.{Fits, Typed}
+use Rattle.progress.proofs.Drives.{drive_runs, run_refuses, admits}
+use Rattle.machine.specs.Answers.{Returned, step_of, step_call, step_reply, run_of, run_call, run_reply}
+use Rattle.machine.specs.Fits.{Typed}
 use Rattle.machine.specs.FitTest.{fits}
 use Rattle.machine.specs.InnerTally as tally
 use Rattle.machine.specs.Steps.{State, table_in, Stepped, number_of, thread_at, pick, pick_among, Ran, run}

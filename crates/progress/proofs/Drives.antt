@@ -1,19 +1,19 @@
 -- Picks by value, one after the other, are the run with its counts; and which refusal a call has. Assumes nothing.
-use Prim.Native.Nat.{ℕ, zero, suc, ◌+◌, ◌*◌, ◌<◌, ◌≤◌}
+use Prim.Native.Nat.{ℕ, suc, ◌+◌, ◌*◌, ◌<◌, ◌≤◌}
 use mathlib.Core.Bool.{Bool, true, false, cond, not}
 use mathlib.Core.Path.{◌≡◌, refl, sym, ap, ap₂, subst, ◌∙◌}
 use mathlib.Core.List.{List, [], ◌∷◌}
 use native.Mathlib.Omega.{arith}
-use borrow.Author.Tests.{ltb-true, ltb-false, le-ltb}
+use borrow.Author.Tests.{ltb-false}
 use lib.Dec.{eqb, ltb}
 use lib.ListN.{length}
 use Rattle.code.specs.Bytes.{IsCode}
 use Rattle.code.specs.Reader.{read_code}
 use Rattle.code.proofs.Foreign.{only_foreign}
-use Rattle.progress.specs.InnerProgress.{more_to, advanced_to, which_of, Given, picked_of, picked_by, refusal_of, Low, shown, settled_by, Driven, driven_by, driven, Room}
+use Rattle.progress.specs.InnerProgress.{more_to, advanced_to, which_of, Given, picked_of, picked_by, refusal_of, Low, shown, settled_by, Driven, driven, Room}
 use Rattle.progress.specs.declared.Progress.{Progress}
 use Rattle.progress.proofs.Turns.{few_told, perform_turns}
-use Rattle.machine.specs.Answers.{sum_of, fitting, run_of, step_of}
+use Rattle.machine.specs.Answers.{run_of}
 use Rattle.machine.specs.Fits.{Fits, Typed}
 use Rattle.machine.specs.FitTest.{fits}
 use Rattle.machine.specs.InnerTally as tally
@@ -21,10 +21,10 @@ use Rattle.machine.specs.Steps.{State, table_in, number_of, thread_at, pick, pic
 use Rattle.machine.proofs.Agrees.{step_fits}
 use Rattle.machine.proofs.Tallies.{pick_number, tallied_run}
 use Rattle.script.specs.Jobs.{Job}
-use Rattle.script.specs.Outcome.{Outcome, refused, done, refuse, onward}
-use Rattle.stm.specs.Events.{Event, is_fork, more, uncounted, counts_of}
+use Rattle.script.specs.Outcome.{Outcome, refused, done}
+use Rattle.stm.specs.Events.{is_fork, more, uncounted, counts_of}
 use Rattle.thread.specs.declared.Thread.{Thread}
-use Rattle.thread.specs.InnerStep.{Handed, handed, unacted, stepped}
+use Rattle.thread.specs.InnerStep.{handed, unacted, stepped}
 use Rattle.word.specs.InnerCount.{saturated}
 use Rattle.word.specs.Sum.{wrapping}
 use Rattle.word.proofs.Counting.{saturated_exact}

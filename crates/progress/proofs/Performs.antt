@@ -1,5 +1,5 @@
 -- One pick of a record, by the step that it takes. Assumes nothing.
-use Prim.Native.Nat.{ℕ, zero, suc, ◌<◌, ◌≤◌}
+use Prim.Native.Nat.{ℕ, zero, suc, ◌≤◌}
 use mathlib.Core.Bool.{Bool, true, false, cond, ◌||◌}
 use mathlib.Core.Path.{◌≡◌, refl, sym, ap, ◌∙◌}
 use mathlib.Core.List.{List, []}
@@ -10,10 +10,7 @@ use lib.ListN.{length, drop, take}
 use lib.Seq.{length-take-le, take-length}
 use Rattle.code.specs.Ops.{op_at}
 use Rattle.ops.specs.Shown.{shown_op}
-use Rattle.ops.specs.declared.Op.{Op}
-use Rattle.ops.specs.declared.Op.TheVariants as op
 use Rattle.progress.specs.InnerProgress.{seat_of, advanced_to, given, picked_of, picked_by, plain_pick, plained_by, reach_of}
-use Rattle.progress.specs.declared.Picked.{Picked}
 use Rattle.progress.specs.declared.Progress.{Progress}
 use Rattle.thread.specs.declared.Action.{Action}
 use Rattle.thread.specs.declared.Thread.{Thread}

@@ -1,7 +1,7 @@
 -- Which refusal a call has, by what the scan of its code says. Assumes nothing.
 use Prim.Native.Nat.{ℕ}
 use mathlib.Core.Bool.{Bool, true, false, cond}
-use mathlib.Core.Path.{◌≡◌, refl, sym, ap, ◌∙◌}
+use mathlib.Core.Path.{◌≡◌, refl, sym}
 use lib.Dec.{ltb, eqb}
 use Rattle.progress.specs.InnerProgress.{refusal_of, fresh_refusal_of, unless_of, beginning}
 use Rattle.progress.specs.declared.Progress.{Progress}

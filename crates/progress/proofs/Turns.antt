@@ -1,22 +1,19 @@
 -- One pick by value is one turn of the run that is told forward. Assumes nothing.
-use Prim.Native.Nat.{ℕ, suc, ◌+◌, ◌<◌, ◌≤◌}
+use Prim.Native.Nat.{ℕ, ◌<◌, ◌≤◌}
 use mathlib.Core.Bool.{Bool, true, false, cond, not}
 use mathlib.Core.Logic.{◌⊎◌, inl, inr}
 use mathlib.Core.Path.{◌≡◌, refl, sym, ap, ap₂, subst, ◌∙◌}
 use mathlib.Core.List.{List, [], ◌∷◌}
 use native.Mathlib.Omega.{arith}
-use borrow.Author.Tests.{lt-ltb, le-ltb, eqb-true, eqb-false, ltb-true, ltb-false}
+use borrow.Author.Tests.{le-ltb, eqb-true, eqb-false, ltb-true, ltb-false}
 use lib.Dec.{eqb, ltb}
-use lib.IntN.{ℤ}
-use Rattle.stm.specs.Counted.{Table}
 use lib.ListN.{length, set, length-set}
 use lib.Seq.{set-get_or, set_out}
 use Rattle.code.specs.Bytes.{IsCode}
-use Rattle.progress.specs.InnerProgress.{more_to, seat_of, advanced_to, which_of, Given, given, picked_of, picked_by, Low, shown, settled_by}
-use Rattle.progress.specs.declared.Picked.{Picked}
+use Rattle.progress.specs.InnerProgress.{more_to, seat_of, advanced_to, which_of, picked_of, picked_by, Low, shown, settled_by}
 use Rattle.progress.specs.declared.Progress.{Progress}
-use Rattle.machine.specs.Steps.{State, table_in, Stepped, Acted, Child, alters, seated, settle, thread_at, pick_among, DoesOne}
-use Rattle.machine.specs.Fits.{Exists, Fits, Typed}
+use Rattle.machine.specs.Steps.{State, table_in, Stepped, Acted, seated, settle, thread_at, pick_among}
+use Rattle.machine.specs.Fits.{Fits, Typed}
 use Rattle.machine.specs.InnerTally as tally
 use Rattle.machine.specs.InnerTurn.{children_as, acted_as, handed_as}
 use Rattle.machine.proofs.Actings.{step_acts, idle_step, step_picks, act_low}

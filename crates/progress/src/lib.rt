@@ -1,5 +1,6 @@
 // What is carried from pick to pick, and one pick of a record, by value; which refusal a call has, and what it answers.
 #![tactic(auto)]
+
 ghost use Rattle.std.specs.Prelude.{◌≡◌, eqb, length};
 ghost use Rattle.code.specs.Reader.{read_code};
 ghost use Rattle.progress.specs.InnerProgress.{admitted_to, advanced_to, fresh_refusal_of, fresh_reply_of, given, more_to, picked_by, plain_pick, plained_by, reach_of, refusal_of, run_reply_of, seat_of, step_reply_of, unless_of, which_of};

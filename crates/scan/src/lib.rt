@@ -1,5 +1,6 @@
 // Whether code is foreign, and what is known of the job that compiles to it: one pass over the code, with a stack of 64 items.
 #![tactic(auto)]
+
 ghost use Rattle.std.specs.Prelude.{ℕ, ◌+◌, ◌<◌, ◌≤◌, max, eqb, length, replicate, ◌&&◌, cond, true, List, ◌≡◌};
 ghost use Rattle.code.specs.Reader.{read_code};
 ghost use Rattle.scan.specs.Answer.{told};

@@ -1,5 +1,5 @@
 -- For code that is not foreign: picks agree with the source's machine. Assumes nothing.
-use Prim.Native.Nat.{ℕ, zero, suc, ◌+◌, ◌<◌}
+use Prim.Native.Nat.{ℕ, zero, suc, ◌<◌}
 use mathlib.Core.Bool.{Bool, true, false}
 use mathlib.Core.Path.{◌≡◌, refl, sym, ap, subst, ◌∙◌}
 use mathlib.Core.List.{List, [], ◌∷◌, ◌++◌}
@@ -8,7 +8,6 @@ use native.Mathlib.Omega.{arith}
 use lib.ListN.{get_or}
 use Rattle.stm.specs.Counted.{Table}
 use Rattle.code.specs.Bytes.{IsCode}
-use Rattle.code.specs.Reader as code
 use Rattle.script.specs.Jobs.{Job}
 use Rattle.script.specs.Soup.{Same}
 use Rattle.script.proofs.Same.{cut, picks_at, same_refl, same_sym, same_trans, take_both, same_left}

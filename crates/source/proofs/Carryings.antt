@@ -1,6 +1,6 @@
 -- One instruction of a thread's record is one rule of the source on the thread that the record stands for. Assumes nothing.
 use Prim.Native.Nat.{ℕ, zero, suc, ◌+◌, ◌-◌, ◌≤◌, ◌<◌}
-use mathlib.Core.Bool.{Bool, true, false, cond, not, ◌&&◌, ◌||◌}
+use mathlib.Core.Bool.{Bool, true, false, cond, not, ◌&&◌}
 use mathlib.Core.Path.{◌≡◌, refl, sym, ap, subst, ◌∙◌}
 use mathlib.Core.List.{List, [], ◌∷◌, ◌++◌}
 use mathlib.Core.Option.{Option, none, some}
@@ -17,7 +17,7 @@ use Rattle.code.specs.Ops as code
 use Rattle.thread.specs.declared.Thread.{Thread}
 use Rattle.thread.specs.Threads as threads
 use Rattle.thread.specs.Threads.{with_rule, zeros, unwritten, spawned, push, add, begin, below, source_of, read_from, noted, read, write, closed, stale, first_stale, overlaid, recounted, log_of, counted_log, read_log, write_log}
-use Rattle.stm.specs.Events.{Source, from_writes, from_reads, from_table, committed, sent_back}
+use Rattle.stm.specs.Events.{Source, from_writes, from_reads, from_table}
 use Rattle.machine.specs.Steps.{State, Stepped, number_of, committing, commit, instruction, moved_by, ruled, act, perform, settle, table_in}
 use Rattle.machine.specs.Fits.{next_place, TypedThread}
 use Rattle.source.specs.Source.{Log, empty, updated, SThread, Looked, looked_up, look_up, register_at, agrees, consistent, entered, raised, overridden, counted, united, StepM, ForkM, PushM, AddM, BeginM, ReadM, WriteM, Committed, Failed}

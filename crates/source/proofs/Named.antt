@@ -3,8 +3,8 @@ use Prim.Native.Nat.{ℕ}
 use mathlib.Core.Path.{◌≡◌, ap}
 use mathlib.Core.Option.{Option, none, some}
 use native.Mathlib.Omega.{arith}
-use Rattle.source.specs.Soup.{Name, named, source_rule}
-use Rattle.stm.specs.Events.{Source, from_writes, from_reads, from_table, Event, idle, pushed, summed, forked, begun, looked, wrote, committed, sent_back}
+use Rattle.source.specs.Soup.{named, source_rule}
+use Rattle.stm.specs.Events.{from_writes, from_reads, from_table, Event, idle, pushed, summed, forked, begun, looked, wrote, committed, sent_back}
 use Rattle.stm.specs.Rules.{MachineRule, used_by}
 
 never_some : {A : Type 0} {m : MachineRule} → ◌≡◌ {A = Option MachineRule} none (some m) → A

@@ -6,7 +6,7 @@ use mathlib.Core.List.{List, [], ◌∷◌, ◌++◌}
 use native.Mathlib.Omega.{arith}
 use Rattle.stm.specs.Counted.{Table}
 use Rattle.code.specs.Compile.{COMMIT, ◌⨾◌}
-use Rattle.source.specs.Source.{SThread, thread, consistent, united, StepM, Preempt, ForkM, PushM, AddM, BeginM, ReadM, WriteM, Committed, Failed}
+use Rattle.source.specs.Source.{SThread, thread, consistent, StepM, Preempt, ForkM, PushM, AddM, BeginM, ReadM, WriteM, Committed, Failed}
 use Rattle.source.specs.Soup.{Name, First, rule_of, IsFor, ByRule}
 use Rattle.stm.specs.Events.{Event}
 use Rattle.word.specs.Sum.{Rule}

@@ -19,7 +19,7 @@ use Rattle.code.specs.Ops.{Op, op_at}
 use Rattle.script.specs.Outcome.{done}
 use Rattle.thread.specs.declared.Thread.{Thread}
 use Rattle.thread.specs.Threads.{blank, spawned, exists, read_log, write_log}
-use Rattle.machine.specs.Steps.{State, Stepped, number_of, thread_at, instruction, pick, moved_by, act, perform, settle, table_in}
+use Rattle.machine.specs.Steps.{State, Stepped, number_of, thread_at, instruction, pick, moved_by, table_in}
 use Rattle.stm.specs.Events.{Event, idle, pushed, summed, forked, begun, looked, wrote, committed, sent_back, is_idle}
 use Rattle.machine.specs.Fits.{Exists}
 use Rattle.source.specs.Source.{Log, empty, SThread, StepM, Preempt, ForkM, PushM, AddM, BeginM, ReadM, WriteM, Committed, Failed}

@@ -1,1 +1,3 @@
+#![tactic(auto)]
+
 // No functions: the source's machine, and the agreement of picks with it.

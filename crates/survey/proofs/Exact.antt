@@ -7,9 +7,8 @@ use mathlib.Core.List.{List, [], ◌∷◌, ◌++◌}
 use mathlib.Core.Option.{Option, none, some}
 use native.Mathlib.Omega.{arith}
 use native.Mathlib.Numerals.{add-one}
-use borrow.Author.Tests.{eqb-true, eq-eqb, ltb-true, lt-leb, le-ltb}
+use borrow.Author.Tests.{eqb-true, eq-eqb, ltb-true, lt-leb}
 use lib.Dec.{eqb, leb, ltb}
-use lib.IntN.{ℤ}
 use Rattle.stm.specs.Counted.{Table}
 use lib.ListN.{length, drop, get_or, take, drop_of_length-le}
 use lib.Seq.{drop-cons, take-suc}
@@ -21,7 +20,6 @@ use Rattle.machine.specs.Steps.{State, table_in, thread_at, Child, number_of}
 use Rattle.machine.specs.Fits.{Walked, own_code}
 use Rattle.machine.specs.FitTest.{walk_to, free, within_from, at_most_from, agrees_with, placed, all_zero, none_behind, in_front, same, passed_by, among, all_among, one_each, commits_passed, needs, all_tallied, fits_beside}
 use Rattle.survey.specs.declared.Survey.{Survey}
-use Rattle.survey.specs.declared.Row.{Row}
 use Rattle.survey.specs.InnerRecords.{empty_survey, zero_from, tidy, needed_in, need_in, with_to, survey_from, survey_of}
 use Rattle.survey.specs.InnerWalk.{own_at, first_verdict, row_at, judge_all, all_asked, all_met, survey_fits}
 use Rattle.survey.proofs.Yes.{never, alike, first, second, both, and_yes, and_no}

@@ -1,5 +1,6 @@
 // The state test: what has to be known of the thread records, taken one after the other, and whether they fit the code.
 #![tactic(auto)]
+
 ghost use Rattle.std.specs.Prelude.{◌+◌, ◌-◌, ◌<◌, ◌≤◌, ◌^◌, eqb, leb, length, ◌&&◌, ◌||◌, not, ◌≡◌};
 ghost use Rattle.machine.specs.FitTest.{all_zero, at_most_from, free, is_zero, uncounted, within_from};
 ghost use Rattle.survey.specs.InnerRecords.{capped_to, zero_from, needed_in, need_in, empty_survey, unfit_to, pass_to, put_to, tidy, with_to};

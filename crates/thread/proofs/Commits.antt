@@ -1,13 +1,13 @@
 -- COMMIT, by what its loops find and leave. Assumes nothing.
 use Prim.Native.Nat.{ℕ, ◌+◌, ◌≤◌, ◌<◌}
-use mathlib.Core.Path.{◌≡◌, refl, sym, ap, ◌∙◌}
+use mathlib.Core.Path.{◌≡◌, sym, ◌∙◌}
 use mathlib.Core.List.{List}
 use borrow.Author.Tests.{lt-ltb, le-ltb}
 use lib.IntN.{ℤ}
 use Rattle.stm.specs.Counted.{Table}
 use Rattle.thread.specs.declared.Thread.{Thread}
 use Rattle.thread.specs.Threads.{with_rule, closed, first_stale}
-use Rattle.thread.specs.InnerStep.{first_stale_in, stored_in, Handed, handed, acting, committed, recounted_in, table_from}
+use Rattle.thread.specs.InnerStep.{first_stale_in, stored_in, handed, acting, committed, recounted_in, table_from}
 use Rattle.word.specs.InnerCount.{saturated}
 use Rattle.thread.proofs.Loops.{first_in, stored-in}
 

@@ -1,13 +1,12 @@
 -- The first register that a set marks, by the zeros below it. Assumes nothing.
 use Prim.Native.Nat.{ℕ, zero, suc, ◌+◌, ◌-◌, ◌/◌, ◌%◌, ◌^◌, ◌≤◌, ◌<◌}
-use mathlib.Core.Bool.{true, false}
-use mathlib.Core.Path.{◌≡◌, refl, sym, ap, subst, ◌∙◌}
+use mathlib.Core.Bool.{false}
+use mathlib.Core.Path.{◌≡◌, refl, sym, ap, ◌∙◌}
 use native.Mathlib.Decide.{dec_lt}
 use native.Mathlib.Nat.{div-eq_of_lt, div-le_self, zero-div, lt_of_le_of_lt, lt_of_lt_of_le, pow-suc}
 use native.Mathlib.Omega.{arith}
 use borrow.Author.Tests.{eq-eqb, ne_eqb}
 use lib.Count.{count_trailing_zeros, under}
-use lib.Dec.{eqb}
 use lib.Pow.{pow_mono, shr-shr}
 use Rattle.thread.specs.InnerStep.{Marked}
 use Rattle.word.specs.Registers.{member}

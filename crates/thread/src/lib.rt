@@ -1,5 +1,6 @@
 // The thread record that is lent, and one step of a thread, by value.
 #![tactic(auto)]
+
 ghost use Rattle.std.specs.Prelude.{◌+◌, ◌-◌, ◌<◌, ◌≤◌, ◌^◌, length, ◌≡◌};
 ghost use Rattle.stm.specs.Counted.{Table};
 ghost use Rattle.thread.specs.InnerStep.{Due, Marked, Stackable, acting, cleared, committed, due_op, enough_for, first_stale_in, handed, logged, note_after, number_op, outside_turn, over_at_once, performed, plain_in, plain_op, plan_of, recounted_in, risen_by, rule_at, sized_by, source_number, stack_event, stack_turn, stacked_by, stacked_op, stale_in, stale_read, stepped, stored_in, summing, table_from, takes_op, unacted, value_of};

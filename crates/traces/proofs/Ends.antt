@@ -8,7 +8,7 @@ use lib.IntN.{ℤ, pos}
 use lib.ListN.{length, get_or, set}
 use Rattle.machine.specs.InnerStands.{register_cells}
 use Rattle.script.specs.Tree.{Proc, ValP, AddP, Atomic, Fork}
-use Rattle.script.specs.Turns.{Registers, Reduced, value, moved, reduce_sum, reduce, Script, turned, after, turn, turns, CanTake, none, one}
+use Rattle.script.specs.Turns.{Registers, Reduced, value, moved, reduce_sum, reduce, Script, turned, turn, turns, CanTake, none, one}
 use Rattle.stm.proofs.Sound.{turns_one}
 use Rattle.word.specs.Sum.{Rule}
 

@@ -15,7 +15,7 @@ use Rattle.code.specs.Ops.{Op, op_at}
 use Rattle.code.specs.Ops as code
 use Rattle.machine.specs.Fits.{Walked, Walks, starts, Exists, ThreadOf, OneThread}
 use Rattle.machine.specs.InnerStands.{register_cells, op_of, Ready}
-use Rattle.machine.specs.Steps.{State, Stepped, Child, thread_at, number_of, pick, fresh, run, DoesOne}
+use Rattle.machine.specs.Steps.{State, Stepped, Child, thread_at, number_of, fresh, run, DoesOne}
 use Rattle.machine.proofs.Agrees.{outer, does_one}
 use Rattle.machine.proofs.Codes.{stands_inside}
 use Rattle.machine.proofs.Fresh.{fresh_typed, fresh_fits, fresh_mirrors}

@@ -1,6 +1,6 @@
 -- A thread has done each instruction of its own code before its place, and has stood at each place behind its start. Assumes nothing.
-use Prim.Native.Nat.{ℕ, zero, suc, ◌+◌, ◌≤◌, ◌<◌}
-use mathlib.Core.Bool.{Bool, true, false, not}
+use Prim.Native.Nat.{ℕ, zero, suc, ◌≤◌, ◌<◌}
+use mathlib.Core.Bool.{Bool, true, false}
 use mathlib.Core.Logic.{◌⊎◌, inl, inr}
 use mathlib.Core.Path.{◌≡◌, refl, sym, ap, subst, ◌∙◌}
 use mathlib.Core.List.{List, [], ◌∷◌, ◌++◌, append-nil, append_assoc}
@@ -21,7 +21,6 @@ use Rattle.machine.proofs.Fresh.{no_record}
 use Rattle.machine.proofs.Picks.{missing_idle, ended_idle}
 use Rattle.machine.proofs.Walking.{not_before, none_between}
 use Rattle.script.specs.Jobs.{Job}
-use Rattle.script.specs.Outcome.{done}
 use Rattle.stm.specs.Events.{Source, from_writes, from_reads, from_table, idle}
 use Rattle.thread.specs.declared.Thread.{Thread}
 use Rattle.thread.specs.Threads.{first_stale, blank, spawned, exists, push, add, begin, source_of, read, write, closed}

@@ -1,1 +1,3 @@
+#![tactic(auto)]
+
 // What every finished run of a job shows: no functions, definitions and theorems only.

@@ -4,7 +4,6 @@ use mathlib.Core.Path.{ap, ◌∙◌}
 use mathlib.Core.List.{[], ◌∷◌}
 use lib.ListN.{get_or}
 use Rattle.delivery.specs.InnerPlaces.{inserted}
-use borrow.Author.Rules.{rules}
 use Rattle.decompiler.proofs.add.Goals as goal
 
 pub returns : goal.returns

@@ -1,7 +1,6 @@
 -- `decompiler::begin` meets its contract. Assumes nothing.
 use native.Mathlib.Omega.{arith}
 use Rattle.delivery.proofs.Places.{one_stored}
-use borrow.Author.Rules.{rules}
 use Rattle.decompiler.proofs.begin.Goals as goal
 
 pub returns : goal.returns

@@ -5,7 +5,6 @@ use mathlib.Core.Path.{ap, ap₂, ◌∙◌}
 use native.Mathlib.Omega.{arith}
 use Rattle.decompiler.specs.InnerState.{Pass, part_pushed, child_opened}
 use Rattle.delivery.proofs.Places.{one_stored}
-use borrow.Author.Rules.{rules}
 use Rattle.decompiler.proofs.fork.Goals as goal
 
 abbrev forked_of : Pass → ℕ

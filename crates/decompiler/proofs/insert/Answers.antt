@@ -4,7 +4,6 @@ use mathlib.Core.List.{[], ◌∷◌}
 use native.Mathlib.Omega.{arith}
 use Rattle.delivery.specs.InnerPlaces.{placed_at}
 use Rattle.delivery.proofs.Places.{one_stored, placed_moved}
-use borrow.Author.Rules.{rules}
 use Rattle.decompiler.proofs.insert.Goals as goal
 
 pub returns : goal.returns

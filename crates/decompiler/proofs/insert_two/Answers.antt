@@ -5,7 +5,6 @@ use native.Mathlib.Omega.{arith}
 use lib.ListN.{length-set}
 use Rattle.delivery.specs.InnerPlaces.{placed_at}
 use Rattle.delivery.proofs.Places.{two_stored, placed_moved}
-use borrow.Author.Rules.{rules}
 use Rattle.decompiler.proofs.insert_two.Goals as goal
 
 pub bounds-out-start-2 : goal.bounds-out-start-2

@@ -1,5 +1,4 @@
 -- `decompiler::kind` meets its contract. Assumes nothing.
-use borrow.Author.Rules.{rules}
 use Rattle.decompiler.proofs.kind.Goals as goal
 
 pub returns-then-inside : goal.returns-then-inside

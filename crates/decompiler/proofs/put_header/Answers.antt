@@ -5,7 +5,6 @@ use lib.ListN.{length-set}
 use Rattle.decompiler.specs.InnerParts.{job_header}
 use Rattle.script.specs.Bytes.{job_mark, bytes16}
 use Rattle.delivery.proofs.Places.{front_stored}
-use borrow.Author.Rules.{rules}
 use Rattle.decompiler.proofs.put_header.Goals as goal
 
 pub bounds-out-1 : goal.bounds-out-1

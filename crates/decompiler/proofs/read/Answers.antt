@@ -3,7 +3,6 @@ use Prim.Native.Nat.{◌+◌}
 use native.Mathlib.Omega.{arith}
 use lib.ListN.{get_or, length-set}
 use Rattle.delivery.proofs.Places.{two_stored}
-use borrow.Author.Rules.{rules}
 use Rattle.decompiler.proofs.read.Goals as goal
 
 pub bounds-out-size-2 : goal.bounds-out-size-2

@@ -1,7 +1,6 @@
 -- `decompiler::read_back` meets its contract: the scan decides, and the pass writes. Assumes nothing.
 use mathlib.Core.Path.{sym, ◌∙◌}
 use Rattle.decompiler.proofs.Answers.{refused_answer, found, short_answer, ready, done_answer}
-use borrow.Author.Rules.{rules}
 use Rattle.decompiler.proofs.read_back.Goals as goal
 
 pub returns-then-out-size : goal.returns-then-out-size

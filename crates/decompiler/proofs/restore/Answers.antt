@@ -8,9 +8,8 @@ use mir.Syntax.{w8}
 use mir.Val.{Fits}
 use Rattle.decompiler.specs.declared.Cursor.{Cursor}
 use Rattle.decompiler.specs.InnerState.{joined}
-use Rattle.decompiler.specs.InnerWalk.{weight}
 use Rattle.script.specs.Bytes.{Bytes}
-use Rattle.decompiler.proofs.Whole.{PassInv, header_fits, inv_start, inv_length, inv_end}
+use Rattle.decompiler.proofs.Whole.{header_fits, inv_start, inv_end}
 use Rattle.decompiler.proofs.restore.Goals as goal
 
 bytes_of : (code : List ℕ) → ((i : ℕ) → Fits w8 (get_or code i 0)) → Bytes code

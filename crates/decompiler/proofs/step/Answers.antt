@@ -2,7 +2,6 @@
 use mathlib.Core.Path.{refl, sym, ◌∙◌}
 use native.Mathlib.Omega.{arith}
 use Rattle.decompiler.proofs.Turns.{open_few, found_at, no_other, push_fits, push_turn, add_fits, add_turn, read_fits, read_turn, write_fits, write_turn, begin_fits, begin_turn, commit_fits, commit_turn, fork_fits, fork_turn, close_fits, close_turn, walked_as}
-use borrow.Author.Rules.{rules}
 use Rattle.decompiler.proofs.step.Goals as goal
 
 pub is_at_end-requires : goal.is_at_end-requires

@@ -1,16 +1,15 @@
 -- `engine::brief` meets its contract: a pick that changes the stack alone is any pick. Assumes nothing.
 use mathlib.Core.Path.{◌≡◌, sym, ap, ◌∙◌}
-use mathlib.Core.List.{List, []}
-use native.Mathlib.Omega.{arith}
+use mathlib.Core.List.{[]}
 use Prim.Native.Nat.{ℕ}
-use lib.ListN.{set, length-set, get_or}
+use lib.ListN.{set, get_or}
 use Rattle.std.proofs.lemmas.List.{get_or_default, set_past}
 use Rattle.thread.specs.InnerStep.{table_from}
 use Rattle.thread.specs.Threads.{blank}
 use Rattle.thread.specs.declared.Thread.{Thread}
 use Rattle.progress.specs.InnerProgress.{plained_by, which_of}
 use Rattle.progress.proofs.Performs.{plained}
-use Rattle.engine.proofs.Picks.{back_in, seated, put_back}
+use Rattle.engine.proofs.Picks.{seated, put_back}
 use Rattle.engine.proofs.brief.Goals.{then-seat-threads, else-seat-threads}
 use Rattle.engine.proofs.brief.Goals as goal
 

@@ -1,13 +1,9 @@
 -- `engine::clear` meets its contract. Assumes nothing.
-use Prim.Native.Nat.{ℕ, ◌≤◌, ◌<◌, ◌-◌}
-use mathlib.Core.List.{List}
-use mathlib.Core.Path.{◌≡◌, refl, sym, ap, ◌∙◌}
-use native.Mathlib.Omega.{arith}
-use borrow.Author.Rules.{rules}
-use lib.IntN.{ℤ, pos}
-use lib.ListN.{length, set, length-set}
-use Rattle.engine.specs.InnerEngine.{least_of, overwritten, cleared}
-use Rattle.engine.proofs.Laying.{least_second, overwritten_more, overwritten_least, overwritten_none}
+use Prim.Native.Nat.{ℕ, ◌≤◌, ◌-◌}
+use mathlib.Core.Path.{◌≡◌}
+use lib.IntN.{pos}
+use lib.ListN.{length}
+use Rattle.engine.specs.InnerEngine.{least_of, overwritten}
 use Rattle.engine.proofs.clear.Given as goal
 
 abbrev pub invariant-loop-i : goal.invariant-loop-i

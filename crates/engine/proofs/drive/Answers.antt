@@ -1,9 +1,9 @@
 -- `engine::drive` meets its contract: the picks go on one by one, as the definition does. Assumes nothing.
-use Prim.Native.Nat.{ℕ, ◌-◌, ◌<◌}
+use Prim.Native.Nat.{ℕ, ◌-◌}
 use mathlib.Core.Path.{◌≡◌, sym, ap, ◌∙◌}
 use native.Mathlib.Omega.{arith}
-use lib.ListN.{length, get_or, drop}
-use Rattle.progress.specs.InnerProgress.{driven, which_of}
+use lib.ListN.{drop}
+use Rattle.progress.specs.InnerProgress.{driven}
 use Rattle.engine.specs.InnerEngine.{drove}
 use Rattle.engine.proofs.Picks.{settled, which_low, driven_none, goes_on}
 use Rattle.engine.proofs.drive.Goals as goal

@@ -1,9 +1,8 @@
 -- `engine::forget` meets its contract. Assumes nothing.
-use Prim.Native.Nat.{ℕ, ◌≤◌, ◌<◌, ◌-◌}
+use Prim.Native.Nat.{ℕ, ◌<◌}
 use mathlib.Core.List.{List}
 use mathlib.Core.Path.{◌≡◌, refl, sym, ap, ◌∙◌}
 use native.Mathlib.Omega.{arith}
-use borrow.Author.Rules.{rules}
 use lib.ListN.{length, set, length-set}
 use Rattle.engine.specs.InnerEngine.{least_of, overwritten, forgotten}
 use Rattle.engine.proofs.Laying.{least_second, overwritten_more, overwritten_least, overwritten_none}

@@ -6,7 +6,6 @@ use lib.IntN.{ℤ}
 use lib.ListN.{length}
 use Rattle.code.specs.Reader.{read_code}
 use Rattle.thread.specs.declared.Thread.{Thread}
-
 use Rattle.machine.specs.Answers.{answered, run_call}
 use Rattle.machine.specs.Steps.{state_from}
 use Rattle.survey.specs.declared.Survey.{Survey}

@@ -1,7 +1,5 @@
 -- `engine::least` meets its contract. Assumes nothing.
-use mathlib.Core.Path.{◌≡◌, refl}
 use borrow.Author.Tests.{lt-ltb, le-ltb}
-use Rattle.engine.specs.InnerEngine.{least_of}
 use Rattle.engine.proofs.least.Goals as goal
 
 -- the first is the lesser

@@ -1,12 +1,8 @@
 -- `engine::record_of` meets its contract. Assumes nothing.
 use mathlib.Core.Path.{◌∙◌}
-use borrow.Author.Rules.{rules}
 use borrow.Author.Tests.{ne_eqb}
 use Rattle.engine.proofs.Laying.{unspawned}
 use Rattle.engine.specs.InnerEngine.{record_of}
-use Rattle.engine.proofs.record_of.Reads as reads
-use Rattle.engine.proofs.record_of.Lts as lts
-use Rattle.engine.proofs.spawned.Reads as spawned-reads
 use Rattle.engine.proofs.record_of.Goals as goal
 
 -- record 0

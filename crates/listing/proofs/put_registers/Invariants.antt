@@ -1,18 +1,10 @@
 -- `listing::put_registers` meets its contract. Assumes nothing.
-use Prim.Native.Nat.{ℕ, suc, ◌+◌, ◌-◌, ◌*◌, ◌<◌, ◌≤◌}
-use mathlib.Core.List.{List, [], ◌++◌, append_assoc, append-nil}
-use mathlib.Core.Path.{◌≡◌, refl, sym, ap, ◌∙◌}
-use native.Mathlib.Omega.{arith}
-use mir.Facts.{to_z-of_z}
-use borrow.Author.Rules.{rules, sfits_of}
+use Prim.Native.Nat.{ℕ, ◌+◌, ◌-◌, ◌*◌, ◌≤◌}
+use mathlib.Core.List.{List, ◌++◌}
+use mathlib.Core.Path.{◌≡◌}
 use lib.ListN.{length, drop}
 use Rattle.listing.specs.InnerPage.{Put}
-use Rattle.listing.specs.Listed.{register_line, register_lines}
-use Rattle.listing.proofs.Lines.{register_next, registers_end}
-use Rattle.listing.proofs.Pages.{put_put, put_none, put_same}
-use Rattle.listing.proofs.put_registers.Reads as reads
-use Rattle.listing.proofs.put_registers.Lts as lts
-use Rattle.listing.proofs.put_register.Reads as put-register-reads
+use Rattle.listing.specs.Listed.{register_lines}
 use Rattle.listing.proofs.put_registers.Given as goal
 
 abbrev pub invariant-loop-v : goal.invariant-loop-v

@@ -1,60 +1,42 @@
 -- `listing::put_threads` meets its contract. Assumes nothing.
-use Prim.Native.Nat.{ℕ, suc, ◌+◌, ◌-◌, ◌*◌, ◌<◌, ◌≤◌}
-use mathlib.Core.List.{List, [], ◌++◌, append_assoc, append-nil}
+use Prim.Native.Nat.{◌<◌}
+use mathlib.Core.List.{[], ◌++◌, append_assoc, append-nil}
 use mathlib.Core.Path.{◌≡◌, refl, sym, ap, ◌∙◌}
 use native.Mathlib.Omega.{arith}
 use borrow.Author.Rules.{rules}
-use lib.ListN.{length, drop}
-use Rattle.listing.specs.InnerPage.{Put}
-use Rattle.listing.specs.Listed.{thread_lines}
+use lib.ListN.{length}
 use Rattle.listing.proofs.Lines.{thread_next, threads_end}
 use Rattle.listing.proofs.Pages.{put_put, put_none, put_same}
-use Rattle.listing.proofs.put_threads.Reads as reads
-use Rattle.listing.proofs.put_threads.Lts as lts
-use Rattle.listing.proofs.put_record.Reads as put-record-reads
 use Rattle.listing.proofs.put_threads.Goals as goal
 
--- src/lib.rt:124:5
 pub loop-i-init : goal.loop-i-init
 loop-i-init c = (omega arith, search rules, refl, c.requires, omega arith, ([], put_none _ _, refl))
 
--- src/lib.rt:125:17
-pub offset_bounds-threads-i : goal.offset_bounds-threads-i
-offset_bounds-threads-i c = omega arith
-
--- src/lib.rt:126:9
 pub put_record-next-requires : goal.put_record-next-requires
 put_record-next-requires c =
     let l = c.loop-i in
     omega (arith, c.loop-i-test.true, l.invariant.2, l.invariant.3, l.invariant.4)
 
--- src/lib.rt:127:9
-pub overflow_add-i : goal.overflow_add-i
-overflow_add-i c = omega arith
-
--- src/lib.rt:124:5
-pub loop-i-smaller : goal.loop-i-smaller
-loop-i-smaller c = omega arith
-
--- src/lib.rt:124:5
 pub loop-i-preserved : goal.loop-i-preserved
 loop-i-preserved c =
     let l = c.loop-i in
     let r = c.put_record-next in
-    let ts = c.args.t3 in
+    let ts = c.args.threads in
     let h : l.i < 17 = c.loop-i-test.true in
-    let e : length r.new.0 ≡ length l.page = search rules in (
+    let e : length r.new.page ≡ length l.page = search rules in (
       omega (arith, h),
       l.invariant.1,
       e ∙ l.invariant.2,
       l.invariant.3,
-      omega (arith, r.ensures.1, l.invariant.4),
-      (l.invariant.5.0 ++ _, put_put l.invariant.5.1 r.ensures.0, append_assoc l.invariant.5.0 _ _ ∙ ap (l.invariant.5.0 ++◌) (thread_next l.i ts h l.invariant.1 _) ∙ l.invariant.5.2),
+      omega (arith, r.ensures.upper_bound, l.invariant.4),
+      (l.invariant.5.0 ++ _, put_put l.invariant.5.1 r.ensures.put, append_assoc l.invariant.5.0 _ _ ∙ ap (l.invariant.5.0 ++◌) (thread_next l.i ts h l.invariant.1 _) ∙ l.invariant.5.2),
     )
 
--- src/lib.rt:117:1
 pub returns : goal.returns
 returns c =
     let l = c.loop-i in
     let e : l.i ≡ 17 = omega (arith, c.loop-i-test.false, l.invariant.0) in
-    (put_same (sym (append-nil l.invariant.5.0) ∙ ap (l.invariant.5.0 ++◌) (sym (threads_end l.i c.args.t3 (omega (arith, e, l.invariant.1)))) ∙ l.invariant.5.2) l.invariant.5.1, omega (arith, e, l.invariant.4))
+    record {
+      put = put_same (sym (append-nil l.invariant.5.0) ∙ ap (l.invariant.5.0 ++◌) (sym (threads_end l.i c.args.threads (omega (arith, e, l.invariant.1)))) ∙ l.invariant.5.2) l.invariant.5.1;
+      upper_bound = omega (arith, e, l.invariant.4);
+    }

@@ -7,7 +7,6 @@ use lib.ListN.{length}
 use Rattle.delivery.specs.Delivered.{delivered}
 use Rattle.script.specs.Outcome.{done}
 use Rattle.listing.proofs.Pages.{whole}
-use borrow.Author.Rules.{rules}
 use Rattle.listing.proofs.report.Goals as goal
 
 pub slice_bounds-page-end : goal.slice_bounds-page-end
@@ -19,4 +18,7 @@ slice_bounds-deliver-end c = let w = whole c.print-length.ensures in w.size ∙ 
 pub returns : goal.returns
 returns c =
     let w = whole c.print-length.ensures in
-    (ap (λ (t : List ℕ). delivered (done t) c.args.out.now) (sym w.front) ∙ c.deliver.ensures, omega (arith, w.size, w.within))
+    record {
+      out_value = ap (λ (t : List ℕ). delivered (done t) c.args.out.now) (sym w.front) ∙ c.deliver.ensures;
+      input_len_bound = omega (arith, w.size, w.within);
+    }

@@ -2,7 +2,6 @@
 use mathlib.Core.Path.{◌≡◌, refl, subst, ◌∙◌}
 use lib.IntN.{pos}
 use lib.ListN.{replicate}
-use borrow.Author.Rules.{rules}
 use Rattle.engine.proofs.Laying.{unspawned}
 use Rattle.machine.specs.Answers.{answered, fresh_call}
 use Rattle.thread.specs.Threads.{blank}
@@ -10,11 +9,6 @@ use Rattle.thread.specs.declared.Thread.{Thread}
 use Rattle.owned.specs.Owned.{on_first}
 use Rattle.owned.specs.declared.Laid.{Laid}
 use Rattle.owned.proofs.Freshly.{freshly}
-use Rattle.owned.proofs.shown.Reads as reads
-use Rattle.owned.proofs.shown.Lts as lts
-use Rattle.owned.proofs.fresh.Reads as fresh-reads
-use Rattle.engine.proofs.spawned.Reads as spawned-reads
-use Rattle.owned.proofs.run.Reads as run-reads
 use Rattle.owned.proofs.shown.Goals as goal
 
 -- the two calls are one

@@ -1,9 +1,5 @@
 use borrow.Author.Tests.{eq-eqb, ne_eqb}
-use borrow.Author.Rules.{rules}
 use Rattle.progress.proofs.Refusals.{fresh_foreign, fresh_job}
-use Rattle.progress.proofs.fresh_refusal.Reads as reads
-use Rattle.progress.proofs.fresh_refusal.Lts as lts
-use Rattle.scan.proofs.scan_code.Reads as scan-code-reads
 use Rattle.progress.proofs.fresh_refusal.Goals as goal
 
 -- other than 16 records

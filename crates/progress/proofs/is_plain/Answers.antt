@@ -1,10 +1,5 @@
 use mathlib.Core.Path.{◌∙◌}
 use Rattle.progress.proofs.Performs.{reach_length, plain_reach}
-use borrow.Author.Rules.{rules}
-use Rattle.progress.proofs.is_plain.Reads as reads
-use Rattle.progress.proofs.is_plain.Lts as lts
-use Rattle.progress.proofs.reach.Reads as reach-reads
-use Rattle.thread.proofs.Thread.is_plain.Reads as is-plain-reads
 use Rattle.progress.proofs.is_plain.Goals as goal
 
 -- src/lib.rt:153:16

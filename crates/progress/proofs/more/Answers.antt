@@ -1,5 +1,4 @@
 use Rattle.progress.specs.InnerProgress.{more_to}
-use borrow.Author.Rules.{rules}
 use Rattle.progress.proofs.more.Goals as goal
 
 pub returns-then-so : goal.returns-then-so

@@ -1,11 +1,4 @@
 use Rattle.progress.proofs.Performs.{reach_length, a_pick}
-use borrow.Author.Rules.{rules}
-use Rattle.progress.proofs.perform.Reads as reads
-use Rattle.progress.proofs.perform.Lts as lts
-use Rattle.progress.proofs.Progress.after.Reads as after-reads
-use Rattle.progress.proofs.reach.Reads as reach-reads
-use Rattle.progress.proofs.seat.Reads as seat-reads
-use Rattle.thread.proofs.Thread.step.Reads as step-reads
 use Rattle.progress.proofs.perform.Goals as goal
 
 -- src/lib.rt:135:20

@@ -1,11 +1,4 @@
 use Rattle.progress.proofs.Performs.{reach_length, a_plain}
-use borrow.Author.Rules.{rules}
-use Rattle.progress.proofs.plain.Reads as reads
-use Rattle.progress.proofs.plain.Lts as lts
-use Rattle.progress.proofs.Progress.after.Reads as after-reads
-use Rattle.progress.proofs.reach.Reads as reach-reads
-use Rattle.progress.proofs.seat.Reads as seat-reads
-use Rattle.thread.proofs.Thread.plain.Reads as plain-reads
 use Rattle.progress.proofs.plain.Goals as goal
 
 -- src/lib.rt:163:21

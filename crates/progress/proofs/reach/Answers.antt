@@ -1,7 +1,5 @@
 use borrow.Author.Tests.{lt-ltb, le-ltb}
 use Rattle.progress.specs.InnerProgress.{reach_of}
-use Rattle.progress.proofs.reach.Reads as reads
-use Rattle.progress.proofs.reach.Lts as lts
 use Rattle.progress.proofs.reach.Goals as goal
 
 -- src/lib.rt:118:9

@@ -1,11 +1,6 @@
-use borrow.Author.Tests.{eq-eqb, ne_eqb, not-true, not-false, lt-ltb, le-ltb}
+use borrow.Author.Tests.{lt-ltb, le-ltb}
 use mathlib.Core.Path.{sym, ◌∙◌}
 use Rattle.progress.proofs.Refusals.{foreign, unfit, long, none}
-use borrow.Author.Rules.{rules}
-use Rattle.progress.proofs.refusal.Reads as reads
-use Rattle.progress.proofs.refusal.Lts as lts
-use Rattle.scan.proofs.scan_code.Reads as scan-code-reads
-use Rattle.survey.proofs.Survey.fits.Reads as fits-reads
 use Rattle.progress.proofs.refusal.Goals as goal
 
 -- src/lib.rt:146:17

@@ -1,7 +1,5 @@
-use borrow.Author.Tests.{eq-eqb, ne_eqb, not-true, not-false, lt-ltb, le-ltb}
+use borrow.Author.Tests.{eq-eqb, ne_eqb}
 use Rattle.progress.specs.InnerProgress.{seat_of}
-use Rattle.progress.proofs.seat.Reads as reads
-use Rattle.progress.proofs.seat.Lts as lts
 use Rattle.progress.proofs.seat.Goals as goal
 
 -- src/lib.rt:51:9

@@ -1,7 +1,5 @@
 use borrow.Author.Tests.{eq-eqb, ne_eqb}
 use Rattle.progress.specs.InnerProgress.{unless_of}
-use Rattle.progress.proofs.unless.Reads as reads
-use Rattle.progress.proofs.unless.Lts as lts
 use Rattle.progress.proofs.unless.Goals as goal
 
 -- not refused

@@ -1,7 +1,5 @@
-use borrow.Author.Tests.{eq-eqb, ne_eqb, not-true, not-false, lt-ltb, le-ltb}
+use borrow.Author.Tests.{lt-ltb, le-ltb}
 use Rattle.progress.specs.InnerProgress.{which_of}
-use Rattle.progress.proofs.which.Reads as reads
-use Rattle.progress.proofs.which.Lts as lts
 use Rattle.progress.proofs.which.Goals as goal
 
 -- src/lib.rt:108:9

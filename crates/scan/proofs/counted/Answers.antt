@@ -1,5 +1,4 @@
 -- `scan::counted` meets its contract. Assumes nothing.
-use borrow.Author.Rules.{rules}
 use borrow.Author.Tests.{eq-eqb, ne_eqb}
 use Rattle.scan.specs.InnerView.{counted_to}
 use Rattle.scan.proofs.counted.Goals as goal

@@ -1,17 +1,9 @@
 -- `scan::instructions` meets its contract: the loop follows `scan_ops` and counts the nodes of each transaction, and the code that is left falls. Assumes nothing.
-use Prim.Native.Nat.{ℕ, ◌-◌, ◌<◌}
-use mathlib.Core.Bool.{Bool, true, false}
-use mathlib.Core.Path.{◌≡◌, sym, ap, subst, ◌∙◌}
-use mathlib.Core.List.{List}
-use native.Mathlib.Omega.{arith}
-use lib.ListN.{length, drop}
-use borrow.Author.Tests.{not-true, not-false}
-use Rattle.scan.specs.declared.Scan.{Scan}
-use Rattle.scan.specs.InnerView.{ScanState, state, viewed, ShortFork, empty_scan, bad, short, long}
-use Rattle.script.proofs.Numbers.{bytes_drop, bytes_of}
-use Rattle.scan.proofs.Fits.{good_of, limits}
-use Rattle.scan.proofs.Loops.{ahead, Loop, loop_start, settle_bad, at-end, step_bad, step_good, onward_by, further, op_small}
-use Rattle.scan.proofs.Long.{Counting, counting_first, counts_short, counts_long, counts_on}
+use Prim.Native.Nat.{◌-◌}
+use lib.ListN.{length}
+use Rattle.scan.specs.InnerView.{state}
+use Rattle.scan.proofs.Loops.{Loop}
+use Rattle.scan.proofs.Long.{Counting}
 use Rattle.scan.proofs.instructions.Given as goal
 
 abbrev pub invariant-loop-s : goal.invariant-loop-s

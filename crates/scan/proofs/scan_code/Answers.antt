@@ -4,7 +4,6 @@ use borrow.Author.Tests.{not-true, not-false}
 use Rattle.script.proofs.Numbers.{bytes_of}
 use Rattle.code.specs.Reader.{code_marked}
 use Rattle.scan.proofs.Whole.{too_short, too-long, bad_mark, bad_version, is_foreign, is_job}
-use borrow.Author.Rules.{rules}
 use Rattle.scan.proofs.scan_code.Goals as goal
 
 pub returns-then-length-lt5 : goal.returns-then-length-lt5

@@ -1,7 +1,6 @@
 -- `survey::adds_after` meets its contract. Assumes nothing.
 use borrow.Author.Tests.{eq-eqb, ne_eqb}
 use Rattle.survey.specs.InnerWalk.{adds_after}
-use borrow.Author.Rules.{rules}
 use Rattle.survey.proofs.adds_after.Goals as goal
 
 pub returns-then-begin-eq0 : goal.returns-then-begin-eq0

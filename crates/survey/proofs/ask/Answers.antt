@@ -1,10 +1,8 @@
 -- `survey::ask` meets its contract. Assumes nothing.
-use Prim.Native.Nat.{◌-◌, ◌≤◌}
-use mathlib.Core.Path.{◌≡◌, refl, sym, ◌∙◌}
+use mathlib.Core.Path.{refl, sym, ◌∙◌}
 use native.Mathlib.Omega.{arith}
-use borrow.Author.Rules.{rules}
 use Rattle.survey.specs.InnerWalk.{asked_for}
-use Rattle.survey.proofs.Loops.{asks_at, asks_done, asks_turn}
+use Rattle.survey.proofs.Loops.{asks_done, asks_turn}
 use Rattle.survey.proofs.ask.Goals as goal
 
 pub loop-i-init : goal.loop-i-init

@@ -1,10 +1,7 @@
 -- `survey::ask` meets its contract. Assumes nothing.
 use Prim.Native.Nat.{◌-◌, ◌≤◌}
-use mathlib.Core.Path.{◌≡◌, refl, sym, ◌∙◌}
-use native.Mathlib.Omega.{arith}
-use borrow.Author.Rules.{rules}
-use Rattle.survey.specs.InnerWalk.{asked_for}
-use Rattle.survey.proofs.Loops.{asks_at, asks_done, asks_turn}
+use mathlib.Core.Path.{◌≡◌}
+use Rattle.survey.proofs.Loops.{asks_at}
 use Rattle.survey.proofs.ask.Given as goal
 
 abbrev pub invariant-loop-i : goal.invariant-loop-i

@@ -1,6 +1,5 @@
 -- `survey::capped` meets its contract. Assumes nothing.
 use Rattle.survey.proofs.Records.{cap_below, cap_above}
-use borrow.Author.Rules.{rules}
 use Rattle.survey.proofs.capped.Goals as goal
 
 pub returns-then-n-lt4294967295 : goal.returns-then-n-lt4294967295

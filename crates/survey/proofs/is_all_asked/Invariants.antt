@@ -1,10 +1,7 @@
 -- `survey::is_all_asked` meets its contract. Assumes nothing.
 use Prim.Native.Nat.{◌-◌, ◌≤◌}
-use mathlib.Core.Path.{◌≡◌, refl, sym, ◌∙◌}
-use native.Mathlib.Omega.{arith}
-use borrow.Author.Rules.{rules}
-use borrow.Author.Tests.{not-true, not-false}
-use Rattle.survey.proofs.Loops.{asked_at, asked_fails, asked_again, asked_done}
+use mathlib.Core.Path.{◌≡◌}
+use Rattle.survey.proofs.Loops.{asked_at}
 use Rattle.survey.proofs.is_all_asked.Given as goal
 
 abbrev pub invariant-loop-i : goal.invariant-loop-i

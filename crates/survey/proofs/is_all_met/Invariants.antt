@@ -1,9 +1,7 @@
 -- `survey::is_all_met` meets its contract. Assumes nothing.
 use Prim.Native.Nat.{◌-◌, ◌≤◌}
-use mathlib.Core.Path.{◌≡◌, refl}
-use native.Mathlib.Omega.{arith}
-use borrow.Author.Rules.{rules}
-use Rattle.survey.proofs.Loops.{met_at, met_fails, met_again, met_done}
+use mathlib.Core.Path.{◌≡◌}
+use Rattle.survey.proofs.Loops.{met_at}
 use Rattle.survey.proofs.is_all_met.Given as goal
 
 abbrev pub invariant-loop-i : goal.invariant-loop-i

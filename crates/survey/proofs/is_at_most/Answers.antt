@@ -1,10 +1,8 @@
 -- `survey::is_at_most` meets its contract. Assumes nothing.
-use Prim.Native.Nat.{◌-◌, ◌≤◌}
 use mathlib.Core.Bool.{◌&&◌}
-use mathlib.Core.Path.{◌≡◌, refl, sym, ap, ◌∙◌}
+use mathlib.Core.Path.{refl, ap, ◌∙◌}
 use native.Mathlib.Omega.{arith}
-use borrow.Author.Rules.{rules}
-use Rattle.survey.proofs.Loops.{most_at, most_again, most_done}
+use Rattle.survey.proofs.Loops.{most_again, most_done}
 use Rattle.survey.proofs.is_at_most.Goals as goal
 
 pub loop-v-init : goal.loop-v-init

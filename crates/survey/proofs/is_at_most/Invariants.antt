@@ -1,10 +1,8 @@
 -- `survey::is_at_most` meets its contract. Assumes nothing.
 use Prim.Native.Nat.{◌-◌, ◌≤◌}
 use mathlib.Core.Bool.{◌&&◌}
-use mathlib.Core.Path.{◌≡◌, refl, sym, ap, ◌∙◌}
-use native.Mathlib.Omega.{arith}
-use borrow.Author.Rules.{rules}
-use Rattle.survey.proofs.Loops.{most_at, most_again, most_done}
+use mathlib.Core.Path.{◌≡◌}
+use Rattle.survey.proofs.Loops.{most_at}
 use Rattle.survey.proofs.is_at_most.Given as goal
 
 abbrev pub invariant-loop-v : goal.invariant-loop-v

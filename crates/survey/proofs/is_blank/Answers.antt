@@ -1,9 +1,7 @@
 -- `survey::is_blank` meets its contract: test by test. Assumes nothing.
 use mathlib.Core.Path.{sym, ◌∙◌}
-use borrow.Author.Tests.{not-true, not-false}
 use Rattle.survey.proofs.Yes.{is_false, alike, clash}
 use Rattle.survey.proofs.Records.{none_marked, zeros_of, all-zero}
-use borrow.Author.Rules.{rules}
 use Rattle.survey.proofs.is_blank.Goals as goal
 
 pub returns-then-t-ne0 : goal.returns-then-t-ne0

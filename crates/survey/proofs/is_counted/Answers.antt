@@ -1,8 +1,7 @@
 -- `survey::is_counted` meets its contract. Assumes nothing.
-use mathlib.Core.Path.{sym, ap, ◌∙◌}
+use mathlib.Core.Path.{sym, ap}
 use mathlib.Core.Bool.{Bool, ◌||◌}
 use lib.Dec.{eqb}
-use borrow.Author.Rules.{rules}
 use Rattle.survey.proofs.is_counted.Goals as goal
 
 pub returns : goal.returns

@@ -2,7 +2,6 @@
 use mathlib.Core.Path.{ap, ◌∙◌}
 use lib.Dec.{leb}
 use Rattle.survey.proofs.Records.{cap_leb}
-use borrow.Author.Rules.{rules}
 use Rattle.survey.proofs.is_few.Goals as goal
 
 pub returns : goal.returns

@@ -3,7 +3,6 @@ use mathlib.Core.Path.{sym, ap, ◌∙◌}
 use mathlib.Core.Bool.{Bool, ◌||◌}
 use mir.Facts.{to_z-of_z}
 use Rattle.machine.specs.FitTest.{is_zero}
-use borrow.Author.Rules.{rules}
 use Rattle.survey.proofs.is_kept.Goals as goal
 
 pub returns : goal.returns

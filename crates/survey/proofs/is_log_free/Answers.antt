@@ -1,11 +1,10 @@
 -- `survey::is_log_free` meets its contract. Assumes nothing.
-use Prim.Native.Nat.{◌-◌, ◌≤◌}
 use mathlib.Core.Bool.{◌&&◌}
-use mathlib.Core.Path.{◌≡◌, refl, sym, ap, ◌∙◌}
+use mathlib.Core.Path.{refl, ap, ◌∙◌}
 use native.Mathlib.Omega.{arith}
-use borrow.Author.Rules.{rules, sfits_of}
+use borrow.Author.Rules.{sfits_of}
 use mir.Facts.{to_z-of_z}
-use Rattle.survey.proofs.Loops.{free_at, free_again, free_done}
+use Rattle.survey.proofs.Loops.{free_again, free_done}
 use Rattle.word.specs.Registers.{member}
 use Rattle.survey.proofs.is_log_free.Goals as goal
 

@@ -1,11 +1,8 @@
 -- `survey::is_log_free` meets its contract. Assumes nothing.
 use Prim.Native.Nat.{◌-◌, ◌≤◌}
 use mathlib.Core.Bool.{◌&&◌}
-use mathlib.Core.Path.{◌≡◌, refl, sym, ap, ◌∙◌}
-use native.Mathlib.Omega.{arith}
-use borrow.Author.Rules.{rules, sfits_of}
-use mir.Facts.{to_z-of_z}
-use Rattle.survey.proofs.Loops.{free_at, free_again, free_done}
+use mathlib.Core.Path.{◌≡◌}
+use Rattle.survey.proofs.Loops.{free_at}
 use Rattle.word.specs.Registers.{member}
 use Rattle.survey.proofs.is_log_free.Given as goal
 

@@ -1,9 +1,7 @@
 -- `survey::is_tidy` meets its contract: test by test. Assumes nothing.
 use mathlib.Core.Path.{sym, ◌∙◌}
-use borrow.Author.Tests.{not-true, not-false}
 use Rattle.survey.proofs.Yes.{is_false, alike, clash}
 use Rattle.survey.proofs.Records.{tidy_of, is_tidy}
-use borrow.Author.Rules.{rules}
 use Rattle.survey.proofs.is_tidy.Goals as goal
 
 pub returns-then-not-is_shut : goal.returns-then-not-is_shut

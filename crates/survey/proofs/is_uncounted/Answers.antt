@@ -1,10 +1,8 @@
 -- `survey::is_uncounted` meets its contract. Assumes nothing.
-use Prim.Native.Nat.{◌-◌, ◌≤◌}
 use mathlib.Core.Bool.{◌&&◌}
-use mathlib.Core.Path.{◌≡◌, refl, sym, ap, ◌∙◌}
+use mathlib.Core.Path.{refl, ap, ◌∙◌}
 use native.Mathlib.Omega.{arith}
-use borrow.Author.Rules.{rules}
-use Rattle.survey.proofs.Loops.{uncounted_at, uncounted_again, uncounted_done}
+use Rattle.survey.proofs.Loops.{uncounted_again, uncounted_done}
 use Rattle.word.specs.Registers.{member}
 use Rattle.survey.proofs.is_uncounted.Goals as goal
 

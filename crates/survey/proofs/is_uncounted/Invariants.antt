@@ -1,10 +1,8 @@
 -- `survey::is_uncounted` meets its contract. Assumes nothing.
 use Prim.Native.Nat.{◌-◌, ◌≤◌}
 use mathlib.Core.Bool.{◌&&◌}
-use mathlib.Core.Path.{◌≡◌, refl, sym, ap, ◌∙◌}
-use native.Mathlib.Omega.{arith}
-use borrow.Author.Rules.{rules}
-use Rattle.survey.proofs.Loops.{uncounted_at, uncounted_again, uncounted_done}
+use mathlib.Core.Path.{◌≡◌}
+use Rattle.survey.proofs.Loops.{uncounted_at}
 use Rattle.word.specs.Registers.{member}
 use Rattle.survey.proofs.is_uncounted.Given as goal
 

@@ -1,10 +1,7 @@
 -- `survey::is_within` meets its contract. Assumes nothing.
-use Prim.Native.Nat.{◌-◌, ◌≤◌}
-use mathlib.Core.Bool.{◌&&◌}
-use mathlib.Core.Path.{◌≡◌, refl, sym, ap, ◌∙◌}
+use mathlib.Core.Path.{refl}
 use native.Mathlib.Omega.{arith}
-use borrow.Author.Rules.{rules}
-use Rattle.survey.proofs.Loops.{within_at, within_again, within_done}
+use Rattle.survey.proofs.Loops.{within_again, within_done}
 use Rattle.survey.proofs.is_within.Goals as goal
 
 pub loop-v-init : goal.loop-v-init

@@ -1,10 +1,8 @@
 -- `survey::is_within` meets its contract. Assumes nothing.
 use Prim.Native.Nat.{◌-◌, ◌≤◌}
 use mathlib.Core.Bool.{◌&&◌}
-use mathlib.Core.Path.{◌≡◌, refl, sym, ap, ◌∙◌}
-use native.Mathlib.Omega.{arith}
-use borrow.Author.Rules.{rules}
-use Rattle.survey.proofs.Loops.{within_at, within_again, within_done}
+use mathlib.Core.Path.{◌≡◌}
+use Rattle.survey.proofs.Loops.{within_at}
 use Rattle.survey.proofs.is_within.Given as goal
 
 abbrev pub invariant-loop-v : goal.invariant-loop-v

@@ -1,13 +1,13 @@
 -- `survey::is_zero_from` meets its contract. Assumes nothing.
-use Prim.Native.Nat.{ℕ, ◌-◌, ◌≤◌}
+use Prim.Native.Nat.{ℕ}
 use mathlib.Core.Bool.{◌&&◌}
-use mathlib.Core.Path.{◌≡◌, refl, sym, ap, ◌∙◌}
+use mathlib.Core.Path.{refl, ap, ◌∙◌}
 use native.Mathlib.Omega.{arith}
-use borrow.Author.Rules.{rules, sfits_of}
+use borrow.Author.Rules.{sfits_of}
 use mir.Facts.{to_z-of_z}
 use lib.Dec.{ltb}
 use Rattle.survey.specs.InnerRecords.{zero_from}
-use Rattle.survey.proofs.Loops.{free_at, free_again, free_done}
+use Rattle.survey.proofs.Loops.{free_again, free_done}
 use Rattle.survey.proofs.is_zero_from.Goals as goal
 
 pub loop-n-init : goal.loop-n-init

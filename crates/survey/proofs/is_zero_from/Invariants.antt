@@ -1,13 +1,9 @@
 -- `survey::is_zero_from` meets its contract. Assumes nothing.
 use Prim.Native.Nat.{ℕ, ◌-◌, ◌≤◌}
 use mathlib.Core.Bool.{◌&&◌}
-use mathlib.Core.Path.{◌≡◌, refl, sym, ap, ◌∙◌}
-use native.Mathlib.Omega.{arith}
-use borrow.Author.Rules.{rules, sfits_of}
-use mir.Facts.{to_z-of_z}
+use mathlib.Core.Path.{◌≡◌}
 use lib.Dec.{ltb}
-use Rattle.survey.specs.InnerRecords.{zero_from}
-use Rattle.survey.proofs.Loops.{free_at, free_again, free_done}
+use Rattle.survey.proofs.Loops.{free_at}
 use Rattle.survey.proofs.is_zero_from.Given as goal
 
 abbrev pub invariant-loop-n : goal.invariant-loop-n

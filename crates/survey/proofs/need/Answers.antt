@@ -1,7 +1,6 @@
 -- `survey::need` meets its contract. Assumes nothing.
 use mathlib.Core.Path.{◌∙◌}
 use Rattle.survey.proofs.Records.{need_short, need_by}
-use borrow.Author.Rules.{rules}
 use Rattle.survey.proofs.need.Goals as goal
 
 pub returns-then-counts-ne64 : goal.returns-then-counts-ne64

@@ -1,8 +1,6 @@
 -- `survey::needed` meets its contract. Assumes nothing.
 use mathlib.Core.Path.{◌∙◌}
-use borrow.Author.Tests.{not-true, not-false}
 use Rattle.survey.proofs.Records.{needed_ahead, needed_stale, needed_calm}
-use borrow.Author.Rules.{rules}
 use Rattle.survey.proofs.needed.Goals as goal
 
 pub returns-then-not-low : goal.returns-then-not-low

@@ -1,9 +1,8 @@
 -- `survey::walk_to` meets its contract: the loop follows the definition's walk, and what is left to the target falls. Assumes nothing.
-use Prim.Native.Nat.{◌-◌}
 use mathlib.Core.Path.{◌∙◌}
 use native.Mathlib.Omega.{arith}
 use borrow.Author.Tests.{not-true, not-false}
-use Rattle.survey.proofs.Walks.{Loop, begins, low_height, few_adds, few_commits, arrives, misses, ends_early, step_stops, step_goes, step_further}
+use Rattle.survey.proofs.Walks.{begins, low_height, few_adds, few_commits, arrives, misses, ends_early, step_stops, step_goes, step_further}
 use Rattle.survey.proofs.walk_to.Goals as goal
 
 pub loop-w-init : goal.loop-w-init

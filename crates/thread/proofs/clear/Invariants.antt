@@ -1,9 +1,7 @@
-use Prim.Native.Nat.{◌≤◌, ◌<◌, ◌-◌}
-use mathlib.Core.Path.{◌≡◌, sym, ◌∙◌}
-use native.Mathlib.Omega.{arith}
-use borrow.Author.Rules.{rules}
+use Prim.Native.Nat.{◌≤◌, ◌-◌}
+use mathlib.Core.Path.{◌≡◌}
 use lib.ListN.{length}
-use Rattle.thread.proofs.Loops.{cleared_to, cleared_start, cleared_next, cleared_end}
+use Rattle.thread.proofs.Loops.{cleared_to}
 use Rattle.thread.proofs.clear.Given as goal
 
 abbrev pub invariant-loop-v : goal.invariant-loop-v

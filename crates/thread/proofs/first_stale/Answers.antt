@@ -1,8 +1,6 @@
-use Prim.Native.Nat.{◌≤◌, ◌<◌, ◌-◌, ◌+◌}
-use mathlib.Core.Path.{◌≡◌, refl, sym, ◌∙◌}
+use Prim.Native.Nat.{◌<◌, ◌+◌}
+use mathlib.Core.Path.{◌≡◌, sym, ◌∙◌}
 use native.Mathlib.Omega.{arith}
-use borrow.Author.Rules.{rules}
-use Rattle.thread.specs.InnerStep.{first_stale_in}
 use Rattle.thread.proofs.Loops.{found_here, found_later, found_past, found_end}
 use Rattle.thread.proofs.first_stale.Goals as goal
 

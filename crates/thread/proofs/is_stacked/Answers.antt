@@ -1,7 +1,6 @@
-use mathlib.Core.Path.{◌≡◌, sym, ◌∙◌}
+use mathlib.Core.Path.{sym, ◌∙◌}
 use borrow.Author.Tests.{eq-eqb, ne_eqb}
 use Rattle.thread.specs.InnerStep.{stacked_op}
-use borrow.Author.Rules.{rules}
 use Rattle.thread.proofs.is_stacked.Goals as goal
 
 pub returns-then-stack_event-eq0 : goal.returns-then-stack_event-eq0

@@ -1,5 +1,4 @@
 use mathlib.Core.Path.{sym, ◌∙◌}
-use borrow.Author.Rules.{rules}
 use Rattle.thread.proofs.Loops.{stale_marked, stale_none}
 use Rattle.thread.proofs.is_stale.Goals as goal
 

@@ -1,6 +1,5 @@
 use borrow.Author.Tests.{eq-eqb, ne_eqb}
 use Rattle.thread.specs.InnerStep.{note_after}
-use borrow.Author.Rules.{rules}
 use Rattle.thread.proofs.note_after.Goals as goal
 
 pub returns-then-begin-eq0 : goal.returns-then-begin-eq0

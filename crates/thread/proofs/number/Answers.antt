@@ -1,7 +1,6 @@
 use mir.Facts.{to_z-of_z}
 use borrow.Author.Rules.{sfits_of}
 use Rattle.thread.specs.InnerStep.{number_op}
-use borrow.Author.Rules.{rules}
 use Rattle.thread.proofs.number.Goals as goal
 
 pub returns-in-Push : goal.returns-in-Push

@@ -1,12 +1,8 @@
-use Prim.Native.Nat.{◌≤◌, ◌<◌, ◌-◌, ◌+◌}
-use mathlib.Core.Bool.{true}
-use mathlib.Core.Path.{◌≡◌, refl, sym, ap, ◌∙◌}
+use Prim.Native.Nat.{◌<◌, ◌-◌, ◌+◌}
+use mathlib.Core.Path.{◌≡◌, sym, ◌∙◌}
 use native.Mathlib.Omega.{arith}
-use borrow.Author.Rules.{rules}
-use lib.ListN.{length, length-set}
-use Rattle.thread.specs.InnerStep.{recounted_in}
+use lib.ListN.{length-set}
 use Rattle.thread.proofs.Loops.{recounted_marked, recounted_past, recounted_end}
-use Rattle.word.specs.Registers.{member}
 use Rattle.thread.proofs.recount.Goals as goal
 
 pub loop-v-init : goal.loop-v-init

@@ -1,6 +1,4 @@
-use borrow.Author.Rules.{rules}
 use borrow.Author.Tests.{lt-ltb, le-ltb}
-use native.Mathlib.Omega.{arith}
 use Rattle.thread.specs.InnerStep.{risen_by}
 use Rattle.thread.proofs.risen.Goals as goal
 

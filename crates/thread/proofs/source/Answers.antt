@@ -1,5 +1,4 @@
 use Rattle.thread.specs.InnerStep.{source_number}
-use borrow.Author.Rules.{rules}
 use Rattle.thread.proofs.source.Goals as goal
 
 pub returns-then-has : goal.returns-then-has

@@ -1,5 +1,4 @@
 use Rattle.thread.specs.InnerStep.{stack_event}
-use borrow.Author.Rules.{rules}
 use Rattle.thread.proofs.stack_event.Goals as goal
 
 pub returns-in-Push : goal.returns-in-Push

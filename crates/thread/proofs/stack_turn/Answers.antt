@@ -1,6 +1,5 @@
 use borrow.Author.Tests.{eq-eqb, ne_eqb}
 use Rattle.thread.specs.InnerStep.{stack_turn}
-use borrow.Author.Rules.{rules}
 use Rattle.thread.proofs.stack_turn.Goals as goal
 
 pub returns-then-event-eq2 : goal.returns-then-event-eq2

@@ -1,13 +1,10 @@
-use Prim.Native.Nat.{◌≤◌, ◌<◌, ◌-◌, ◌+◌}
-use mathlib.Core.Bool.{true}
-use mathlib.Core.Path.{◌≡◌, refl, sym, ap, ◌∙◌}
+use Prim.Native.Nat.{◌<◌, ◌-◌, ◌+◌}
+use mathlib.Core.Path.{◌≡◌, sym, ◌∙◌}
 use native.Mathlib.Omega.{arith}
-use borrow.Author.Rules.{rules, sfits_of}
-use lib.ListN.{length, length-set}
+use borrow.Author.Rules.{sfits_of}
+use lib.ListN.{length-set}
 use mir.Facts.{to_z-of_z}
-use Rattle.thread.specs.InnerStep.{stored_in}
 use Rattle.thread.proofs.Loops.{stored_marked, stored_past, stored_end}
-use Rattle.word.specs.Registers.{member}
 use Rattle.thread.proofs.store.Goals as goal
 
 pub loop-v-init : goal.loop-v-init

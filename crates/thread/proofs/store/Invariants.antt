@@ -1,12 +1,8 @@
-use Prim.Native.Nat.{◌≤◌, ◌<◌, ◌-◌, ◌+◌}
+use Prim.Native.Nat.{◌≤◌, ◌<◌, ◌-◌}
 use mathlib.Core.Bool.{true}
-use mathlib.Core.Path.{◌≡◌, refl, sym, ap, ◌∙◌}
-use native.Mathlib.Omega.{arith}
-use borrow.Author.Rules.{rules, sfits_of}
-use lib.ListN.{length, length-set}
-use mir.Facts.{to_z-of_z}
+use mathlib.Core.Path.{◌≡◌}
+use lib.ListN.{length}
 use Rattle.thread.specs.InnerStep.{stored_in}
-use Rattle.thread.proofs.Loops.{stored_marked, stored_past, stored_end}
 use Rattle.word.specs.Registers.{member}
 use Rattle.thread.proofs.store.Given as goal
 

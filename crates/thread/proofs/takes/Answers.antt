@@ -1,6 +1,5 @@
 use borrow.Author.Tests.{lt-ltb, le-ltb, eq-eqb, ne_eqb}
 use Rattle.thread.specs.InnerStep.{takes_op}
-use borrow.Author.Rules.{rules}
 use Rattle.thread.proofs.takes.Goals as goal
 
 pub returns-then-v-gt63 : goal.returns-then-v-gt63

@@ -1,7 +1,6 @@
 use mir.Facts.{to_z-of_z}
 use borrow.Author.Tests.{eq-eqb, ne_eqb}
 use Rattle.thread.specs.InnerStep.{value_of}
-use borrow.Author.Rules.{rules}
 use Rattle.thread.proofs.value.Goals as goal
 
 pub returns-then-event-eq1 : goal.returns-then-event-eq1

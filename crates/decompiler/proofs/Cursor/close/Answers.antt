@@ -1,7 +1,6 @@
 -- `decompiler::Cursor::close` meets its contract. Assumes nothing.
 use mathlib.Core.Path.{refl}
 use Rattle.decompiler.specs.InnerState.{child_shut}
-use borrow.Author.Rules.{rules}
 use Rattle.decompiler.proofs.Cursor.close.Goals as goal
 
 pub returns : goal.returns

@@ -1,7 +1,6 @@
 -- `decompiler::Cursor::grow` meets its contract. Assumes nothing.
 use mathlib.Core.Path.{refl}
 use Rattle.decompiler.specs.InnerState.{part_grown}
-use borrow.Author.Rules.{rules}
 use Rattle.decompiler.proofs.Cursor.grow.Goals as goal
 
 pub returns : goal.returns

@@ -2,7 +2,6 @@
 use native.Mathlib.Omega.{arith}
 use borrow.Author.Tests.{lt-ltb, le-ltb}
 use Rattle.decompiler.specs.InnerState.{at_end}
-use borrow.Author.Rules.{rules}
 use Rattle.decompiler.proofs.Cursor.is_at_end.Goals as goal
 
 pub returns-then-forked-eq0 : goal.returns-then-forked-eq0

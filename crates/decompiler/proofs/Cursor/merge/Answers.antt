@@ -1,7 +1,6 @@
 -- `decompiler::Cursor::merge` meets its contract. Assumes nothing.
 use mathlib.Core.Path.{refl}
 use Rattle.decompiler.specs.InnerState.{parts_merged}
-use borrow.Author.Rules.{rules}
 use Rattle.decompiler.proofs.Cursor.merge.Goals as goal
 
 pub returns : goal.returns

@@ -1,7 +1,6 @@
 -- `decompiler::Cursor::open` meets its contract. Assumes nothing.
 use mathlib.Core.Path.{refl}
 use Rattle.decompiler.specs.InnerState.{child_opened}
-use borrow.Author.Rules.{rules}
 use Rattle.decompiler.proofs.Cursor.open.Goals as goal
 
 pub returns : goal.returns

@@ -1,7 +1,6 @@
 -- `decompiler::Cursor::push` meets its contract. Assumes nothing.
 use mathlib.Core.Path.{refl}
 use Rattle.decompiler.specs.InnerState.{part_pushed}
-use borrow.Author.Rules.{rules}
 use Rattle.decompiler.proofs.Cursor.push.Goals as goal
 
 pub returns : goal.returns

@@ -1,5 +1,4 @@
 use Rattle.progress.specs.InnerProgress.{advanced_to}
-use borrow.Author.Rules.{rules}
 use Rattle.progress.proofs.Progress.after.Goals as goal
 
 pub returns : goal.returns

@@ -3,7 +3,6 @@ use Prim.Native.Nat.{max}
 use mathlib.Core.Path.{refl, ap₂, ◌∙◌}
 use Rattle.scan.specs.InnerView.{state}
 use Rattle.scan.proofs.Branches.{add_low, add_part, add_other, add_set}
-use borrow.Author.Rules.{rules}
 use Rattle.scan.proofs.Scan.add.Goals as goal
 
 pub returns-then-height-lt2 : goal.returns-then-height-lt2

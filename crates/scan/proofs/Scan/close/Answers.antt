@@ -2,7 +2,6 @@
 use mathlib.Core.Path.{◌∙◌}
 use Rattle.scan.specs.InnerView.{state, joined}
 use Rattle.scan.proofs.Branches.{close_low, close_above, close_below, close_done}
-use borrow.Author.Rules.{rules}
 use Rattle.scan.proofs.Scan.close.Goals as goal
 
 pub returns-then-height-lt2 : goal.returns-then-height-lt2

@@ -3,7 +3,6 @@ use mathlib.Core.Path.{◌∙◌}
 use borrow.Author.Tests.{not-true, not-false}
 use Rattle.scan.specs.InnerView.{state}
 use Rattle.scan.proofs.Branches.{commit_low, commit_outside, commit_above, commit_below, commit_set}
-use borrow.Author.Rules.{rules}
 use Rattle.scan.proofs.Scan.commit.Goals as goal
 
 pub returns-then-height-lt2 : goal.returns-then-height-lt2

@@ -3,7 +3,6 @@ use native.Mathlib.Omega.{arith}
 use borrow.Author.Tests.{not-true, not-false}
 use Rattle.scan.specs.InnerView.{state, opened}
 use Rattle.scan.proofs.Branches.{enter_bad, enter_done}
-use borrow.Author.Rules.{rules}
 use Rattle.scan.proofs.Scan.enter.Goals as goal
 
 pub returns-then-not-self : goal.returns-then-not-self

@@ -2,7 +2,6 @@
 use mathlib.Core.Path.{◌∙◌}
 use Rattle.scan.specs.InnerView.{state}
 use Rattle.scan.proofs.Branches.{finish_open, finish_more, finish_other, finish_done}
-use borrow.Author.Rules.{rules}
 use Rattle.scan.proofs.Scan.finish.Goals as goal
 
 pub returns-then-self-ne0 : goal.returns-then-self-ne0

@@ -5,7 +5,6 @@ use mathlib.Core.List.{[]}
 use Rattle.scan.specs.InnerView.{ScanState, state, bad, top_to, enter_to}
 use Rattle.scan.proofs.Branches.{when_true, when_false}
 use Rattle.scan.proofs.Steps.{enter_ready}
-use borrow.Author.Rules.{rules}
 use Rattle.scan.proofs.Scan.fork.Goals as goal
 
 pub returns-then-self : goal.returns-then-self

@@ -1,7 +1,6 @@
 -- `scan::Scan::moved` meets its contract. Assumes nothing.
 use mathlib.Core.Path.{refl}
 use Rattle.scan.specs.InnerView.{moved_to}
-use borrow.Author.Rules.{rules}
 use Rattle.scan.proofs.Scan.moved.Goals as goal
 
 pub returns : goal.returns

@@ -3,7 +3,6 @@ use mathlib.Core.Path.{◌∙◌}
 use native.Mathlib.Omega.{arith}
 use Rattle.scan.specs.InnerView.{state, item_put}
 use Rattle.scan.proofs.Branches.{set_deep, set_many, set_forks, set_done}
-use borrow.Author.Rules.{rules}
 use Rattle.scan.proofs.Scan.set.Goals as goal
 
 pub returns-then-reach-gt64 : goal.returns-then-reach-gt64

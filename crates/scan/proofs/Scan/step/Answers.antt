@@ -4,7 +4,6 @@ use mathlib.Core.List.{[]}
 use native.Mathlib.Omega.{arith}
 use Rattle.scan.specs.InnerView.{ScanState, state, ShortFork, moved_to}
 use Rattle.scan.proofs.Steps.{early, add_place, write_place, commit_place, a_push, an_add, a_read, a_write, a_begin, a_commit, a_fork, a_foreign}
-use borrow.Author.Rules.{rules}
 use Rattle.scan.proofs.Scan.step.Goals as goal
 
 pub leaf-requires : goal.leaf-requires

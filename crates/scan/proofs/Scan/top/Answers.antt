@@ -1,6 +1,5 @@
 -- `scan::Scan::top` meets its contract. Assumes nothing.
 use Rattle.scan.specs.InnerView.{top_to}
-use borrow.Author.Rules.{rules}
 use Rattle.scan.proofs.Scan.top.Goals as goal
 
 pub returns : goal.returns

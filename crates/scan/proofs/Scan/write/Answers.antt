@@ -3,7 +3,6 @@ use mathlib.Core.Path.{◌∙◌}
 use borrow.Author.Tests.{not-true, not-false}
 use Rattle.scan.specs.InnerView.{state}
 use Rattle.scan.proofs.Branches.{write_low, write_outside, write_other, write-set}
-use borrow.Author.Rules.{rules}
 use Rattle.scan.proofs.Scan.write.Goals as goal
 
 pub returns-then-height-lt1 : goal.returns-then-height-lt1

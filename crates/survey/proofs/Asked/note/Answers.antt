@@ -1,10 +1,8 @@
 -- `survey::Asked::note` meets its contract. Assumes nothing.
 use Prim.Native.Nat.{ℕ, ◌+◌}
 use mathlib.Core.Path.{ap, ◌∙◌}
-use borrow.Author.Tests.{not-true, not-false}
 use Rattle.survey.specs.InnerWalk.{noted}
 use Rattle.survey.proofs.Yes.{when_true, when_false}
-use borrow.Author.Rules.{rules}
 use Rattle.survey.proofs.Asked.note.Goals as goal
 
 pub returns-then-not-hit : goal.returns-then-not-hit

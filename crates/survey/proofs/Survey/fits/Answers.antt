@@ -7,7 +7,6 @@ use Rattle.survey.specs.InnerWalk.{all_asked, all_met}
 use Rattle.word.specs.InnerCount.{saturated}
 use Rattle.survey.proofs.Yes.{is_false, alike, clash}
 use Rattle.survey.proofs.Judging.{survey_parts, survey_whole}
-use borrow.Author.Rules.{rules}
 use Rattle.survey.proofs.Survey.fits.Goals as goal
 
 pub returns-then-not-self : goal.returns-then-not-self

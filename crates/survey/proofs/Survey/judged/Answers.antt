@@ -1,12 +1,8 @@
 -- `survey::Survey::judged` meets its contract. Assumes nothing.
-use Prim.Native.Nat.{ℕ, ◌-◌, ◌≤◌}
-use mathlib.Core.Path.{◌≡◌, refl, sym, ◌∙◌}
+use mathlib.Core.Path.{refl, sym, ◌∙◌}
 use native.Mathlib.Omega.{arith}
-use borrow.Author.Rules.{rules}
-use lib.ListN.{get_or}
-use Rattle.survey.specs.InnerRecords.{no_row}
 use Rattle.survey.specs.InnerWalk.{first_verdict, row_at, judge_all}
-use Rattle.survey.proofs.Loops.{judge_at, judge_again, judge_done}
+use Rattle.survey.proofs.Loops.{judge_again, judge_done}
 use Rattle.survey.proofs.Survey.judged.Goals as goal
 
 pub loop-i-init : goal.loop-i-init

@@ -1,12 +1,9 @@
 -- `survey::Survey::judged` meets its contract. Assumes nothing.
-use Prim.Native.Nat.{ℕ, ◌-◌, ◌≤◌}
-use mathlib.Core.Path.{◌≡◌, refl, sym, ◌∙◌}
-use native.Mathlib.Omega.{arith}
-use borrow.Author.Rules.{rules}
+use Prim.Native.Nat.{◌-◌, ◌≤◌}
+use mathlib.Core.Path.{◌≡◌}
 use lib.ListN.{get_or}
 use Rattle.survey.specs.InnerRecords.{no_row}
-use Rattle.survey.specs.InnerWalk.{first_verdict, row_at, judge_all}
-use Rattle.survey.proofs.Loops.{judge_at, judge_again, judge_done}
+use Rattle.survey.proofs.Loops.{judge_at}
 use Rattle.survey.proofs.Survey.judged.Given as goal
 
 abbrev pub invariant-loop-i : goal.invariant-loop-i

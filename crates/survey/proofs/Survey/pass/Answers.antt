@@ -1,7 +1,6 @@
 -- `survey::Survey::pass` meets its contract. Assumes nothing.
 use mathlib.Core.Path.{refl}
 use Rattle.survey.specs.InnerRecords.{pass_to}
-use borrow.Author.Rules.{rules}
 use Rattle.survey.proofs.Survey.pass.Goals as goal
 
 pub returns : goal.returns

@@ -1,7 +1,6 @@
 -- `survey::Survey::put` meets its contract. Assumes nothing.
 use mathlib.Core.Path.{refl}
 use Rattle.survey.specs.InnerRecords.{put_to}
-use borrow.Author.Rules.{rules}
 use Rattle.survey.proofs.Survey.put.Goals as goal
 
 pub returns : goal.returns

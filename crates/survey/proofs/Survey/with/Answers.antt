@@ -3,7 +3,6 @@ use mathlib.Core.Path.{sym, ap, ◌∙◌}
 use borrow.Author.Tests.{not-true, not-false}
 use Rattle.survey.specs.InnerRecords.{put_to}
 use Rattle.survey.proofs.Records.{with_bad, with_many, with_marred, with_blank, with_gap, with_untidy, with_put}
-use borrow.Author.Rules.{rules}
 use Rattle.survey.proofs.Survey.with.Goals as goal
 
 pub returns-then-not-self : goal.returns-then-not-self

@@ -3,7 +3,6 @@ use mathlib.Core.Path.{sym, ◌∙◌}
 use borrow.Author.Tests.{not-true, not-false}
 use Rattle.survey.specs.InnerWalk.{unfit}
 use Rattle.survey.proofs.Judging.{judge_bad, judge_none, judge_differs, judge_agrees}
-use borrow.Author.Rules.{rules}
 use Rattle.survey.proofs.Verdict.judge.Goals as goal
 
 pub returns-then-not-self : goal.returns-then-not-self

@@ -1,6 +1,5 @@
 -- `survey::Walk::fall` meets its contract. Assumes nothing.
 use Rattle.survey.specs.InnerWalk.{fall_to}
-use borrow.Author.Rules.{rules}
 use Rattle.survey.proofs.Walk.fall.Goals as goal
 
 pub returns : goal.returns

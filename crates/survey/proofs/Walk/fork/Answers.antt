@@ -6,7 +6,6 @@ use borrow.Author.Tests.{eq-eqb, ne_eqb}
 use Rattle.survey.specs.InnerWalk.{lost_walk, forked, fork_to}
 use Rattle.survey.proofs.Yes.{when_true, when_false}
 use Rattle.survey.proofs.Steps.{far, near}
-use borrow.Author.Rules.{rules}
 use Rattle.survey.proofs.Walk.fork.Goals as goal
 
 pub returns-then-left-lt3 : goal.returns-then-left-lt3

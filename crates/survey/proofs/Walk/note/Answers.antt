@@ -1,7 +1,6 @@
 -- `survey::Walk::note` meets its contract. Assumes nothing.
 use mathlib.Core.Path.{refl}
 use Rattle.survey.specs.InnerWalk.{note_to}
-use borrow.Author.Rules.{rules}
 use Rattle.survey.proofs.Walk.note.Goals as goal
 
 pub returns : goal.returns

@@ -4,7 +4,6 @@ use native.Mathlib.Omega.{arith}
 use Prim.Native.Nat.{◌+◌}
 use Rattle.survey.specs.InnerWalk.{rose, rise_to}
 use Rattle.survey.proofs.Steps.{far, near}
-use borrow.Author.Rules.{rules}
 use Rattle.survey.proofs.Walk.rise.Goals as goal
 
 pub returns-then-target-self : goal.returns-then-target-self

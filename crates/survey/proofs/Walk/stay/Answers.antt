@@ -4,7 +4,6 @@ use native.Mathlib.Omega.{arith}
 use Prim.Native.Nat.{◌+◌}
 use Rattle.survey.specs.InnerWalk.{stay_to}
 use Rattle.survey.proofs.Steps.{far, near}
-use borrow.Author.Rules.{rules}
 use Rattle.survey.proofs.Walk.stay.Goals as goal
 
 pub returns-then-target-self-lt2 : goal.returns-then-target-self-lt2

@@ -1,7 +1,6 @@
 -- `survey::Walk::step` meets its contract: by the instruction. Assumes nothing.
 use mathlib.Core.Path.{◌∙◌}
 use Rattle.survey.proofs.Steps.{a_push, an_add, a_read, a_write, a_begin, a_commit, a_fork, a_foreign}
-use borrow.Author.Rules.{rules}
 use Rattle.survey.proofs.Walk.step.Goals as goal
 
 pub returns-in-Push : goal.returns-in-Push

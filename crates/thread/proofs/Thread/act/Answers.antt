@@ -1,11 +1,10 @@
-use mathlib.Core.Path.{◌≡◌, ◌∙◌}
+use mathlib.Core.Path.{◌∙◌}
 use native.Mathlib.Omega.{arith}
 use mir.Facts.{to_z-of_z}
 use borrow.Author.Rules.{sfits_of}
 use Rattle.thread.specs.InnerStep.{performed}
 use Rattle.thread.specs.Threads.{push}
 use Rattle.thread.proofs.Attempts.{push_due, add_due, read_due, write_due, begin_due, commit_due, fork_due, sized_both}
-use borrow.Author.Rules.{rules}
 use Rattle.thread.proofs.Thread.act.Goals as goal
 
 pub overflow_add-place : goal.overflow_add-place

@@ -1,7 +1,7 @@
 use mir.Facts.{to_z-of_z}
 use mir.Syntax.{w32}
 use Rattle.thread.specs.InnerStep.{summing}
-use borrow.Author.Rules.{rules, sfits_of}
+use borrow.Author.Rules.{sfits_of}
 use Rattle.thread.proofs.Thread.add.Goals as goal
 
 pub returns : goal.returns

@@ -1,5 +1,4 @@
 use Rattle.thread.specs.Threads.{begin}
-use borrow.Author.Rules.{rules}
 use Rattle.thread.proofs.Thread.begin.Goals as goal
 
 pub returns : goal.returns

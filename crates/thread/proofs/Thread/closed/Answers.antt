@@ -1,5 +1,4 @@
 use Rattle.thread.specs.Threads.{closed}
-use borrow.Author.Rules.{rules}
 use Rattle.thread.proofs.Thread.closed.Goals as goal
 
 pub returns : goal.returns

@@ -1,5 +1,4 @@
 use Rattle.thread.proofs.Commits.{commit_back, commit_done}
-use borrow.Author.Rules.{rules}
 use Rattle.thread.proofs.Thread.commit.Goals as goal
 
 pub returns-then-v-lt64 : goal.returns-then-v-lt64

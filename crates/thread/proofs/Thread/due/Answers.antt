@@ -1,9 +1,6 @@
-use Prim.Native.Nat.{◌-◌}
 use mathlib.Core.Path.{sym, ap, ◌∙◌}
-use borrow.Author.Tests.{not-true, not-false}
 use Rattle.thread.specs.InnerStep.{takes_op}
 use Rattle.thread.proofs.Attempts.{due_no_thread, due_at_end, due_unable, due_here}
-use borrow.Author.Rules.{rules}
 use Rattle.thread.proofs.Thread.due.Goals as goal
 
 pub returns-then-self-eq0 : goal.returns-then-self-eq0

@@ -2,7 +2,6 @@
 use mathlib.Core.Path.{refl}
 use borrow.Author.Tests.{eq-eqb, ne_eqb}
 use Rattle.thread.specs.InnerStep.{plain_in}
-use borrow.Author.Rules.{rules}
 use Rattle.thread.proofs.Thread.is_plain.Goals as goal
 
 pub returns-then-self-eq0 : goal.returns-then-self-eq0

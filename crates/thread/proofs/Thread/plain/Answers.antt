@@ -1,9 +1,7 @@
-use mathlib.Core.Path.{◌≡◌}
 use native.Mathlib.Omega.{arith}
 use mir.Facts.{to_z-of_z}
 use borrow.Author.Rules.{sfits_of}
 use Rattle.thread.proofs.Attempts.{plain_able, plain_acts}
-use borrow.Author.Rules.{rules}
 use Rattle.thread.proofs.Thread.plain.Goals as goal
 
 pub stacked-requires : goal.stacked-requires

@@ -1,9 +1,6 @@
-use Prim.Native.Nat.{◌-◌}
 use mathlib.Core.Path.{sym, ap, ◌∙◌}
-use borrow.Author.Tests.{not-true, not-false}
 use Rattle.thread.specs.InnerStep.{stacked_op}
 use Rattle.thread.proofs.Attempts.{op_no_thread, op_at_end, op_other, op_here}
-use borrow.Author.Rules.{rules}
 use Rattle.thread.proofs.Thread.plain_op.Goals as goal
 
 pub returns-then-self-eq0 : goal.returns-then-self-eq0

@@ -1,7 +1,6 @@
 use native.Mathlib.Numerals.{add-one}
 use mir.Facts.{to_z-of_z}
 use Rattle.thread.specs.Threads.{push}
-use borrow.Author.Rules.{rules}
 use Rattle.thread.proofs.Thread.push.Goals as goal
 
 pub returns : goal.returns

@@ -1,7 +1,6 @@
 use mir.Facts.{to_z-of_z}
 use borrow.Author.Rules.{sfits_of}
 use Rattle.thread.specs.Threads.{source_of, read}
-use borrow.Author.Rules.{rules}
 use Rattle.thread.proofs.Thread.read.Goals as goal
 
 pub returns-then-has : goal.returns-then-has

@@ -3,7 +3,7 @@ use mathlib.Core.Path.{◌≡◌, sym, subst}
 use native.Mathlib.Omega.{arith}
 use mir.Facts.{to_z-of_z}
 use mir.Syntax.{w32}
-use borrow.Author.Rules.{rules, sfits_of}
+use borrow.Author.Rules.{sfits_of}
 use Rattle.thread.specs.declared.Plan.{Plan}
 use Rattle.thread.proofs.Attempts.{plan_low, stacked_cells}
 use Rattle.thread.proofs.Thread.stacked.Goals as goal

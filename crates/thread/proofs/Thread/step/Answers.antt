@@ -1,5 +1,5 @@
 use mathlib.Core.Path.{ap, ◌∙◌}
-use Rattle.thread.specs.InnerStep.{performed, Due, due_op, sized_by, table_from}
+use Rattle.thread.specs.InnerStep.{performed, due_op, table_from}
 use Rattle.thread.proofs.Attempts.{due_step}
 use Rattle.word.specs.Sum.{wrapping}
 use borrow.Author.Rules.{rules}
