@@ -12,7 +12,7 @@ use Rattle.thread.specs.Threads.{blank, spawned, push, add, begin, source_of, re
 use Rattle.machine.specs.Fits.{walk_op, next_place}
 use Rattle.machine.specs.FitTest.{walk, walk_to, free_from, uncounted_from, within_from, at_most_from, placed, all_zero, none_behind, in_front, passed_by, among, all_among, threads_of, one_each, commits_passed, needs, all_tallied, fits_beside, fits}
 use Rattle.machine.specs.Answers.{fresh_of, step_of, run_of, fresh_call, step_call, run_call}
-use Rattle.machine.specs.Steps.{State, number_of, commit, act, perform, settle, pick_among, pick, fresh, run}
+use Rattle.machine.specs.Steps.{State, number_of, commit, act, perform, settle, pick_among, fresh, run}
 use Rattle.machine.specs.Exchange.{Exchanged, here, later, Exchanges, none, then, seen_by}
 use Rattle.machine.proofs.Exchanges.{exchanges_behind, exchanges_exactly}
 use Rattle.stm.specs.Events.{idle, Happened, counted, order, backs, tally, counts_of, event_number, event_register, turn_number, event_of}

@@ -1,7 +1,6 @@
 -- Document 02 No. 7: worked cases of scripts typed as formulas. The right sides were found by hand from the request.
 use Rattle.std.specs.Prelude.{ℕ, zero, suc, ◌≡◌, List, [], ◌∷◌, ◌++◌, pos, negsuc, replicate}
 use Rattle.cases.specs.Inputs.{header, seven, increment, increment_bytes, whole_job}
-use Rattle.cases.specs.Forecasts.{one}
 use Rattle.delivery.specs.declared.Answer.TheVariants as answer
 use Rattle.formula.specs.FormulaTo.{formula_of, formula_to}
 use Rattle.grammar.specs.Grammar.{plus_sign, opening, closing, becomes, fork_word, atomic_word}

@@ -10,7 +10,7 @@ use Rattle.script.specs.Outcome.{refused, done}
 use Rattle.script.specs.Overflows.{overflows_turns}
 use Rattle.script.specs.Tree.{Proc, ValP, AddP, Atomic, Fork, ValT, AddT, Read, Write}
 use Rattle.script.specs.Turns.{initial}
-use Rattle.stm.specs.Events.{pushed, summed, committed, sent_back, Counts, counts_of}
+use Rattle.stm.specs.Events.{pushed, summed, committed, sent_back, counts_of}
 use Rattle.thread.specs.Threads.{blank, with_notes}
 use Rattle.thread.specs.declared.Thread.{Thread}
 use Rattle.word.specs.Sum.{wrapping, overflows}

@@ -1,5 +1,5 @@
 -- Document 02 No. 4: worked cases of the rules, of what the records hold of them, and of the state test. The right sides were found by hand.
-use Rattle.std.specs.Prelude.{ℕ, true, false, ◌≡◌, List, [], ◌∷◌, ◌++◌, ℤ, pos, replicate}
+use Rattle.std.specs.Prelude.{ℕ, true, false, ◌≡◌, List, [], ◌∷◌, ◌++◌, pos, replicate}
 use Rattle.std.proofs.Math.Option.{Option, none, some}
 use Rattle.cases.specs.Inputs.{code_for, seven_code, look_code, whole_code, whole_picks, stale_there, times, ran, front, front_counts, put_at, changed, with_registers, with_counts, with_read_count, both_forked, behind_read, behind_commit, whole_end}
 use Rattle.machine.specs.Answers.{rule_named, step_says, step_call, run_call, backs_of}

@@ -1,1 +1,3 @@
+#![tactic(auto)]
+
 // The joint table of worked cases. No function.

@@ -1,7 +1,7 @@
 -- What the run program prints does not depend on what stands behind the first 65,537 bytes of its input: a job's own length is at most 65,535, and an accepted
 -- job is so short that more than 32,768 picks are among them. Assumes nothing.
 use Prim.Native.Nat.{ℕ, zero, suc, ◌+◌, ◌-◌, ◌*◌, ◌<◌, ◌≤◌, min}
-use mathlib.Core.Bool.{Bool, true, false, not, cond, ◌||◌}
+use mathlib.Core.Bool.{Bool, true, false, not}
 use mathlib.Core.Path.{◌≡◌, refl, sym, ap, subst, ◌∙◌}
 use mathlib.Core.List.{List, [], ◌∷◌, ◌++◌}
 use native.Mathlib.Omega.{arith}
@@ -15,10 +15,10 @@ use Rattle.code.specs.Bytes.{compiled}
 use Rattle.machine.proofs.FitTests.{fits_exactly}
 use Rattle.machine.proofs.Fresh.{fresh_typed, fresh_fits}
 use Rattle.machine.specs.Answers.{sum_of, fitting, run_of}
-use Rattle.machine.specs.Steps.{Ran, run, fresh}
+use Rattle.machine.specs.Steps.{run, fresh}
 use Rattle.script.proofs.Accepts.{accepted_is_job}
 use Rattle.script.proofs.Numbers.{bytes_drop}
-use Rattle.script.specs.Bytes.{Bytes, node_bytes, bytes32, bytes_t, bytes_p, job_bytes}
+use Rattle.script.specs.Bytes.{Bytes, node_bytes, bytes32, bytes_t, bytes_p}
 use Rattle.script.specs.Count.{nodes_t, nodes_p}
 use Rattle.script.specs.Jobs.{Job, number16}
 use Rattle.script.specs.Outcome.{Outcome, refused, done, onward, refuse}

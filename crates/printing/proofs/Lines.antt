@@ -1,22 +1,20 @@
 -- The lines of a listing, and which line is whose. Assumes nothing.
-use Prim.Native.Nat.{ℕ, zero, suc, ◌+◌, ◌-◌, ◌<◌, ◌≤◌}
+use Prim.Native.Nat.{ℕ, zero, suc, ◌+◌, ◌<◌}
 use mathlib.Core.Bool.{Bool, true, false, cond}
 use mathlib.Core.Logic.{◌⊎◌, inl, inr}
 use mathlib.Core.Path.{◌≡◌, refl, sym, ap, subst, ◌∙◌}
 use mathlib.Core.List.{List, [], ◌∷◌, ◌++◌, append_assoc}
 use native.Mathlib.Omega.{arith}
-use borrow.Author.Tests.{eqb-true, eq-eqb, ne_eqb}
-use lib.Dec.{eqb, ltb, lit<}
-use lib.IntN.{ℤ, pos, negsuc}
-use lib.ListN.{length, drop, get_or, length-append}
+use lib.Dec.{eqb, lit<}
+use lib.IntN.{ℤ, pos}
+use lib.ListN.{length, get_or, length-append}
 use Rattle.listing.specs.Listed.{ascii, decimal, integer, counts_line, thread_line, thread_lines, is_zero, register_line, register_lines, listing, refusal_line}
-use Rattle.machine.specs.Fits.{Exists}
-use Rattle.machine.specs.Steps.{State, thread_at}
+use Rattle.machine.specs.Steps.{State}
 use Rattle.stm.specs.Events.{Counts}
 use Rattle.thread.specs.Threads.{exists, blank}
 use Rattle.thread.specs.declared.Thread.{Thread}
-use Rattle.printing.specs.Printing.{before, lines_of, HasLine, done_line, open_line}
-use Rattle.printing.proofs.Spelling.{decimal_told, integer_told, follows, precedes, free, decimal_free, integer_free, apart}
+use Rattle.printing.specs.Printing.{before, lines_of, done_line, open_line}
+use Rattle.printing.proofs.Spelling.{free, decimal_free, integer_free}
 
 -- ---- one line at a time
 abbrev empty : List ℕ → Bool

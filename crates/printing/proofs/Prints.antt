@@ -1,9 +1,9 @@
 -- What a listing tells, and that different results have different listings. Assumes nothing.
-use Prim.Native.Nat.{ℕ, zero, suc, ◌+◌, ◌*◌, ◌<◌, ◌≤◌}
+use Prim.Native.Nat.{ℕ, ◌+◌, ◌*◌, ◌≤◌}
 use mathlib.Core.Bool.{Bool, true, false, cond}
 use mathlib.Core.Logic.{◌↔◌, ◌⊎◌, inl, inr}
 use mathlib.Core.Path.{◌≡◌, refl, sym, ap, subst, ◌∙◌}
-use mathlib.Core.List.{List, [], ◌∷◌, ◌++◌, append-nil}
+use mathlib.Core.List.{List, [], ◌∷◌, ◌++◌}
 use native.Mathlib.Omega.{arith}
 use borrow.Author.Tests.{eqb-true, eq-eqb, ne_eqb}
 use lib.Dec.{eqb, lit<}
@@ -19,19 +19,17 @@ use Rattle.guarantee.specs.Histories as call
 use Rattle.guarantee.specs.Histories.{Ended, History, none, followed, Lent}
 use Rattle.machine.proofs.Fresh.{fresh_typed}
 use Rattle.machine.proofs.Ranges.{fresh_ranged}
-use Rattle.machine.specs.Answers.{sum_of}
 use Rattle.machine.specs.Fits.{Exists, Fits}
-use Rattle.machine.specs.Steps.{State, Ran, thread_at, run, fresh}
+use Rattle.machine.specs.Steps.{State, Ran, thread_at, fresh}
 use Rattle.script.proofs.Accepts.{accepted_is_job}
-use Rattle.script.specs.Bytes.{Bytes, bytes16}
+use Rattle.script.specs.Bytes.{Bytes}
 use Rattle.script.specs.Jobs.{Job}
 use Rattle.script.specs.Outcome.{done}
 use Rattle.script.specs.Reader.{read_job}
 use Rattle.stm.specs.Events.{Counts, counts_of}
 use Rattle.stm.proofs.Counts.{same_counts}
-use Rattle.thread.specs.Threads.{exists, blank}
 use Rattle.thread.specs.declared.Thread.{Thread}
-use Rattle.printing.specs.Printing.{lines_of, HasLine, done_line, open_line, Tells, SameResults, input_of, ran_of, RunProgram}
+use Rattle.printing.specs.Printing.{HasLine, done_line, open_line, Tells, SameResults, input_of, ran_of, RunProgram}
 use Rattle.printing.proofs.FirstBytes.{first_bytes}
 use Rattle.printing.proofs.Lines.{never, of_threads, of_registers, held_line, listing_lines, Among, split_first, first, later, split, in-front, behind, Thread's, of-threads, to_threads, Register's, of-registers, to_registers}
 use Rattle.printing.proofs.Printed.{input_splits, cut_listed, refused_listed, long_listed, taken, accepted_input}

@@ -1,1 +1,3 @@
+#![tactic(auto)]
+
 // What a listing of the run program tells: theorems. No function.
