@@ -53,8 +53,8 @@ fn random_damage(rng: &mut Rng, job: &mut Vec<u8>) {
 }
 
 fn run_program() -> PathBuf {
-    let program = Path::new(env!("CARGO_MANIFEST_DIR")).join("../../target/bin/slide_run");
-    assert!(program.is_file(), "the run program is missing: run `rt check slide_run` in the project's folder first");
+    let program = Path::new(env!("CARGO_MANIFEST_DIR")).join("../../crates/slide_run/out/slide_run");
+    assert!(program.is_file(), "the run program is missing: run `rt run < stdin` in crates/slide_run first");
     program
 }
 
