@@ -9,3 +9,4 @@ pub mod Sound
 pub mod Complete
 pub mod SentBack
 pub mod Bound
+pub mod Exact

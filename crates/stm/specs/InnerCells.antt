@@ -1,6 +1,6 @@
 -- For the proofs, nobody has to believe it: what a register's cell may be, and when a logged cell is stale.
 use Rattle.std.specs.Prelude.{ℕ, suc, ◌≤◌, Bool, true, false, not, ◌≡◌, refl, eqb, ℤ, pos}
-use Rattle.std.proofs.Common.{ap, arith, eqb-true, eq-eqb, ne_eqb}
+use Rattle.std.proofs.Common.{arith, eqb-true, eq-eqb}
 use Rattle.stm.specs.Counted.{Counted}
 
 -- A cell of the table, and what makes one stale that was logged. `Past l c`: l is c, or was c before commits wrote it.
@@ -43,10 +43,6 @@ by_count =
       not_stale = λ l c p e. p.1 (eqb-true l.count c.count (not_not (eqb l.count c.count) e));
     }
 
--- staleness that is exact: a register that was written is stale, with whatever value
+-- staleness that is exact: a register that was written is stale, with whatever value; by count it is (`by_count_exact`, proofs/Exact)
 pub record Exact (K : Cells) : Type 0 where
   pub written_stale : (l c : K.Cell) (n : ℤ) → K.Past l c → K.stale l (K.written c n) ≡ true
-
--- by count it is
-pub by_count_exact : Exact by_count
-by_count_exact = record { written_stale = λ l c n p. let q : l.count ≤ c.count = p.0 in ap not (ne_eqb l.count (suc c.count) (λ e. omega arith)) }
