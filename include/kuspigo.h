@@ -113,15 +113,15 @@ static inline const char *kuspigo_refusal_sentence(size_t refusal) {
 #define KUSPIGO_MOST_PICKS 32768
 
 /* Bytes of stack that a call takes at most, as measured on x86-64, with the return address and the arguments that lie
- * there. A formula takes most with 64 open, compiling and the report at depth 64; for one node compiling takes 352. */
-#define KUSPIGO_STACK_FORMULA 28096
+ * there. A formula takes most with 64 open, compiling and the report at depth 64; for one node compiling takes 216. */
+#define KUSPIGO_STACK_FORMULA 16640
 #define KUSPIGO_STACK_FORECAST 784
-#define KUSPIGO_STACK_COMPILE 15472
+#define KUSPIGO_STACK_COMPILE 3168
 #define KUSPIGO_STACK_READ_BACK 1120
-#define KUSPIGO_STACK_REPORT 83680
-#define KUSPIGO_STACK_FRESH 416
-#define KUSPIGO_STACK_STEP 4920
-#define KUSPIGO_STACK_RUN 4936
+#define KUSPIGO_STACK_REPORT 125248
+#define KUSPIGO_STACK_FRESH 448
+#define KUSPIGO_STACK_STEP 5168
+#define KUSPIGO_STACK_RUN 5184
 
 /* A thread's record. Places count from the code's first byte, so 0 is no place. A record of no thread is 0 throughout. */
 typedef struct kuspigo_thread {
