@@ -195,7 +195,7 @@ fn push(code: &[u8], s: Cursor, starts: &mut [usize; 64], out: &mut [u8]) -> Cur
 // ADD: a sum's kind byte goes in front of the two topmost parts, which become one.
 fn add(s: Cursor, starts: &[usize; 64], out: &mut [u8]) -> Cursor
     requires { CanMove starts.now s.height s.place s.size 2 1 1 65536 (length out.old) }
-    ensures { ((starts ends : List ℕ) → joined result starts ends ≡ parts_merged (joined s starts ends) 1 1 s.inside) × (out.new ≡ inserted (get_or starts.entry.now (s.height - 2) 0) s.size (kind_in s.inside 2 ∷ []) out.old) }
+    ensures { ((starts ends : List ℕ) → joined result starts ends ≡ parts_merged (joined s starts ends) 1 1 s.inside) × (out.new ≡ inserted (get_or starts.now (s.height - 2) 0) s.size (kind_in s.inside 2 ∷ []) out.old) }
 {
     let i = s.height - 2;
     let inside = s.inside;
@@ -218,7 +218,7 @@ fn read(code: &[u8], s: Cursor, starts: &mut [usize; 64], out: &mut [u8]) -> Cur
 // WRITE: its kind byte and its register go in front of the topmost part.
 fn write(code: &[u8], s: Cursor, starts: &[usize; 64], out: &mut [u8]) -> Cursor
     requires { CanMove starts.now s.height s.place s.size 1 2 2 (length code.now) (length out.old) }
-    ensures { ((starts ends : List ℕ) → joined result starts ends ≡ part_grown (joined s starts ends) 2 2) × (out.new ≡ inserted (get_or starts.entry.now (s.height - 1) 0) s.size (8 ∷ get_or code.now (s.place + 1) 0 ∷ []) out.old) }
+    ensures { ((starts ends : List ℕ) → joined result starts ends ≡ part_grown (joined s starts ends) 2 2) × (out.new ≡ inserted (get_or starts.now (s.height - 1) 0) s.size (8 ∷ get_or code.now (s.place + 1) 0 ∷ []) out.old) }
 {
     let place = s.place;
     let i = s.height - 1;

@@ -1,4 +1,4 @@
--- A reader of such texts, byte by byte. Nobody has to believe it: the fields `taken` and `Turned-down` of `Formulas` (guarantee/specs) say what it comes to.
+-- A reader of such texts, byte by byte. Nobody has to believe it: the fields `taken` and `turned-down` of `Formulas` (guarantee/specs) say what it comes to.
 use Rattle.std.specs.Prelude.{ℕ, suc, ◌+◌, ◌*◌, ◌-◌, Bool, true, false, cond, List, [], ◌∷◌, eqb, leb, ltb, ℤ, pos, length}
 use Rattle.script.specs.Tree.{Read, Write, Proc, Atomic, Fork, Sort, process, transaction, Tree}
 use Rattle.script.specs.Outcome.{Outcome, refused, done, refuse}

@@ -1,5 +1,5 @@
 -- For the proofs of functions over records only: one pick by value, and with what a call begins and ends. Nobody has to believe it:
--- `run_by_value` and `step_by_value` (proofs/Calls) say that `ran_by` and `stepped_by` are `run-call` and `step_call`, `plained` (proofs/Performs)
+-- `run_by_value` and `step_by_value` (proofs/Calls) say that `ran_by` and `stepped_by` are `run_call` and `step_call`, `plained` (proofs/Performs)
 -- that a plain pick is a pick.
 use Rattle.std.specs.Prelude.{ℕ, zero, suc, ◌+◌, ◌*◌, ◌<◌, Bool, cond, not, List, [], ◌∷◌, eqb, ltb, length, set, take}
 use Rattle.stm.specs.Counted.{Table}
