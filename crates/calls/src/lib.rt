@@ -7,8 +7,6 @@ ghost use Rattle.machine.specs.Answers.{fresh_call, run_call};
 ghost use Rattle.memory.specs.Memories.{leaving};
 
 use memory::Memory;
-use std::io;
-use std::io::Write;
 
 // What a call left and answered: refusal and place, and its other numbers in their order.
 #[derive(Clone, Copy)]
@@ -132,76 +130,72 @@ pub fn begun(code: &[u8], m: Memory, picks: &[u8]) -> Memory
 }
 
 // Writes a refusal, if there is one, and tells whether there is.
-fn refused(out: &mut impl Write, m: Memory, taken: Taken) -> io::Result<bool> {
+fn refused(m: Memory, taken: Taken) -> bool {
     if taken.refusal == 0 {
-        return Ok(false);
+        return false;
     }
     let after = taken.after;
-    memory::write_refused(out, taken.refusal, taken.place, m, after)?;
-    Ok(true)
+    memory::write_refused(taken.refusal, taken.place, m, after);
+    true
 }
 
-fn write_after(out: &mut impl Write, taken: Taken) -> io::Result<()> {
+fn write_after(taken: Taken) {
     let after = taken.after;
-    memory::write_state(out, after)
+    memory::write_state(after);
 }
 
 // `fresh`, and what is written of it.
-pub fn run_fresh(out: &mut impl Write, code: &[u8], m: Memory) -> io::Result<()> {
+pub fn run_fresh(code: &[u8], m: Memory) {
     let taken = call_fresh(code, m);
-    if refused(out, m, taken)? {
-        return Ok(());
+    if refused(m, taken) {
+        return;
     }
-    text::write(out, b"laid")?;
-    write_after(out, taken)
+    text::write(b"laid");
+    write_after(taken);
 }
 
 // `step` of the one pick, and what is written of it.
-pub fn run_step(out: &mut impl Write, code: &[u8], m: Memory, picks: &[u8]) -> io::Result<()> {
+pub fn run_step(code: &[u8], m: Memory, picks: &[u8]) {
     if picks.len() != 1 {
-        return text::write_malformed(out);
+        text::write_malformed();
+        return;
     }
     let taken = call_step(code, m, text::first(picks));
-    if refused(out, m, taken)? {
-        return Ok(());
+    if refused(m, taken) {
+        return;
     }
-    text::write_step(out, taken.a, taken.b, taken.c, taken.d)?;
-    write_after(out, taken)
+    text::write_step(taken.a, taken.b, taken.c, taken.d);
+    write_after(taken);
 }
 
 // `run`, and what is written of it.
-pub fn run_run(out: &mut impl Write, code: &[u8], m: Memory, picks: &[u8]) -> io::Result<()> {
+pub fn run_run(code: &[u8], m: Memory, picks: &[u8]) {
     let taken = call_run(code, m, picks);
-    if refused(out, m, taken)? {
-        return Ok(());
+    if refused(m, taken) {
+        return;
     }
-    text::write_counts(out, taken.a, taken.b, taken.c, taken.d, taken.e)?;
-    write_after(out, taken)
+    text::write_counts(taken.a, taken.b, taken.c, taken.d, taken.e);
+    write_after(taken);
 }
 
 // Writes the counts of a call and those of the table that it left, or its refusal.
-fn write_call(out: &mut impl Write, m: Memory, taken: Taken) -> io::Result<()> {
-    if refused(out, m, taken)? {
-        return Ok(());
+fn write_call(m: Memory, taken: Taken) {
+    if refused(m, taken) {
+        return;
     }
-    text::write_counts(out, taken.a, taken.b, taken.c, taken.d, taken.e)?;
+    text::write_counts(taken.a, taken.b, taken.c, taken.d, taken.e);
     let after = taken.after;
     let counts = after.counts;
-    memory::write_table_counts(out, counts)
+    memory::write_table_counts(counts);
 }
 
-// `run`, and what is written of it without threads and registers. Answers what it leaves, and beside it whether that could be written.
-pub fn run_next(
-    out: &mut impl Write,
-    code: &[u8],
-    m: Memory,
-    picks: &[u8],
-) -> (Memory, io::Result<()>)
-    ensures { result.0 ≡ left_by m (λ s. run_call code.now s picks.now) }
+// `run`, what is written of it without threads and registers, and what it leaves.
+pub fn run_next(code: &[u8], m: Memory, picks: &[u8]) -> Memory
+    ensures { result ≡ left_by m (λ s. run_call code.now s picks.now) }
 {
     let taken = call_run(code, m, picks);
-    let written = write_call(out, m, taken);
-    (taken.after, written)
+    write_call(m, taken);
+    taken.after
 }
 
 // ---- calls cut in two
@@ -277,10 +271,11 @@ fn first_cut(code: &[u8], m: Memory, picks: &[u8], whole: Taken) -> usize {
 }
 
 // `run` in one call and in two, cut at each place, and what is written of it.
-pub fn run_cut(out: &mut impl Write, code: &[u8], m: Memory, picks: &[u8]) -> io::Result<()> {
+pub fn run_cut(code: &[u8], m: Memory, picks: &[u8]) {
     let k = first_cut(code, m, picks, call_run(code, m, picks));
     if k > picks.len() {
-        return text::write(out, b"same");
+        text::write(b"same");
+        return;
     }
-    text::write_number(out, b"differs at ", k)
+    text::write_number(b"differs at ", k);
 }

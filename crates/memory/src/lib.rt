@@ -4,9 +4,6 @@
 ghost use Rattle.std.specs.Prelude.{◌≡◌, false};
 ghost use Rattle.memory.specs.Memories.{leaving, provided, sevens, untouched};
 
-use std::io;
-use std::io::Write;
-
 #[derive(Clone, Copy)]
 pub struct Memory {
     pub registers: [i32; 65],
@@ -498,93 +495,86 @@ fn entry_number(k: usize, entry: usize) -> usize {
 // ---- what is written
 
 // Writes whether a thread is done, and its result, or open.
-fn write_place(out: &mut impl Write, t: thread::Thread) -> io::Result<()> {
+fn write_place(t: thread::Thread) {
     if t.place == t.end {
-        return text::write_signed(out, b" done ", t.cells[0]);
+        text::write_signed(b" done ", t.cells[0]);
+        return;
     }
-    text::write(out, b" open")
+    text::write(b" open");
 }
 
 // Writes a record that is a thread's: done or open, its last rule and its send-backs.
-fn write_thread(out: &mut impl Write, t: thread::Thread, i: usize) -> io::Result<()> {
+fn write_thread(t: thread::Thread, i: usize) {
     if t.start == 0 {
-        return Ok(());
+        return;
     }
-    text::write_number(out, b", thread ", i)?;
-    write_place(out, t)?;
-    text::write_number(out, b" rule ", t.rule)?;
-    text::write_number(out, b" backs ", t.backs)
+    text::write_number(b", thread ", i);
+    write_place(t);
+    text::write_number(b" rule ", t.rule);
+    text::write_number(b" backs ", t.backs);
 }
 
-fn write_threads(out: &mut impl Write, threads: [thread::Thread; 17]) -> io::Result<()> {
+fn write_threads(threads: [thread::Thread; 17]) {
     let mut i: usize = 0;
     while i < 16 {
         let t = threads[i];
-        write_thread(out, t, i)?;
+        write_thread(t, i);
         i += 1;
     }
-    Ok(())
 }
 
 // Writes a register that is not 0.
-fn write_register(out: &mut impl Write, v: i32, i: usize) -> io::Result<()> {
+fn write_register(v: i32, i: usize) {
     if bits(v) == 0 {
-        return Ok(());
+        return;
     }
-    text::write_number(out, b", register ", i)?;
-    text::write_signed(out, b" ", v)
+    text::write_number(b", register ", i);
+    text::write_signed(b" ", v);
 }
 
-fn write_registers(out: &mut impl Write, registers: [i32; 65]) -> io::Result<()> {
+fn write_registers(registers: [i32; 65]) {
     let mut i: usize = 0;
     while i < 64 {
-        write_register(out, registers[i], i)?;
+        write_register(registers[i], i);
         i += 1;
     }
-    Ok(())
 }
 
 // Writes a count that is not 0.
-fn write_count(out: &mut impl Write, n: u32, i: usize) -> io::Result<()> {
+fn write_count(n: u32, i: usize) {
     if n == 0 {
-        return Ok(());
+        return;
     }
-    text::write_number(out, b", count ", i)?;
-    text::write_number(out, b" ", n as usize)
+    text::write_number(b", count ", i);
+    text::write_number(b" ", n as usize);
 }
 
 // Writes how often commits have written each register, as the table says it.
-pub fn write_table_counts(out: &mut impl Write, counts: [u32; 65]) -> io::Result<()> {
+pub fn write_table_counts(counts: [u32; 65]) {
     let mut i: usize = 0;
     while i < 64 {
-        write_count(out, counts[i], i)?;
+        write_count(counts[i], i);
         i += 1;
     }
-    Ok(())
 }
 
 // Writes the threads, registers and counts of a state, and the checksum of all the memory.
-pub fn write_state(out: &mut impl Write, m: Memory) -> io::Result<()> {
+pub fn write_state(m: Memory) {
     let threads = m.threads;
     let registers = m.registers;
     let counts = m.counts;
-    write_threads(out, threads)?;
-    write_registers(out, registers)?;
-    write_table_counts(out, counts)?;
-    text::write_number(out, b", sum ", sum(m) as usize)
+    write_threads(threads);
+    write_registers(registers);
+    write_table_counts(counts);
+    text::write_number(b", sum ", sum(m) as usize);
 }
 
 // Writes a refusal, and whether the memory is as it was.
-pub fn write_refused(
-    out: &mut impl Write,
-    number: usize,
-    place: usize,
-    before: Memory,
-    after: Memory,
-) -> io::Result<()> {
-    text::write_refusal(out, number, place)?;
+pub fn write_refused(number: usize, place: usize, before: Memory, after: Memory) {
+    text::write_refusal(number, place);
     if same(before, after) {
-        return text::write_kept(out);
+        text::write_kept();
+        return;
     }
-    text::write_altered(out)
+    text::write_altered();
 }

@@ -2,7 +2,7 @@
 #![tactic(auto)]
 
 ghost use Rattle.std.specs.Prelude.{◌≡◌, ◌+◌, ◌-◌, ◌*◌, ◌%◌, ◌<◌, ◌≤◌, min, false, ◌&&◌, length, take, drop, nat_lt, slice_index};
-ghost use Rattle.std.specs.Counts.{IsPrefixLen};
+ghost use Rattle.io.specs.Counts.{IsPrefixLen};
 ghost use Rattle.text.specs.Texts.{
   zeros,
   place,
@@ -19,9 +19,6 @@ ghost use Rattle.text.specs.Texts.{
   is_letter,
   lettered,
 };
-
-use std::io;
-use std::io::Write;
 
 // What a text in hex comes to: how many bytes were put, and whether they are all.
 #[derive(Clone, Copy)]
@@ -450,41 +447,41 @@ fn letter(n: u8) -> u8 {
     }
 }
 
-fn write_byte(out: &mut impl Write, byte: u8) -> io::Result<()> {
+fn write_byte(byte: u8) {
     let text = [letter(byte / 16), letter(byte % 16)];
-    out.write_all(&text)
+    io::write_all(1, &text);
 }
 
 // Writes bytes as pairs of digits, with a space between.
-fn write_pairs(out: &mut impl Write, bytes: &[u8]) -> io::Result<()> {
+fn write_pairs(bytes: &[u8]) {
     let mut at = 0;
     while at < bytes.len() {
         if at > 0 {
-            out.write_all(b" ")?;
+            io::write_all(1, b" ");
         }
-        write_byte(out, bytes[at])?;
+        write_byte(bytes[at]);
         at += 1;
     }
-    Ok(())
 }
 
 // Writes a result, or of a long one its length and checksum.
-pub fn write_bytes(out: &mut impl Write, bytes: &[u8]) -> io::Result<()> {
+pub fn write_bytes(bytes: &[u8]) {
     if bytes.len() <= 64 {
-        return write_pairs(out, bytes);
+        write_pairs(bytes);
+        return;
     }
-    write_number(out, b"", bytes.len())?;
-    write_number(out, b" bytes sum ", checksum(bytes) as usize)
+    write_number(b"", bytes.len());
+    write_number(b" bytes sum ", checksum(bytes) as usize);
 }
 
-pub fn write(out: &mut impl Write, text: &[u8]) -> io::Result<()> {
-    out.write_all(text)
+pub fn write(text: &[u8]) {
+    io::write_all(1, text);
 }
 
 // Writes a word and a number.
-pub fn write_number(out: &mut impl Write, word: &[u8], n: usize) -> io::Result<()> {
-    out.write_all(word)?;
-    write!(out, "{n}")
+pub fn write_number(word: &[u8], n: usize) {
+    io::write_all(1, word);
+    io::print_decimal(1, n as u64);
 }
 
 // A number from 0 up, or 0 for one below.
@@ -498,71 +495,57 @@ pub fn natural(n: i32) -> u64
 }
 
 // Writes a word and a number with its sign.
-pub fn write_signed(out: &mut impl Write, word: &[u8], n: i32) -> io::Result<()> {
-    out.write_all(word)?;
+pub fn write_signed(word: &[u8], n: i32) {
+    io::write_all(1, word);
     if n < 0 {
-        out.write_all(b"-")?;
-        let below = std::num::wrapping_add_u64(natural(!n), 1);
-        return write!(out, "{below}");
+        io::write_all(1, b"-");
+        io::print_decimal(1, std::num::wrapping_add_u64(natural(!n), 1));
+        return;
     }
-    let above = natural(n);
-    write!(out, "{above}")
+    io::print_decimal(1, natural(n));
 }
 
-pub fn write_refusal(out: &mut impl Write, number: usize, place: usize) -> io::Result<()> {
-    write_number(out, b"refused ", number)?;
-    write_number(out, b" at ", place)
+pub fn write_refusal(number: usize, place: usize) {
+    write_number(b"refused ", number);
+    write_number(b" at ", place);
 }
 
 // Writes what a line comes to that is no case.
-pub fn write_malformed(out: &mut impl Write) -> io::Result<()> {
-    out.write_all(b"malformed")
+pub fn write_malformed() {
+    io::write_all(1, b"malformed");
 }
 
-pub fn write_kept(out: &mut impl Write) -> io::Result<()> {
-    out.write_all(b" kept")
+pub fn write_kept() {
+    io::write_all(1, b" kept");
 }
 
-pub fn write_altered(out: &mut impl Write) -> io::Result<()> {
-    out.write_all(b" altered")
+pub fn write_altered() {
+    io::write_all(1, b" altered");
 }
 
 // Writes a line's label.
-pub fn write_label(out: &mut impl Write, line: &[u8]) -> io::Result<()> {
-    out.write_all(before(line, b':'))?;
-    out.write_all(b": ")
+pub fn write_label(line: &[u8]) {
+    io::write_all(1, before(line, b':'));
+    io::write_all(1, b": ");
 }
 
-pub fn write_end(out: &mut impl Write) -> io::Result<()> {
-    out.write_all(b"\n")
+pub fn write_end() {
+    io::write_all(1, b"\n");
 }
 
 // Writes the numbers of a step's answer.
-pub fn write_step(
-    out: &mut impl Write,
-    event: usize,
-    register: usize,
-    turn: usize,
-    over: usize,
-) -> io::Result<()> {
-    write_number(out, b"event ", event)?;
-    write_number(out, b" register ", register)?;
-    write_number(out, b" turn ", turn)?;
-    write_number(out, b" over ", over)
+pub fn write_step(event: usize, register: usize, turn: usize, over: usize) {
+    write_number(b"event ", event);
+    write_number(b" register ", register);
+    write_number(b" turn ", turn);
+    write_number(b" over ", over);
 }
 
 // Writes the counts of a run's answer.
-pub fn write_counts(
-    out: &mut impl Write,
-    steps: usize,
-    idle: usize,
-    commits: usize,
-    back: usize,
-    over: usize,
-) -> io::Result<()> {
-    write_number(out, b"steps ", steps)?;
-    write_number(out, b" idle ", idle)?;
-    write_number(out, b" commits ", commits)?;
-    write_number(out, b" back ", back)?;
-    write_number(out, b" over ", over)
+pub fn write_counts(steps: usize, idle: usize, commits: usize, back: usize, over: usize) {
+    write_number(b"steps ", steps);
+    write_number(b" idle ", idle);
+    write_number(b" commits ", commits);
+    write_number(b" back ", back);
+    write_number(b" over ", over);
 }

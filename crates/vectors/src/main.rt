@@ -34,9 +34,6 @@
 mod outputs;
 mod states;
 
-use std::io;
-use std::io::Write;
-
 // The command of a line, as a number by `text::word_number`; 0 where a space and a colon do not follow it.
 fn command(line: &[u8]) -> u64 {
     if !text::holds(line, b':') {
@@ -49,48 +46,46 @@ fn command(line: &[u8]) -> u64 {
 }
 
 // Runs a case. What is run is chosen here.
-fn run_case(out: &mut impl Write, what: u64, label: &[u8], body: &[u8]) -> io::Result<()> {
+fn run_case(what: u64, label: &[u8], body: &[u8]) {
     match what {
         10722 | 3738707333 | 66667 | 6965089665 | 609762900 | 222873880180 => outputs::run_case(
-            out, what, label, body,
+            what, label, body,
         ), // job, compile, back, formula, report, forecast
-        6887016 | 643248 | 19118 | 3764 | 3191187 => states::run_case(out, what, body), // fresh, step, run, cut, calls
-        _ => text::write_malformed(out),
+        6887016 | 643248 | 19118 | 3764 | 3191187 => states::run_case(what, body), // fresh, step, run, cut, calls
+        _ => text::write_malformed(),
     }
 }
 
 // Runs one line, and writes its label and what the case comes to.
-fn run_line(out: &mut impl Write, line: &[u8]) -> io::Result<()> {
+fn run_line(line: &[u8]) {
     if !text::says(line) {
-        return Ok(());
+        return;
     }
-    text::write_label(out, line)?;
+    text::write_label(line);
     run_case(
-        out,
         command(line),
         text::before(line, b':'),
         text::behind(line, b':'),
-    )?;
-    text::write_end(out)
+    );
+    text::write_end();
 }
 
 // Runs each line of the text.
-fn run_lines(out: &mut impl Write, lines: &[u8]) -> io::Result<()> {
+fn run_lines(lines: &[u8]) {
     let mut left = lines;
     while left.len() > 0 {
-        run_line(out, text::before(left, b'\n'))?;
+        run_line(text::before(left, b'\n'));
         let next = text::behind(left, b'\n');
         left = next;
     }
-    Ok(())
 }
 
-fn main(rt: HostRuntime) -> io::Result<()> {
+fn main() {
     let mut space = text::input();
-    let length = input::read_full(&mut rt.reader(), &mut space)?;
-    let mut out = io::writer(&rt);
+    let length = io::read_full(0, &mut space);
     if length > 1350000 {
-        return text::write(&mut out, b"input longer than 1350000 bytes\n");
+        text::write(b"input longer than 1350000 bytes\n");
+        return;
     }
-    run_lines(&mut out, &space[..length])
+    run_lines(&space[..length]);
 }

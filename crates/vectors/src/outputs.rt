@@ -2,8 +2,6 @@
 use delivery::Answer;
 use forecast::ForecastReply;
 use job::Reading;
-use std::io;
-use std::io::Write;
 use text::Hex;
 
 // Fills an output with AA.
@@ -28,117 +26,117 @@ fn is_filled(out: &[u8]) -> bool {
 }
 
 // Writes what became of the part of an output that no result was put into.
-fn write_rest(out: &mut impl Write, rest: &[u8]) -> io::Result<()> {
+fn write_rest(rest: &[u8]) {
     if is_filled(rest) {
-        return text::write_kept(out);
+        text::write_kept();
+        return;
     }
-    text::write_altered(out)
+    text::write_altered();
 }
 
 // Writes the text up to its first end of line, and that end.
-fn write_line(out: &mut impl Write, text: &[u8]) -> io::Result<()> {
-    text::write(out, b" ")?;
-    text::write(out, text::before(text, b'\n'))?;
+fn write_line(text: &[u8]) {
+    text::write(b" ");
+    text::write(text::before(text, b'\n'));
     if text::holds(text, b'\n') {
-        text::write(out, b" /")?;
+        text::write(b" /");
     }
-    Ok(())
 }
 
 // Writes all lines of a text, in one line.
-fn write_lines(out: &mut impl Write, lines: &[u8]) -> io::Result<()> {
+fn write_lines(lines: &[u8]) {
     let mut left = lines;
     while left.len() > 0 {
-        write_line(out, left)?;
+        write_line(left);
         let next = text::behind(left, b'\n');
         left = next;
     }
-    Ok(())
 }
 
 // Writes what is printed.
-fn write_printed(out: &mut impl Write, lines: &[u8]) -> io::Result<()> {
-    text::write(out, b"prints")?;
-    write_lines(out, lines)
+fn write_printed(lines: &[u8]) {
+    text::write(b"prints");
+    write_lines(lines);
 }
 
 // Writes bytes behind a word.
-fn write_bytes(out: &mut impl Write, word: &[u8], bytes: &[u8]) -> io::Result<()> {
-    text::write(out, word)?;
-    text::write_bytes(out, bytes)
+fn write_bytes(word: &[u8], bytes: &[u8]) {
+    text::write(word);
+    text::write_bytes(bytes);
 }
 
 // Writes the result of a command.
-fn write_result(out: &mut impl Write, what: u64, res: &[u8]) -> io::Result<()> {
+fn write_result(what: u64, res: &[u8]) {
     match what {
-        3738707333 => write_bytes(out, b"code ", res), // compile
-        66667 | 6965089665 => write_bytes(out, b"job ", res), // back, formula
-        _ => write_printed(out, res), // report
+        3738707333 => write_bytes(b"code ", res), // compile
+        66667 | 6965089665 => write_bytes(b"job ", res), // back, formula
+        _ => write_printed(res), // report
     }
 }
 
 // Writes a result and what lies behind it.
-fn write_done(to: &mut impl Write, what: u64, length: usize, out: &[u8]) -> io::Result<()> {
+fn write_done(what: u64, length: usize, out: &[u8]) {
     if length > out.len() {
-        return text::write(to, b"beyond the output");
+        text::write(b"beyond the output");
+        return;
     }
-    write_result(to, what, text::front(out, length))?;
-    write_rest(to, text::rest(out, length))
+    write_result(what, text::front(out, length));
+    write_rest(text::rest(out, length));
 }
 
 // Writes an answer and the output that goes with it.
-fn write_answer(to: &mut impl Write, answer: Answer, what: u64, out: &[u8]) -> io::Result<()> {
+fn write_answer(answer: Answer, what: u64, out: &[u8]) {
     match answer {
-        Answer::Done(length) => write_done(to, what, length, out),
+        Answer::Done(length) => write_done(what, length, out),
         Answer::Refused(number, place) => {
-            text::write_refusal(to, number as usize, place)?;
-            write_rest(to, out)
+            text::write_refusal(number as usize, place);
+            write_rest(out);
         }
     }
 }
 
 // Reads a job, and writes what that comes to.
-fn write_reading(out: &mut impl Write, bytes: &[u8]) -> io::Result<()> {
+fn write_reading(bytes: &[u8]) {
     match job::read_job(bytes) {
         Reading::Accepted(version, length) => {
-            text::write_number(out, b"accepted version ", version as usize)?;
-            text::write_number(out, b" code ", length)
+            text::write_number(b"accepted version ", version as usize);
+            text::write_number(b" code ", length);
         }
-        Reading::Refused(number, place) => text::write_refusal(out, number as usize, place),
+        Reading::Refused(number, place) => text::write_refusal(number as usize, place),
     }
 }
 
 // Writes the heights of a forecast.
-fn write_heights(out: &mut impl Write, heights: [u8; 16]) -> io::Result<()> {
-    text::write(out, b" heights")?;
+fn write_heights(heights: [u8; 16]) {
+    text::write(b" heights");
     let mut i: usize = 0;
     while i < 16 {
-        text::write_number(out, b" ", heights[i] as usize)?;
+        text::write_number(b" ", heights[i] as usize);
         i += 1;
     }
-    Ok(())
 }
 
 // Writes the figures of a forecast.
-fn write_figures(out: &mut impl Write, told: ForecastReply) -> io::Result<()> {
-    text::write_number(out, b"code ", told.length)?;
-    text::write_number(out, b" transactions ", told.transactions)?;
-    text::write_number(out, b" threads ", told.threads)?;
-    text::write_number(out, b" instructions ", told.instructions)?;
-    text::write_number(out, b" longest ", told.longest)?;
-    text::write_number(out, b" bound ", told.bound)?;
-    text::write_number(out, b" reads ", told.reads as usize)?;
-    text::write_number(out, b" writes ", told.writes as usize)?;
+fn write_figures(told: ForecastReply) {
+    text::write_number(b"code ", told.length);
+    text::write_number(b" transactions ", told.transactions);
+    text::write_number(b" threads ", told.threads);
+    text::write_number(b" instructions ", told.instructions);
+    text::write_number(b" longest ", told.longest);
+    text::write_number(b" bound ", told.bound);
+    text::write_number(b" reads ", told.reads as usize);
+    text::write_number(b" writes ", told.writes as usize);
     let heights = told.heights;
-    write_heights(out, heights)
+    write_heights(heights);
 }
 
 // Writes a forecast, or why there is none.
-fn write_forecast(out: &mut impl Write, told: ForecastReply) -> io::Result<()> {
+fn write_forecast(told: ForecastReply) {
     if told.refusal != 0 {
-        return text::write_refusal(out, told.refusal, told.place);
+        text::write_refusal(told.refusal, told.place);
+        return;
     }
-    write_figures(out, told)
+    write_figures(told);
 }
 
 // Calls what the command says, on an output.
@@ -152,10 +150,10 @@ fn call(what: u64, bytes: &[u8], out: &mut [u8]) -> Answer {
 }
 
 // Runs a command that has an output.
-fn run_output(to: &mut impl Write, what: u64, bytes: &[u8], out: &mut [u8]) -> io::Result<()> {
+fn run_output(what: u64, bytes: &[u8], out: &mut [u8]) {
     fill(out);
     let answer = call(what, bytes, out);
-    write_answer(to, answer, what, out)
+    write_answer(answer, what, out);
 }
 
 // Puts the bytes that the text spells at the start of `space`: in hex, and behind a ';' as picks.
@@ -173,33 +171,36 @@ fn parse(text: &[u8], space: &mut [u8]) -> Hex {
 }
 
 // Runs a command on bytes, with an output of this size if it has one.
-fn run_bytes(to: &mut impl Write, what: u64, size: usize, bytes: &[u8]) -> io::Result<()> {
+fn run_bytes(what: u64, size: usize, bytes: &[u8]) {
     if what == 10722 {
-        return write_reading(to, bytes); // job
+        write_reading(bytes); // job
+        return;
     }
     if what == 222873880180 {
-        return write_forecast(to, forecast::forecast(bytes)); // forecast
+        write_forecast(forecast::forecast(bytes)); // forecast
+        return;
     }
     if size > 6000 {
-        return text::write_malformed(to);
+        text::write_malformed();
+        return;
     }
     let mut out = text::buffer();
     let n = text::within(size, &out);
-    run_output(to, what, bytes, &mut out[..n])
+    run_output(what, bytes, &mut out[..n]);
 }
 
 // Runs the command of a label on the bytes that the text spells. The label's second word is the size of an output.
-pub fn run_case(out: &mut impl Write, what: u64, label: &[u8], text: &[u8]) -> io::Result<()> {
+pub fn run_case(what: u64, label: &[u8], text: &[u8]) {
     let mut space = text::buffer();
     let parsed = parse(text, &mut space);
     if !parsed.whole {
-        return text::write_malformed(out);
+        text::write_malformed();
+        return;
     }
     let n = text::within(parsed.count, &space);
     run_bytes(
-        out,
         what,
         text::size(text::part(label, b' ', 1), 6000),
         &space[..n],
-    )
+    );
 }

@@ -1,8 +1,6 @@
 // The commands that run calls on a state.
 use delivery::Answer;
 use memory::Memory;
-use std::io;
-use std::io::Write;
 use text::Hex;
 
 // ---- the code
@@ -70,90 +68,72 @@ fn change_code(code: &mut [u8], changes: &[u8]) -> bool {
 // ---- the calls
 
 // One of the calls of `calls`, and what is written of it. Answers what it leaves.
-fn run_next(out: &mut impl Write, code: &[u8], m: Memory, list: &[u8]) -> io::Result<Memory> {
+fn run_next(code: &[u8], m: Memory, list: &[u8]) -> Memory {
     let mut picks = text::buffer();
     let parsed = text::parse_picks(list, &mut picks);
     if !parsed.whole {
-        text::write_malformed(out)?;
-        return Ok(m);
+        text::write_malformed();
+        return m;
     }
     let n = parsed.count;
-    let (after, written) = calls::run_next(out, code, m, &picks[..n]);
-    written?;
-    Ok(after)
+    calls::run_next(code, m, &picks[..n])
 }
 
-fn run_another(out: &mut impl Write, code: &[u8], m: Memory, list: &[u8]) -> io::Result<Memory> {
-    text::write(out, b" | ")?;
-    run_next(out, code, m, list)
+fn run_another(code: &[u8], m: Memory, list: &[u8]) -> Memory {
+    text::write(b" | ");
+    run_next(code, m, list)
 }
 
 // The calls behind the first.
-fn run_further(out: &mut impl Write, code: &[u8], m: Memory, lists: &[u8]) -> io::Result<Memory> {
+fn run_further(code: &[u8], m: Memory, lists: &[u8]) -> Memory {
     let mut after = m;
     let mut left = lists;
     while left.len() > 0 {
-        after = run_another(out, code, after, text::before(left, b'|'))?;
+        after = run_another(code, after, text::before(left, b'|'));
         let next = text::behind(left, b'|');
         left = next;
     }
-    Ok(after)
+    after
 }
 
-fn run_calls(out: &mut impl Write, code: &[u8], m: Memory, lists: &[u8]) -> io::Result<()> {
-    let after = run_next(out, code, m, text::before(lists, b'|'))?;
-    let last = run_further(out, code, after, text::behind(lists, b'|'))?;
-    memory::write_state(out, last)
+fn run_calls(code: &[u8], m: Memory, lists: &[u8]) {
+    let after = run_next(code, m, text::before(lists, b'|'));
+    memory::write_state(run_further(code, after, text::behind(lists, b'|')));
 }
 
 // Runs a call. What is run is chosen here.
-fn run_call(
-    out: &mut impl Write,
-    what: u64,
-    code: &[u8],
-    m: Memory,
-    picks: &[u8],
-) -> io::Result<()> {
+fn run_call(what: u64, code: &[u8], m: Memory, picks: &[u8]) {
     match what {
-        6887016 => calls::run_fresh(out, code, m), // fresh
-        643248 => calls::run_step(out, code, m, picks), // step
-        19118 => calls::run_run(out, code, m, picks), // run
-        _ => calls::run_cut(out, code, m, picks), // cut
+        6887016 => calls::run_fresh(code, m), // fresh
+        643248 => calls::run_step(code, m, picks), // step
+        19118 => calls::run_run(code, m, picks), // run
+        _ => calls::run_cut(code, m, picks), // cut
     }
 }
 
 // Runs a call on the picks that the list spells.
-fn run_list(
-    out: &mut impl Write,
-    what: u64,
-    code: &[u8],
-    m: Memory,
-    list: &[u8],
-) -> io::Result<()> {
+fn run_list(what: u64, code: &[u8], m: Memory, list: &[u8]) {
     let mut picks = text::buffer();
     let parsed = text::parse_picks(list, &mut picks);
     if !parsed.whole {
-        return text::write_malformed(out);
+        text::write_malformed();
+        return;
     }
     let n = parsed.count;
-    run_call(out, what, code, m, &picks[..n])
+    run_call(what, code, m, &picks[..n]);
 }
 
 // Runs a call, or several, on the memory.
-fn run_picks(
-    out: &mut impl Write,
-    what: u64,
-    code: &[u8],
-    m: Memory,
-    lists: &[u8],
-) -> io::Result<()> {
+fn run_picks(what: u64, code: &[u8], m: Memory, lists: &[u8]) {
     if !m.good {
-        return text::write_malformed(out);
+        text::write_malformed();
+        return;
     }
     if what == 3191187 {
-        return run_calls(out, code, m, lists);
+        run_calls(code, m, lists);
+        return;
     }
-    run_list(out, what, code, m, lists)
+    run_list(what, code, m, lists);
 }
 
 // ---- the memory
@@ -176,18 +156,19 @@ fn prepared(what: u64, code: &[u8], body: &[u8]) -> Memory {
 }
 
 // Runs the case of a line's body on its code.
-fn run_body(out: &mut impl Write, what: u64, code: &mut [u8], body: &[u8]) -> io::Result<()> {
+fn run_body(what: u64, code: &mut [u8], body: &[u8]) {
     let m = prepared(what, code, body);
     let good = change_code(code, text::part(body, b';', 2));
-    run_picks(out, what, code, m.only(good), text::part(body, b';', 3))
+    run_picks(what, code, m.only(good), text::part(body, b';', 3));
 }
 
-pub fn run_case(out: &mut impl Write, what: u64, body: &[u8]) -> io::Result<()> {
+pub fn run_case(what: u64, body: &[u8]) {
     let mut code = text::buffer();
     let loaded = load(text::before(body, b';'), &mut code);
     if !loaded.whole {
-        return text::write_malformed(out);
+        text::write_malformed();
+        return;
     }
     let n = text::within(loaded.count, &code);
-    run_body(out, what, &mut code[..n], body)
+    run_body(what, &mut code[..n], body);
 }

@@ -1,2 +1,0 @@
-mod Shown
-mod Taken
