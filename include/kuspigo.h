@@ -114,14 +114,14 @@ static inline const char *kuspigo_refusal_sentence(size_t refusal) {
 
 /* Bytes of stack that a call takes at most, as measured on x86-64, with the return address and the arguments that lie
  * there. A formula takes most with 64 open, compiling and the report at depth 64; for one node compiling takes 216. */
-#define KUSPIGO_STACK_FORMULA 16640
-#define KUSPIGO_STACK_FORECAST 784
+#define KUSPIGO_STACK_FORMULA 11472
+#define KUSPIGO_STACK_FORECAST 536
 #define KUSPIGO_STACK_COMPILE 3168
-#define KUSPIGO_STACK_READ_BACK 1120
-#define KUSPIGO_STACK_REPORT 125248
-#define KUSPIGO_STACK_FRESH 448
-#define KUSPIGO_STACK_STEP 5168
-#define KUSPIGO_STACK_RUN 5184
+#define KUSPIGO_STACK_READ_BACK 1224
+#define KUSPIGO_STACK_REPORT 162384
+#define KUSPIGO_STACK_FRESH 472
+#define KUSPIGO_STACK_STEP 6312
+#define KUSPIGO_STACK_RUN 6328
 
 /* A thread's record. Places count from the code's first byte, so 0 is no place. A record of no thread is 0 throughout. */
 typedef struct kuspigo_thread {

@@ -21,7 +21,7 @@ const MOST_NODES: usize = 1_000;
 
 /// As the calling convention aligns one.
 #[repr(align(16))]
-struct Stack([u8; 1 << 17]);
+struct Stack([u8; 1 << 18]);
 
 /// Words that are passed in registers.
 const IN_REGISTERS: usize = 6;
@@ -65,7 +65,7 @@ unsafe fn on_stack(stack: &mut Stack, fill: u8, function: *const (), words: &[us
 ///
 /// SAFETY: as above; the function hands an `A` back through memory.
 unsafe fn measured<A: PartialEq + Debug>(function: *const (), mut prepare: impl FnMut() -> Vec<usize>) -> (A, usize) {
-    let mut stack = Box::new(Stack([0; 1 << 17]));
+    let mut stack = Box::new(Stack([0; 1 << 18]));
     let mut answered = [0x5A, 0xC3].map(|fill| {
         let mut answer = MaybeUninit::<A>::uninit();
         let words = [vec![answer.as_mut_ptr() as usize], prepare()].concat();
@@ -126,7 +126,7 @@ fn lent(code: &[u8], state: &mut State) -> Vec<usize> {
 
 fn of_fresh(code: &[u8], state: &State) -> usize {
     let mut state = state.clone();
-    let mut stack = Box::new(Stack([0; 1 << 17]));
+    let mut stack = Box::new(Stack([0; 1 << 18]));
     let measures = [0x5A, 0xC3].map(|fill| {
         let words = lent(code, &mut state);
         // SAFETY: all pointers come from slices of the counts beside them; what is written is lent to this call alone.

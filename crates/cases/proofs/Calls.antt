@@ -8,7 +8,6 @@ use Rattle.code.specs.Reader.{do_op, ended_at, read_ops, sized, code_marked, rea
 use Rattle.compiler.specs.CompileTo.{compile_to}
 use Rattle.decompiler.specs.ReadBackTo.{read_back_to}
 use Rattle.delivery.specs.Delivered.{delivered}
-use Rattle.exports.specs.Written.{writing}
 use Rattle.listing.specs.Listed.{listed, refusal_line, decimal, digits, ascii}
 use Rattle.machine.specs.Answers.{fresh_of, step_of, run_of, fresh_call, step_call, run_call}
 use Rattle.machine.specs.Fits.{walk_op, next_place}
@@ -25,7 +24,7 @@ use Rattle.word.specs.Registers.{none, member, with}
 use Rattle.word.specs.Sum.{residue, signed, wrap, wrapping, overflows}
 
 pub export_cases : ExportCases
-unfolding writing compile_to read_back_to delivered listed refusal_line decimal digits ascii read_tree short_from read_job read_nodes node_at node_of permitted operand grown fork_of job_marked taken job_bytes job_mark bytes_p bytes_t node_bytes
+unfolding compile_to read_back_to delivered listed refusal_line decimal digits ascii read_tree short_from read_job read_nodes node_at node_of permitted operand grown fork_of job_marked taken job_bytes job_mark bytes_p bytes_t node_bytes
     bytes16 bytes32 signed residue nodes_p nodes_t depth_t depth_p forks longest_nodes compiled code_bytes code_mark compile_p compile_t instruction_bytes instructions_bytes read_code read_code_tree read_ops ended_at do_op op_at decoded
     opcode_operand code_marked sized
 export_cases = record { compiling = refl; reading_back = refl; register_64 = refl; short_tray = refl; foreign_code = refl; listing = refl; short_listing = refl }

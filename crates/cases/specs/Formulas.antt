@@ -1,7 +1,7 @@
 -- Document 02 No. 7: worked cases of scripts typed as formulas. The right sides were found by hand from the request.
 use Rattle.std.specs.Prelude.{ℕ, zero, suc, ◌≡◌, List, [], ◌∷◌, ◌++◌, pos, negsuc, replicate}
 use Rattle.cases.specs.Inputs.{header, seven, increment, increment_bytes, whole_job}
-use Rattle.delivery.specs.declared.Answer.TheVariants as answer
+use Rattle.script.specs.Outcome as answer
 use Rattle.formula.specs.FormulaTo.{formula_of, formula_to}
 use Rattle.grammar.specs.Grammar.{plus_sign, opening, closing, becomes, fork_word, atomic_word}
 use Rattle.grammar.specs.Printed.{printed}
@@ -178,11 +178,11 @@ pub record FormulaCases : Type 0 where
   pub text_wrong : formula_of (ascii "x" ++ replicate 32767 32) ≡ refused 15 0
   pub text_wrong_long : formula_of (ascii "x" ++ replicate 32768 32) ≡ refused 15 32768
   -- then 10; nothing is altered behind the result, and nothing on a refusal
-  pub just_enough : formula_to (ascii "7") (replicate 12 0xAA) ≡ record { answer = answer.Done 12; output = seven }
-  pub short_tray : formula_to (ascii "7") (replicate 11 0xAA) ≡ record { answer = answer.Refused 10 0; output = replicate 11 0xAA }
-  pub behind : formula_to (ascii "7") (replicate 15 0xAA) ≡ record { answer = answer.Done 12; output = seven ++ replicate 3 0xAA }
-  pub before_ten : formula_to (ones 64) [] ≡ record { answer = answer.Refused 7 71; output = [] }
-  pub before_all : formula_to (ascii "1 +") (replicate 2 0xAA) ≡ record { answer = answer.Refused 15 3; output = replicate 2 0xAA }
+  pub just_enough : formula_to (ascii "7") (replicate 12 0xAA) ≡ record { answer = answer.done 12; output = seven }
+  pub short_tray : formula_to (ascii "7") (replicate 11 0xAA) ≡ record { answer = answer.refused 10 0; output = replicate 11 0xAA }
+  pub behind : formula_to (ascii "7") (replicate 15 0xAA) ≡ record { answer = answer.done 12; output = seven ++ replicate 3 0xAA }
+  pub before_ten : formula_to (ones 64) [] ≡ record { answer = answer.refused 7 71; output = [] }
+  pub before_all : formula_to (ascii "1 +") (replicate 2 0xAA) ≡ record { answer = answer.refused 15 3; output = replicate 2 0xAA }
   -- as a tree is printed
   pub prints_increment : printed increment ≡ ascii "fork atomic(r0 := r0 + 1)"
   pub prints_brackets :

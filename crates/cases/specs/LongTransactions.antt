@@ -4,7 +4,7 @@ use Rattle.cases.specs.Inputs.{accepted, code_for}
 use Rattle.cases.specs.Forecasts.{one, nothing_but}
 use Rattle.code.specs.Reader.{read_code}
 use Rattle.compiler.specs.CompileTo.{compile_to}
-use Rattle.delivery.specs.declared.Answer.TheVariants as answer
+use Rattle.script.specs.Outcome as answer
 use Rattle.forecast.specs.Figures.{forecast_of}
 use Rattle.listing.specs.Listed.{ascii, listed}
 use Rattle.script.specs.Outcome.{refused}
@@ -75,8 +75,8 @@ pub record LongTransactionCases : Type 0 where
       read_job (header16 1 48 (0x02 ∷ 0x02 ∷ 0x03 ∷ (sums_bytes 49 ++ (0x04 ∷ 0x03 ∷ 0x06 ∷ (sums_bytes 49 ++ (sums_bytes 49 ++ one)))))) ≡
       accepted (AddP (AddP (Atomic (sums 49)) (Fork (Atomic (AddT (sums 49) (sums 49))))) (ValP (pos 1)))
   -- "before 10": an empty output
-  pub no_output : compile_to too_long_job [] ≡ record { answer = answer.Refused 14 7; output = [] }
-  pub full_output : compile_to full_job [] ≡ record { answer = answer.Refused 10 0; output = [] }
+  pub no_output : compile_to too_long_job [] ≡ record { answer = answer.refused 14 7; output = [] }
+  pub full_output : compile_to full_job [] ≡ record { answer = answer.refused 10 0; output = [] }
   -- M is 202; the forecast and the run program refuse with 14 too
   pub most_forecast : (forecast_of (read_job full_job)).longest ≡ 202
   pub more_forecast : forecast_of (read_job too_long_job) ≡ nothing_but 14 7

@@ -8,7 +8,7 @@ use Rattle.code.specs.Reader.{read_code}
 use Rattle.compiler.specs.CompileTo.{compile_to}
 use Rattle.decompiler.specs.ReadBackTo.{read_back_to}
 use Rattle.delivery.specs.Delivered.{delivered}
-use Rattle.delivery.specs.declared.Answer.TheVariants as answer
+use Rattle.script.specs.Outcome as answer
 use Rattle.listing.specs.Listed.{ascii, listed}
 use Rattle.script.specs.Outcome.{refused, done}
 use Rattle.script.specs.Reader.{read_job}
@@ -218,18 +218,18 @@ tray n = replicate n 0xAA
 pub record CallRefusals : Type 0 where
   -- ---- 10, "output shorter than the result", at 0
   -- compiling VALP 7 gives ten bytes, reading back twelve, the listing of no input 15: an output as long, one byte shorter, and one longer
-  pub compile_10 : compile_to seven (tray 10) ≡ record { answer = answer.Done 10; output = seven_code }
-  pub compile_9 : compile_to seven (tray 9) ≡ record { answer = answer.Refused 10 0; output = tray 9 }
-  pub compile_11 : compile_to seven (tray 11) ≡ record { answer = answer.Done 10; output = seven_code ++ tray 1 }
-  pub back_12 : read_back_to seven_code (tray 12) ≡ record { answer = answer.Done 12; output = seven }
-  pub back_11 : read_back_to seven_code (tray 11) ≡ record { answer = answer.Refused 10 0; output = tray 11 }
-  pub back_13 : read_back_to seven_code (tray 13) ≡ record { answer = answer.Done 12; output = seven ++ tray 1 }
-  pub report_15 : delivered (done (listed [])) (tray 15) ≡ record { answer = answer.Done 15; output = ascii "refused 1 at 0\n" }
-  pub report_14 : delivered (done (listed [])) (tray 14) ≡ record { answer = answer.Refused 10 0; output = tray 14 }
+  pub compile_10 : compile_to seven (tray 10) ≡ record { answer = answer.done 10; output = seven_code }
+  pub compile_9 : compile_to seven (tray 9) ≡ record { answer = answer.refused 10 0; output = tray 9 }
+  pub compile_11 : compile_to seven (tray 11) ≡ record { answer = answer.done 10; output = seven_code ++ tray 1 }
+  pub back_12 : read_back_to seven_code (tray 12) ≡ record { answer = answer.done 12; output = seven }
+  pub back_11 : read_back_to seven_code (tray 11) ≡ record { answer = answer.refused 10 0; output = tray 11 }
+  pub back_13 : read_back_to seven_code (tray 13) ≡ record { answer = answer.done 12; output = seven ++ tray 1 }
+  pub report_15 : delivered (done (listed [])) (tray 15) ≡ record { answer = answer.done 15; output = ascii "refused 1 at 0\n" }
+  pub report_14 : delivered (done (listed [])) (tray 14) ≡ record { answer = answer.refused 10 0; output = tray 14 }
   -- 1 to 9 before it (14 before it: `no_output` in LongTransactions); 11 before it
-  pub cut_no_output : compile_to [] [] ≡ record { answer = answer.Refused 1 0; output = [] }
-  pub over_no_output : compile_to (header 1 (one ++ (0 ∷ []))) [] ≡ record { answer = answer.Refused 9 12; output = [] }
-  pub foreign_no_output : read_back_to (coded []) [] ≡ record { answer = answer.Refused 11 0; output = [] }
+  pub cut_no_output : compile_to [] [] ≡ record { answer = answer.refused 1 0; output = [] }
+  pub over_no_output : compile_to (header 1 (one ++ (0 ∷ []))) [] ≡ record { answer = answer.refused 9 12; output = [] }
+  pub foreign_no_output : read_back_to (coded []) [] ≡ record { answer = answer.refused 11 0; output = [] }
   -- ---- 11, "no accepted job compiles to it", at 0 (before 12 and 13: `step_11`, `run_11`, `fresh_11` in Cases; 200 and 201 nodes: LongTransactions)
   -- the smallest code; mark and version alone; one byte less
   pub code_least : read_code (coded push7) ≡ accepted (ValP (pos 7))

@@ -1,13 +1,12 @@
 -- How the rest of an output is lent on and comes back. Assumes nothing.
 use Prim.Native.Nat.{ℕ, ◌+◌, ◌-◌, ◌≤◌}
 use mathlib.Core.Path.{◌≡◌, ap, ◌∙◌}
-use mathlib.Core.List.{List, [], ◌∷◌, ◌++◌, append-nil}
+use mathlib.Core.List.{List, [], ◌++◌, append-nil}
 use native.Mathlib.Omega.{arith}
-use lib.ListN.{length, drop, take, set, length-drop}
+use lib.ListN.{length, drop, take, length-drop}
 use lib.Seq.{drop-drop, drop-length, take_all}
 use Rattle.delivery.specs.Delivered.{onto}
 use Rattle.delivery.specs.InnerPlaces.{placed_at}
-use Rattle.delivery.proofs.Places.{one_stored}
 
 -- the rest of the output, as `&mut out[n..]` lends it
 abbrev pub rest : ℕ → List ℕ → List ℕ
@@ -29,8 +28,3 @@ lent n cs xs h =
     let e : n + (length xs - n) ≡ length xs = omega arith in
     let gone : drop (length xs - n) (drop n xs) ≡ [] = drop-drop (length xs - n) n xs ∙ (ap (λ (j : ℕ). drop j xs) e ∙ drop-length xs) in
     rw (rest_is n xs, gone, drop-drop (length cs) n xs) (simp append-nil)
-
--- a store at the front and one behind n more
-pub ends_stored : (xs : List ℕ) (n a b : ℕ) → 1 + n + 1 ≤ length xs → set (set xs 0 a) (1 + n) b ≡ placed_at (1 + n) (b ∷ []) (onto (a ∷ []) xs)
-ends_stored [] n a b h = absurd (omega arith)
-ends_stored (x ∷ xs) n a b h = one_stored (1 + n) b (a ∷ xs) (omega arith)

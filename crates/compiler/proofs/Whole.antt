@@ -7,7 +7,6 @@ use lib.ListN.{length, drop, get_or}
 use borrow.Author.Tests.{lt-ltb, le-ltb}
 use mir.Syntax.{w8}
 use mir.Val.{Fits}
-use Rattle.delivery.specs.declared.Answer.TheVariants.{Done, Refused}
 use Rattle.compiler.specs.declared.Part.{Part}
 use Rattle.compiler.specs.CompileTo.{compile_to}
 use Rattle.delivery.specs.Delivered.{onto, delivered}
@@ -16,8 +15,7 @@ use Rattle.compiler.proofs.Lists.{rest, rest_length, back, lent}
 use Rattle.delivery.proofs.Places.{placed_onto, onto_length}
 use Rattle.code.specs.Bytes.{code_mark, code_bytes, compiled}
 use Rattle.code.proofs.Flat.{code-length}
-use Rattle.job.specs.declared.Reading.{Reading}
-use Rattle.job.specs.declared.Reading.TheVariants.{Accepted as accepted, Refused as refusal}
+use Rattle.job.specs.declared.Accepted.{Accepted}
 use Rattle.job.specs.Answer.{answer}
 use Rattle.script.specs.Tree.{process}
 use Rattle.script.specs.Count.{code_length}
@@ -31,12 +29,9 @@ pub bytes_of : (job : List ℕ) → ((i : ℕ) → Fits w8 (get_or job i 0)) →
 bytes_of job h = record { small = λ i l. omega (arith, h i) }
 
 -- the reader's answer, read back
-refused_by : (o : Outcome Job) (n p : ℕ) → answer o ≡ refusal n p → o ≡ refused n p
-refused_by (refused m q) n p e =
-    let a : m ≡ n = cc in
-    let b : q ≡ p = cc in
-    rw (a, b)
-refused_by (done j) n p e = absurd (let z : ◌≡◌ {A = ℕ} 0 1 = cc in omega arith)
+refused_by : (o : Outcome Job) (n p : ℕ) → refused n p ≡ answer o → o ≡ refused n p
+refused_by (refused m q) n p e = cc
+refused_by (done j) n p e = cc
 
 record AcceptedAs (o : Outcome Job) (v l : ℕ) : Type 0 where
   job : Job
@@ -44,9 +39,11 @@ record AcceptedAs (o : Outcome Job) (v l : ℕ) : Type 0 where
   version : v ≡ job.version
   size : l ≡ code_length job.tree
 
-accepted_by : (o : Outcome Job) (v l : ℕ) → answer o ≡ accepted v l → AcceptedAs o v l
-accepted_by (refused m q) v l e = absurd (let z : ◌≡◌ {A = ℕ} 0 1 = cc in omega arith)
-accepted_by (done j) v l e = record { job = j; is = refl; version = cc; size = cc }
+accepted_by : (o : Outcome Job) (a : Accepted) → done a ≡ answer o → AcceptedAs o a.version a.length
+accepted_by (refused m q) a e = cc
+accepted_by (done j) a e =
+    let same : a ≡ record { version = j.version; length = code_length j.tree } = cc in
+    record { job = j; is = refl; version = ap (λ (b : Accepted). b.version) same; size = ap (λ (b : Accepted). b.length) same }
 
 -- an accepted job: its tree stands behind the header of 7 bytes, and its code is so long
 pub record AcceptedJob (bs : List ℕ) (v l : ℕ) : Type 0 where
@@ -59,12 +56,12 @@ pub record AcceptedJob (bs : List ℕ) (v l : ℕ) : Type 0 where
   pub ready : (ys : List ℕ) → l ≤ length ys → Emittable bs 7 64 (length (rest 5 ys))
 
 module _ (bs : List ℕ) where
-  pub found : (small : Bytes bs) (r : Reading) (v l : ℕ) → r ≡ answer (read_job bs) → r ≡ accepted v l → AcceptedJob bs v l
+  pub found : (small : Bytes bs) (r : Accepted) → done r ≡ answer (read_job bs) → AcceptedJob bs r.version r.length
   unfolding compiled code_bytes code_mark bytes16 job_bytes job_mark
-  found small r v l e f =
-      let a = accepted_by (read_job bs) v l (sym e ∙ f) in
+  found small r e =
+      let a = accepted_by (read_job bs) r e in
       let i = accepted_is_job bs a.job small a.is in
-      let z : l ≡ length (compiled a.job) = a.size ∙ sym (code-length a.job) in
+      let z : r.length ≡ length (compiled a.job) = a.size ∙ sym (code-length a.job) in
       let h : Has bs 7 process a.job.tree = record { rest = []; text = ap (drop 7) i.text ∙ sym (append-nil (bytes_p a.job.tree)) } in
       record {
         job = a.job;
@@ -77,15 +74,15 @@ module _ (bs : List ℕ) where
       }
 
   -- the three ends of compiling
-  pub turned-down : (before : List ℕ) (r : Reading) (n p : ℕ) → r ≡ answer (read_job bs) → r ≡ refusal n p → compile_to bs before ≡ record { answer = Refused n p; output = before }
+  pub turned-down : (before : List ℕ) (n p : ℕ) → refused n p ≡ answer (read_job bs) → compile_to bs before ≡ record { answer = refused n p; output = before }
   unfolding compile_to delivered
-  turned-down before r n p e f = rw (refused_by (read_job bs) n p (sym e ∙ f))
+  turned-down before n p e = rw (refused_by (read_job bs) n p e)
 
-  pub short : (before : List ℕ) (v l : ℕ) → AcceptedJob bs v l → length before < l → compile_to bs before ≡ record { answer = Refused 10 0; output = before }
+  pub short : (before : List ℕ) (v l : ℕ) → AcceptedJob bs v l → length before < l → compile_to bs before ≡ record { answer = refused 10 0; output = before }
   unfolding compile_to delivered
   short before v l f h = rw (f.is, lt-ltb (length before) (length (compiled f.job)) (omega (arith, f.size)))
 
-  pub compiles : (before : List ℕ) (v l : ℕ) (r : Part) (ys us : List ℕ) (f : AcceptedJob bs v l) → l ≤ length before → ys ≡ onto (code_header v) before → Emitted 7 r (rest 5 ys) us process f.job.tree → compile_to bs before ≡ record { answer = Done l; output = back 5 ys us }
+  pub compiles : (before : List ℕ) (v l : ℕ) (r : Part) (ys us : List ℕ) (f : AcceptedJob bs v l) → l ≤ length before → ys ≡ onto (code_header v) before → Emitted 7 r (rest 5 ys) us process f.job.tree → compile_to bs before ≡ record { answer = done l; output = back 5 ys us }
   unfolding compile_to delivered compiled code_bytes code_mark bytes16
   compiles before v l r ys us f h e m =
       let c = tree_code process f.job.tree in

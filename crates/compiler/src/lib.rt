@@ -1,16 +1,25 @@
 // The compiler: a job's stack code, written into the front of a lent output.
 #![tactic(auto)]
 
-ghost use Rattle.std.specs.Prelude.{◌+◌, ◌≤◌, length, [], ◌∷◌, ◌≡◌};
+ghost use Rattle.std.specs.Prelude.{◌+◌, ◌<◌, ◌≤◌, length, [], ◌∷◌, ◌≡◌};
 ghost use Rattle.compiler.specs.CompileTo.{compile_to};
 ghost use Rattle.decompiler.specs.ReadBackTo.{read_back_to};
 ghost use Rattle.delivery.specs.Delivered.{onto};
 ghost use Rattle.compiler.specs.InnerEmit.{Emitted, Has, Emittable, fork_bytes, code_header, part as answer, push_bytes, read_bytes};
 ghost use Rattle.delivery.specs.InnerPlaces.{placed_at};
 ghost use Rattle.script.specs.Tree.{Sort, Tree};
+ghost use Rattle.terms.specs.Numbers.{outcome};
 
-use delivery::Answer;
-use job::Reading;
+use decompiler::Opcode;
+use terms::{Kind, Reason, Refusal};
+
+// Puts bytes at a place of `out`. (The decompiler has its own: no public function has a `requires`.)
+fn put(out: &mut [u8], place: usize, bytes: &[u8])
+    requires { place + length bytes.now ≤ length out.old }
+    ensures { out.new ≡ placed_at place bytes.now out.old }
+{
+    out[place..place + bytes.len()].copy_from_slice(bytes);
+}
 
 // What emitting a node comes to: the place behind the node in the job, and how many bytes of code were written.
 #[derive(Drop)]
@@ -19,16 +28,39 @@ struct Part {
     size: usize,
 }
 
+impl Part {
+    // A node of as many bytes as its code.
+    fn leaf(at: usize, code: &[u8], out: &mut [u8]) -> Part
+        requires { (at + length code.now < 18446744073709551616) × (length code.now ≤ length out.old) }
+        ensures { (result ≡ answer (at + length code.now) (length code.now)) × (out.new ≡ onto code.now out.old) }
+    {
+        put(out, 0, code);
+        Part {
+            next: at + code.len(),
+            size: code.len(),
+        }
+    }
+
+    // The same with more code behind it.
+    fn then(self, code: &[u8], out: &mut [u8]) -> Part
+        requires { self.size + length code.now ≤ length out.old }
+        ensures { (result ≡ answer self.next (self.size + length code.now)) × (out.new ≡ placed_at self.size code.now out.old) }
+    {
+        put(out, self.size, code);
+        Part {
+            size: self.size + code.len(),
+            ..self
+        }
+    }
+}
+
 // Mark and version of the code.
 fn put_header(out: &mut [u8], version: u16)
     requires { 5 ≤ length out.old }
     ensures { out.new ≡ onto (code_header version) out.old }
 {
-    out[0] = 0x57;
-    out[1] = 0x53;
-    out[2] = 0x43;
-    out[3] = word::high(version as usize);
-    out[4] = word::low(version as usize);
+    let [high, low] = version.to_be_bytes();
+    put(out, 0, &[0x57, 0x53, 0x43, high, low]);
 }
 
 // PUSH of the number whose four bytes are the operand of the node at a place.
@@ -36,15 +68,9 @@ fn put_push(job: &[u8], at: usize, out: &mut [u8]) -> Part
     requires { (at + 5 ≤ length job.now) × (5 ≤ length out.old) }
     ensures { (result ≡ answer (at + 5) 5) × (out.new ≡ onto (push_bytes job.now at) out.old) }
 {
-    out[0] = 1;
-    out[1] = job[at + 1];
-    out[2] = job[at + 2];
-    out[3] = job[at + 3];
-    out[4] = job[at + 4];
-    Part {
-        next: at + 5,
-        size: 5,
-    }
+    let push = Opcode::Push.byte();
+    let code = [push, job[at + 1], job[at + 2], job[at + 3], job[at + 4]];
+    Part::leaf(at, &code, out)
 }
 
 // READ of the register that is the operand of the node at a place.
@@ -52,26 +78,7 @@ fn put_read(job: &[u8], at: usize, out: &mut [u8]) -> Part
     requires { (at + 2 ≤ length job.now) × (2 ≤ length out.old) }
     ensures { (result ≡ answer (at + 2) 2) × (out.new ≡ onto (read_bytes job.now at) out.old) }
 {
-    out[0] = 3;
-    out[1] = job[at + 1];
-    Part {
-        next: at + 2,
-        size: 2,
-    }
-}
-
-// WRITE of a register, behind its part's code.
-fn put_write(out: &mut [u8], part: Part, register: u8) -> Part
-    requires { part.size + 2 ≤ length out.old }
-    ensures { (result ≡ answer part.next (part.size + 2)) × (out.new ≡ placed_at part.size (4 ∷ register ∷ []) out.old) }
-{
-    let size = part.size;
-    out[size] = 4;
-    out[size + 1] = register;
-    Part {
-        next: part.next,
-        size: size + 2,
-    }
+    Part::leaf(at, &[Opcode::Read.byte(), job[at + 1]], out)
 }
 
 // ADD behind the code of both parts, the left one being `size` bytes long.
@@ -79,12 +86,11 @@ fn put_add(out: &mut [u8], size: usize, right: Part) -> Part
     requires { size + right.size + 1 ≤ length out.old }
     ensures { (result ≡ answer right.next (size + right.size + 1)) × (out.new ≡ placed_at (size + right.size) (2 ∷ []) out.old) }
 {
-    let end = size + right.size;
-    out[end] = 2;
-    Part {
-        next: right.next,
-        size: end + 1,
-    }
+    let both = Part {
+        size: size + right.size,
+        ..right
+    };
+    both.then(&[Opcode::Add.byte()], out)
 }
 
 // BEGIN in front of a transaction's code, and COMMIT behind it.
@@ -92,13 +98,12 @@ fn put_atomic(out: &mut [u8], part: Part) -> Part
     requires { 1 + part.size + 1 ≤ length out.old }
     ensures { (result ≡ answer part.next (1 + part.size + 1)) × (out.new ≡ placed_at (1 + part.size) (6 ∷ []) (onto (5 ∷ []) out.old)) }
 {
-    let end = 1 + part.size;
-    out[0] = 5;
-    out[end] = 6;
-    Part {
-        next: part.next,
-        size: end + 1,
-    }
+    put(out, 0, &[Opcode::Begin.byte()]);
+    let begun = Part {
+        size: 1 + part.size,
+        ..part
+    };
+    begun.then(&[Opcode::Commit.byte()], out)
 }
 
 // FORK and the length of its child's code, in front of that code.
@@ -106,14 +111,11 @@ fn put_fork(out: &mut [u8], child: Part) -> Part
     requires { child.size + 3 ≤ length out.old }
     ensures { (result ≡ answer child.next (child.size + 3)) × (out.new ≡ onto (fork_bytes child.size) out.old) }
 {
-    let size = child.size;
-    let end = size + 3;
-    out[0] = 7;
-    out[1] = word::high(size);
-    out[2] = word::low(size);
+    let [.., high, low] = child.size.to_be_bytes();
+    put(out, 0, &[Opcode::Fork.byte(), high, low]);
     Part {
-        next: child.next,
-        size: end,
+        size: child.size + 3,
+        ..child
     }
 }
 
@@ -123,54 +125,49 @@ fn emit(job: &[u8], at: usize, depth: u8, out: &mut [u8]) -> Part
     requires { Emittable job.now at depth (length out.old) }
     ensures { (s : Sort) (t : Tree s) → Has job.now at s t → Emitted at result out.old out.new s t }
 {
-    let kind = job[at];
+    let Ok(kind) = Kind::try_from(job[at]) else {
+        // every node has a kind
+        return Part { next: at, size: 0 };
+    };
     match kind {
-        1 | 5 => put_push(job, at, out),
-        3 => {
+        Kind::Valp | Kind::Valt => put_push(job, at, out),
+        Kind::Atomic => {
             let part = emit(job, at + 1, depth - 1, &mut out[1..]);
             put_atomic(out, part)
         }
-        4 => {
+        Kind::Fork => {
             let child = emit(job, at + 1, depth - 1, &mut out[3..]);
             put_fork(out, child)
         }
-        7 => put_read(job, at, out),
-        8 => {
+        Kind::Read => put_read(job, at, out),
+        Kind::Write => {
             let part = emit(job, at + 2, depth - 1, out);
-            put_write(out, part, job[at + 1])
+            part.then(&[Opcode::Write.byte(), job[at + 1]], out)
         }
-        2 | 6 => {
+        Kind::Addp | Kind::Addt => {
             let left = emit(job, at + 1, depth - 1, out);
-            let middle = left.next;
-            let size = left.size;
-            let right = emit(job, middle, depth - 1, &mut out[size..]);
-            put_add(out, size, right)
+            let right = emit(job, left.next, depth - 1, &mut out[left.size..]);
+            put_add(out, left.size, right)
         }
-        // no node has another kind
-        _ => Part { next: at, size: 0 },
     }
 }
 
 // Compiles a job into the front of `out`. Total: any bytes, any output. The code's length is known before the first byte is written.
-pub fn compile(job: &[u8], out: &mut [u8]) -> Answer
-    ensures { compile_to job.now out.old ≡ record { answer = result; output = out.new } }
+pub fn compile(job: &[u8], out: &mut [u8]) -> Result<usize, Refusal>
+    ensures { compile_to job.now out.old ≡ record { answer = outcome result; output = out.new } }
 {
-    match job::read_job(job) {
-        Reading::Refused(number, place) => Answer::Refused(number, place),
-        Reading::Accepted(version, length) => {
-            if out.len() < length {
-                return Answer::Refused(10, 0);
-            }
-            put_header(out, version);
-            emit(job, 7, 64, &mut out[5..]);
-            Answer::Done(length)
-        }
+    let accepted = job::read_job(job)?;
+    if out.len() < accepted.length {
+        return Err(Reason::ShortTray.at(0));
     }
+    put_header(out, accepted.version);
+    emit(job, 7, 64, &mut out[5..]);
+    Ok(accepted.length)
 }
 
 // Reads code back into the front of `out`. Total: any bytes, any output.
-pub fn read_back(code: &[u8], out: &mut [u8]) -> Answer
-    ensures { read_back_to code.now out.old ≡ record { answer = result; output = out.new } }
+pub fn read_back(code: &[u8], out: &mut [u8]) -> Result<usize, Refusal>
+    ensures { read_back_to code.now out.old ≡ record { answer = outcome result; output = out.new } }
 {
     decompiler::read_back(code, out)
 }

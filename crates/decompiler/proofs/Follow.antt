@@ -9,7 +9,8 @@ use lib.ListN.{length, drop, get_or, set, length-append, length-set}
 use lib.Seq.{get_or-set_same, get_or-set_other}
 use Rattle.delivery.specs.Delivered.{onto}
 use Rattle.delivery.specs.InnerPlaces.{inserted, placed_at}
-use Rattle.decompiler.specs.InnerState.{Pass, part_pushed, parts_merged, part_grown, child_opened, child_shut, Room, CanMove}
+use Rattle.decompiler.specs.declared.Pass.{Pass}
+use Rattle.decompiler.specs.InnerState.{part_pushed, parts_merged, part_grown, child_opened, child_shut, Room, CanMove}
 use Rattle.decompiler.specs.InnerWalk.{Starts, Ends, Sorted, Setting, Follows}
 use Rattle.delivery.proofs.Places.{inserted_onto, onto_length, placed_onto}
 use Rattle.code.specs.Reader.{Item, forked, read_ops}

@@ -11,7 +11,8 @@ use borrow.Author.Tests.{not-false}
 use Rattle.script.specs.InnerTrees.{kind_in}
 use Rattle.delivery.specs.Delivered.{onto}
 use Rattle.delivery.specs.InnerPlaces.{inserted, placed_at}
-use Rattle.decompiler.specs.InnerState.{Pass, part_pushed, parts_merged, part_grown, child_opened, child_shut, at_end, Room, CanMove}
+use Rattle.decompiler.specs.declared.Pass.{Pass}
+use Rattle.decompiler.specs.InnerState.{part_pushed, parts_merged, part_grown, child_opened, child_shut, at_end, Room, CanMove}
 use Rattle.decompiler.specs.InnerWalk.{OutsideItems, InsideItems, Sorted, Follows, TurnTaken}
 use Rattle.decompiler.proofs.Next.{none_ends, Ending, one_ends, Merges, child_merges, child_sorted, child_forks, merges_text, Closes, child_closes, FoundOp, next_found, stays_from, sum_merges, sum_sorted, commit_merges, commit_sorted, Writes, write_writes, forks_stay}
 use Rattle.decompiler.proofs.Follow.{StackRoom, small, push_stands, push_room, fork_stands, fork_room, merge_text, merge_stands, merge_moves, grow_stands, grow_moves, shut_stands}

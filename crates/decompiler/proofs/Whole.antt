@@ -9,7 +9,8 @@ use lib.ListN.{length, drop, get_or, length-append, drop_of_length-le}
 use borrow.Author.Tests.{ltb-false, not-false}
 use Rattle.decompiler.specs.InnerParts.{job_header}
 use Rattle.delivery.specs.Delivered.{onto}
-use Rattle.decompiler.specs.InnerState.{Pass, first_state}
+use Rattle.decompiler.specs.declared.Pass.{Pass}
+use Rattle.decompiler.specs.InnerState.{first_state}
 use Rattle.decompiler.specs.InnerWalk.{Walk, Restorable}
 use Rattle.delivery.proofs.Places.{onto_length, onto_onto}
 use Rattle.decompiler.proofs.Next.{text_at_end}

@@ -1,37 +1,19 @@
 -- For the proof of `read_back` only: what its functions do to the state of the pass.
 use Rattle.std.specs.Prelude.{ℕ, ◌+◌, ◌-◌, ◌≤◌, ◌<◌, Bool, ◌&&◌, List, eqb, ltb, get_or, set, replicate}
-use Rattle.decompiler.specs.declared.Cursor.{Cursor}
-
--- how far the pass has come: its cursor, where each part on the stack starts in the job, and where each open FORK's child ends
-pub record Pass : Type 0 where
-  pub starts : List ℕ
-  pub height : ℕ
-  pub ends : List ℕ
-  pub forked : ℕ
-  pub inside : Bool
-  pub place : ℕ
-  pub size : ℕ
-
--- a cursor with its two arrays
-abbrev pub joined : Cursor → (starts ends : List ℕ) → Pass
-joined c starts ends =
-    record {
-      starts = starts;
-      height = c.height;
-      ends = ends;
-      forked = c.forked;
-      inside = c.inside;
-      place = c.place;
-      size = c.size;
-    }
+use Rattle.decompiler.specs.declared.Pass.{Pass}
 
 -- before the first instruction: behind both headers
-abbrev pub first_cursor : Cursor
-first_cursor = record { height = 0; forked = 0; inside = Bool.false; place = 5; size = 7 }
-
--- the same with its arrays
 abbrev pub first_state : Pass
-first_state = joined first_cursor (replicate 64 0) (replicate 15 0)
+first_state =
+    record {
+      starts = replicate 64 0;
+      height = 0;
+      ends = replicate 15 0;
+      forked = 0;
+      inside = Bool.false;
+      place = 5;
+      size = 7;
+    }
 
 -- a part is put on the stack
 unfoldable pub part_pushed : Pass → (read written : ℕ) → Bool → Pass

@@ -1,6 +1,6 @@
 -- For the proof of `read_back` only: how the pass follows `read_ops`, its state and its output the stack that is read.
 use Rattle.std.specs.Prelude.{ℕ, ◌+◌, ◌*◌, ◌-◌, ◌≤◌, ◌<◌, ◌≡◌, Bool, true, false, List, [], ◌∷◌, ◌++◌, length, drop, get_or}
-use Rattle.decompiler.specs.InnerState.{Pass}
+use Rattle.decompiler.specs.declared.Pass.{Pass}
 use Rattle.delivery.specs.Delivered.{onto}
 use Rattle.code.specs.Reader.{Item, proc, tran, begun, forked, read_ops, read_code}
 use Rattle.code.specs.InnerParts.{job_text, forks_i}

@@ -3,3 +3,4 @@ pub mod InnerParts
 pub mod InnerState
 pub mod InnerWalk
 pub mod ReadBackTo
+pub mod Opcodes

@@ -1,13 +1,13 @@
 -- What is written to the front of an output, at a place of it and in front of a part of it, and parts that are moved on. Assumes nothing.
-use Prim.Native.Nat.{ℕ, zero, suc, ◌+◌, ◌-◌, ◌≤◌, ◌<◌}
+use Prim.Native.Nat.{ℕ, ◌+◌, ◌-◌, ◌≤◌, ◌<◌}
 use mathlib.Core.Bool.{Bool, true, false, cond, ◌||◌}
-use mathlib.Core.Path.{◌≡◌, refl, sym, ap, subst, ◌∙◌}
-use mathlib.Core.List.{List, [], ◌∷◌, ◌++◌, append_assoc}
+use mathlib.Core.Path.{◌≡◌, refl, sym, ap, ◌∙◌}
+use mathlib.Core.List.{List, [], ◌++◌, append_assoc}
 use native.Mathlib.Omega.{arith}
 use borrow.Author.Tests.{le-ltb, lt-ltb}
 use lib.Dec.{ltb}
-use lib.ListN.{length, drop, take, get_or, set, length-append, length-drop, length-take, take-append-drop, get_or-append}
-use lib.Seq.{drop-drop, drop_at, take_at, take-length, take-append-le, take-take, drop-append-add, drop-cons, get_or-take, length-take-le, sets, sets-eq, paste, paste-suc}
+use lib.ListN.{length, drop, take, length-append, length-drop, take-append-drop}
+use lib.Seq.{drop-drop, drop_at, take_at, take-append-le, take-take, drop-append-add, length-take-le, paste}
 use Rattle.delivery.specs.Delivered.{onto}
 use Rattle.delivery.specs.InnerPlaces.{placed_at, shifted, moved, inserted}
 
@@ -52,85 +52,18 @@ placed_behind bs xs r i h =
 pub onto_onto : (a b before : List ℕ) → onto (a ++ b) (onto a before) ≡ onto (a ++ b) before
 onto_onto a b before = rw (length-append a b, behind a before (length b))
 
--- ---- stores
-
-pub stored : (bs xs : List ℕ) (i : ℕ) → i + length bs ≤ length xs → sets xs i bs ≡ placed_at i bs xs
-stored bs xs i h = sets-eq bs xs i h ∙ append_assoc (take i xs) bs (drop (i + length bs) xs)
-
-pub front_stored : (bs xs : List ℕ) → length bs ≤ length xs → sets xs 0 bs ≡ onto bs xs
-front_stored bs xs h = let z : 0 + length bs ≡ length bs = omega arith in subst (λ (n : ℕ). sets xs 0 bs ≡ bs ++ drop n xs) z (stored bs xs 0 (omega arith))
-
-pub one_stored : (i a : ℕ) (xs : List ℕ) → i + 1 ≤ length xs → set xs i a ≡ placed_at i (a ∷ []) xs
-one_stored i a xs h = stored (a ∷ []) xs i h
-
-pub two_stored : (i a b : ℕ) (xs : List ℕ) → i + 2 ≤ length xs → set (set xs i a) (i + 1) b ≡ placed_at i (a ∷ b ∷ []) xs
-two_stored i a b xs h = let n : i + 1 ≡ suc i = omega arith in rw n (stored (a ∷ b ∷ []) xs i h)
-
-pub five_stored : (i a b c d e : ℕ) (xs : List ℕ) → i + 5 ≤ length xs → set (set (set (set (set xs i a) (i + 1) b) (i + 2) c) (i + 3) d) (i + 4) e ≡ placed_at i (a ∷ b ∷ c ∷ d ∷ e ∷ []) xs
-five_stored i a b c d e xs h =
-    let n₁ : i + 1 ≡ suc i = omega arith in
-    let n₂ : i + 2 ≡ suc (suc i) = omega arith in
-    let n₃ : i + 3 ≡ suc (suc (suc i)) = omega arith in
-    let n₄ : i + 4 ≡ suc (suc (suc (suc i))) = omega arith in
-    rw (n₁, n₂, n₃, n₄) (stored (a ∷ b ∷ c ∷ d ∷ e ∷ []) xs i h)
-
--- ---- copies
-
--- one byte more of a text, copied to the front
-pub copied : (i : ℕ) (out text : List ℕ) → i < length out → i < length text → set (paste out 0 text i) i (get_or text i 0) ≡ paste out 0 text (i + 1)
-copied i out text h k =
-    ap (λ (n : ℕ). set (paste out 0 text i) n (get_or text i 0)) (let z : i ≡ 0 + i = omega arith in z) ∙ paste-suc out 0 text i 0 (omega (arith, h)) k ∙ ap (paste out 0 text) (let z : suc i ≡ i + 1 = omega arith in z)
-
--- and the whole of it
-pub pasted : (out text : List ℕ) → paste out 0 text (length text) ≡ onto text out
-pasted out text = ap (λ (l : List ℕ). l ++ drop (0 + length text) out) (take-length text) ∙ ap (λ (n : ℕ). text ++ drop n out) (let z : 0 + length text ≡ length text = omega arith in z)
-
 -- ---- a part moved on
-
-pub shift_none : (e by : ℕ) (xs : List ℕ) → xs ≡ shifted e e by xs
-unfolding shifted
-shift_none e by xs = let z : e - e ≡ 0 = omega arith in rw z (sym (take-append-drop (e + by) xs))
-
-pub shift_length : (i e by : ℕ) (xs : List ℕ) → i ≤ e → e + by ≤ length xs → length (shifted i e by xs) ≡ length xs
-unfolding shifted
-shift_length i e by xs p q =
-    omega (
-      arith,
-      length-append (take (i + by) xs) (take (e - i) (drop i xs) ++ drop (e + by) xs),
-      length-append (take (e - i) (drop i xs)) (drop (e + by) xs),
-      length-take (i + by) xs,
-      length-take (e - i) (drop i xs),
-      length-drop i xs,
-      length-drop (e + by) xs,
-    )
-
-module _ (j e by : ℕ) (xs : List ℕ) (p : j < e) (q : e + by ≤ length xs) where
-  shift_read : get_or (shifted (suc j) e by xs) j 0 ≡ get_or xs j 0
-  unfolding shifted
-  shift_read =
-      let n : length (take (suc j + by) xs) ≡ suc j + by = length-take-le (suc j + by) xs (omega arith) in
-      get_or-append (take (suc j + by) xs) _ 0 j (omega arith) ∙ get_or-take (suc j + by) xs j 0 (omega arith)
-
-  shift_write : set (shifted (suc j) e by xs) (j + by) (get_or xs j 0) ≡ shifted j e by xs
-  unfolding shifted
-  shift_write =
-      let m : suc j + by ≡ j + by + 1 = omega arith in
-      let k : e - j ≡ suc (e - suc j) = omega arith in
-      let r : List ℕ = take (e - suc j) (drop (suc j) xs) ++ drop (e + by) xs in
-      let l : j + by + 1 ≤ length (take (j + by + 1) xs ++ r) = omega (arith, length-append (take (j + by + 1) xs) r, length-take-le (j + by + 1) xs (omega arith)) in
-      rw (m, k, drop-cons xs j 0 (omega arith)) (one_stored (j + by) (get_or xs j 0) (take (j + by + 1) xs ++ r) l ∙ placed_behind (get_or xs j 0 ∷ []) xs r (j + by) (omega arith))
-
-  shift_on : set (shifted (suc j) e by xs) (j + by) (get_or (shifted (suc j) e by xs) j 0) ≡ shifted j e by xs
-  shift_on = rw shift_read shift_write
-
--- one byte more is moved
-pub shift_turn : (i e by : ℕ) (xs out : List ℕ) → 1 ≤ i → i ≤ e → e + by ≤ length xs → out ≡ shifted i e by xs → set out (i - 1 + by) (get_or out (i - 1) 0) ≡ shifted (i - 1) e by xs
-shift_turn zero e by xs out h p q s = absurd (omega arith)
-shift_turn (suc j) e by xs out h p q s = let k : suc j - 1 ≡ j = omega arith in rw (s, k) (shift_on j e by xs (omega arith) q)
 
 pub moved_fits : (i e by : ℕ) (xs : List ℕ) → i ≤ e → e + by ≤ length xs → moved i e by xs ≡ shifted i e by xs
 unfolding moved
 moved_fits i e by xs p q = rw (le-ltb e i p, le-ltb (length xs) (e + by) q)
+
+-- std's copy within a list is such a move
+pub moved_within : (i e by : ℕ) (xs : List ℕ) → i ≤ e → e + by ≤ length xs → paste xs (i + by) (drop i xs) (e - i) ≡ moved i e by xs
+unfolding shifted
+moved_within i e by xs p q =
+    let n : i + by + (e - i) ≡ e + by = omega arith in
+    append_assoc (take (i + by) xs) (take (e - i) (drop i xs)) (drop (i + by + (e - i)) xs) ∙ ap (λ (k : ℕ). take (i + by) xs ++ (take (e - i) (drop i xs) ++ drop k xs)) n ∙ sym (moved_fits i e by xs p q)
 
 pub moved_none : (i e by : ℕ) (xs : List ℕ) → e < i → xs ≡ moved i e by xs
 unfolding moved

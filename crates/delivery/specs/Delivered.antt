@@ -1,12 +1,10 @@
 -- What a call comes to that writes its result to the front of a lent output: the answer, and the whole output.
 use Rattle.std.specs.Prelude.{ℕ, List, ◌++◌, ltb, length, drop}
-use Rattle.delivery.specs.declared.Answer.{Answer}
-use Rattle.delivery.specs.declared.Answer.TheVariants.{Done, Refused}
 use Rattle.script.specs.Outcome.{Outcome, refused, done, refuse, onward}
 
--- the answer of a call, and the whole output after it
+-- the answer of a call, a refusal or the length of its result, and the whole output after it
 pub record Delivered : Type 0 where
-  pub answer : Answer
+  pub answer : Outcome ℕ
   pub output : List ℕ
 
 -- the result stands at the output's start, and what is behind it is as it was
@@ -19,8 +17,8 @@ room_for before result = refuse (ltb (length before) (length result)) 10 0 (done
 
 -- "A refusal returns its number and a place, and alters no lent memory"
 abbrev pub settled : Outcome (List ℕ) → (before : List ℕ) → Delivered
-settled (refused number place) before = record { answer = Refused number place; output = before }
-settled (done result) before = record { answer = Done (length result); output = onto result before }
+settled (refused number place) before = record { answer = refused number place; output = before }
+settled (done result) before = record { answer = done (length result); output = onto result before }
 
 -- the tests before 10, then 10; then the answer and the output
 unfoldable pub delivered : Outcome (List ℕ) → (before : List ℕ) → Delivered

@@ -1,14 +1,13 @@
 -- The answer of a call that writes to a lent output, in numbers, as the answers of `fresh`, `step` and `run` are: refusal 0 is none.
 use Rattle.std.specs.Prelude.{ℕ, List}
 use Rattle.delivery.specs.Delivered.{Delivered}
-use Rattle.delivery.specs.declared.Answer.{Answer}
-use Rattle.delivery.specs.declared.Answer.TheVariants.{Done, Refused}
 use Rattle.exports.specs.declared.Written as numbers
+use Rattle.script.specs.Outcome.{Outcome, refused, done}
 
 -- the papers' number and place, or the length of the result
-unfoldable pub writing : Answer → numbers.Written
-writing (Done length) = record { refusal = 0; place = 0; length = length }
-writing (Refused number place) = record { refusal = number; place = place; length = 0 }
+abbrev pub writing : Outcome ℕ → numbers.Written
+writing (done length) = record { refusal = 0; place = 0; length = length }
+writing (refused number place) = record { refusal = number; place = place; length = 0 }
 
 -- what such a call returns: its answer, and the output
 pub record Returned : Type 0 where

@@ -11,9 +11,10 @@ ghost use Rattle.formula.specs.FormulaTo.{formula_to};
 ghost use Rattle.listing.specs.Listed.{listed};
 ghost use Rattle.script.specs.Outcome.{done};
 ghost use Rattle.script.specs.Reader.{read_job};
+ghost use Rattle.terms.specs.Numbers.{outcome};
 
-use delivery::Answer;
 use forecast::ForecastReply;
+use terms::Refusal;
 
 // The answer: the papers' number of the refusal, 0 if there is none, and the place; the length of the result, 0 if it was refused.
 #[repr(C)]
@@ -24,21 +25,23 @@ pub struct Written {
     pub length: usize,
 }
 
-// An answer in numbers.
-fn numbers(answer: Answer) -> Written
-    ensures { result ≡ writing answer }
-{
-    match answer {
-        Answer::Done(length) => Written {
-            refusal: 0,
-            place: 0,
-            length,
-        },
-        Answer::Refused(number, place) => Written {
-            refusal: number as usize,
-            place,
-            length: 0,
-        },
+impl From<Result<usize, Refusal>> for Written {
+    ghost from_gives = { λ answer numbers. numbers ≡ writing (outcome answer) };
+
+    // An answer in numbers.
+    fn from(answer: Result<usize, Refusal>) -> Written {
+        match answer {
+            Ok(length) => Written {
+                refusal: 0,
+                place: 0,
+                length,
+            },
+            Err(Refusal { reason, place }) => Written {
+                refusal: usize::from(reason.number()),
+                place,
+                length: 0,
+            },
+        }
     }
 }
 
@@ -46,21 +49,21 @@ fn numbers(answer: Answer) -> Written
 pub fn kuspigo_formula(text: &[u8], out: &mut [u8]) -> Written
     ensures { written (formula_to text.now out.old) ≡ record { reply = result; output = out.new } }
 {
-    numbers(formula::formula(text, out))
+    Written::from(formula::formula(text, out))
 }
 
 // `compiler::compile`.
 pub fn kuspigo_compile(job: &[u8], out: &mut [u8]) -> Written
     ensures { written (compile_to job.now out.old) ≡ record { reply = result; output = out.new } }
 {
-    numbers(compiler::compile(job, out))
+    Written::from(compiler::compile(job, out))
 }
 
 // `compiler::read_back`.
 pub fn kuspigo_read_back(code: &[u8], out: &mut [u8]) -> Written
     ensures { written (read_back_to code.now out.old) ≡ record { reply = result; output = out.new } }
 {
-    numbers(compiler::read_back(code, out))
+    Written::from(compiler::read_back(code, out))
 }
 
 // `forecast::forecast`.
@@ -74,7 +77,7 @@ pub fn kuspigo_forecast(job: &[u8]) -> ForecastReply
 pub fn kuspigo_report(input: &[u8], out: &mut [u8]) -> Written
     ensures { written (delivered (done (listed input.now)) out.old) ≡ record { reply = result; output = out.new } }
 {
-    numbers(listing::report(input, out))
+    Written::from(listing::report(input, out))
 }
 
 // The version of the C interface. Its name holds the number, so that a header or wrapper of another version does not link.

@@ -1,17 +1,23 @@
--- The loop walks the trees that are due, and stays within its bounds. Assumes nothing.
-use Prim.Native.Nat.{ℕ, suc, ◌+◌, ◌*◌, ◌-◌, ◌/◌, ◌%◌, ◌≤◌, ◌<◌, max}
-use mathlib.Core.Path.{◌≡◌, refl, sym, ap, subst, subst₂, ◌∙◌}
-use mathlib.Core.List.{List, [], ◌∷◌, ◌++◌, append_assoc, append-nil}
+-- The loop walks the trees that are due, and stays within its bounds. Assumes untold.
+use Prim.Native.Nat.{ℕ, suc, ◌+◌, ◌*◌, ◌≤◌, ◌<◌, max}
+use mathlib.Core.Path.{◌≡◌, refl, sym, ap, subst₂, ◌∙◌}
+use mathlib.Core.List.{List, [], ◌∷◌, ◌++◌, append_assoc, append-nil, map, reverse}
 use native.Mathlib.Omega.{arith}
-use lib.ListN.{length, drop, get_or, set, replicate, length-set, length-drop, length-append}
-use lib.Seq.{get_or-set_same, get_or-set_other, get_or-drop, drop-drop, drop-append_seam}
-use Rattle.forecast.specs.declared.Cursor.{Cursor}
-use Rattle.forecast.specs.InnerWalk.{Totals, State, state_of, first_cursor, counted, forked, begun, inside, with_read, with_write, pushed, behind, with_two, with_child, advanced, CanCount}
-use Rattle.forecast.proofs.Fold.{after_t, after_p, nothing}
+use lib.ListN.{length, drop, get_or, length-drop, length-append}
+use lib.Seq.{get_or-drop, drop-drop, drop-append_seam}
+use Rattle.std.proofs.lemmas.List.{reverse-append, length-map, length-reverse}
+use Rattle.forecast.specs.declared.Due.{Due}
+use Rattle.forecast.specs.InnerWalk.{counted, forked, begun, inside, with_read, with_write, counts_with, heights_with, parts_of, Small}
+use Rattle.forecast.proofs.Fold.{Tally, on, pushed, untold, after_t, after_p}
+use Rattle.job.proofs.KindBytes.{same_kind}
 use Rattle.script.specs.Tree.{Tran, ValT, AddT, Read, Write, Proc, ValP, AddP, Atomic, Fork}
 use Rattle.script.specs.Count.{nodes_t, nodes_p, depth_t, depth_p, forks as forks_of}
 use Rattle.script.specs.Limits.{Within}
+use Rattle.script.specs.Jobs.{operand}
 use Rattle.script.specs.Bytes.{bytes16, bytes32, VALP, ADDP, ATOMIC, FORK, VALT, ADDT, READ, WRITE, node_bytes, bytes_t, bytes_p, job_mark, job_bytes}
+use Rattle.terms.specs.Numbers.{kind_number}
+use Rattle.terms.specs.declared.Kind.{Kind}
+use Rattle.terms.specs.declared.Kind.TheVariants as kind
 
 -- ---- the parts that are due, the topmost first
 
@@ -20,10 +26,21 @@ pub data Part : Type 0 where
   proc : Proc → (base thread level : ℕ) → Part
   tran : Tran → (base thread level : ℕ) → Part
 
--- as the array holds it
-abbrev key : Part → ℕ
-key (proc p base thread level) = thread * 128 + base
-key (tran t base thread level) = thread * 128 + base
+-- as the cursor holds it
+abbrev key : Part → Due
+key (proc p base thread level) = record { thread = thread; base = base }
+key (tran t base thread level) = record { thread = thread; base = base }
+
+-- the kind of its node
+abbrev kind_on : Part → Kind
+kind_on (proc (ValP z) base thread level) = kind.Valp
+kind_on (proc (AddP a b) base thread level) = kind.Addp
+kind_on (proc (Atomic t) base thread level) = kind.Atomic
+kind_on (proc (Fork p) base thread level) = kind.Fork
+kind_on (tran (ValT z) base thread level) = kind.Valt
+kind_on (tran (AddT a b) base thread level) = kind.Addt
+kind_on (tran (Read v) base thread level) = kind.Read
+kind_on (tran (Write v t) base thread level) = kind.Write
 
 abbrev bytes_due : List Part → List ℕ
 bytes_due [] = []
@@ -41,14 +58,10 @@ forks_due (proc p base thread level ∷ ps) = forks_of p + forks_due ps
 forks_due (tran t base thread level ∷ ps) = forks_due ps
 
 -- the figures behind them all
-abbrev after_all : List Part → Totals → Totals
+abbrev after_all : List Part → Tally → Tally
 after_all [] t = t
 after_all (proc p base thread level ∷ ps) t = after_all ps (after_p p base thread t)
 after_all (tran a base thread level ∷ ps) t = after_all ps (after_t a base thread t)
-
-abbrev Held : List ℕ → List Part → Type 0
-Held due [] = Unit {0}
-Held due (p ∷ ps) = (get_or due (length ps) 0 ≡ key p) × Held due ps
 
 -- a part of this depth, above so many others that are due
 pub record Fine (depth base thread level others : ℕ) : Type 0 where
@@ -64,37 +77,39 @@ AllFine (tran t base thread level ∷ ps) = Fine (depth_t t) base thread level (
 
 -- ---- the invariant
 
-pub record Bounds (s : State) (ps : List Part) : Type 0 where
-  pub early : s.place + 5 * nodes_due ps ≤ 5007
-  pub few : s.totals.forks + forks_due ps ≤ 15
-  pub transactions : s.totals.transactions + nodes_due ps ≤ 1000
-  pub instructions : s.totals.instructions + 2 * nodes_due ps ≤ 2000
-  pub current : s.totals.current + nodes_due ps ≤ 1002
-  pub longest : s.totals.longest ≤ 1002
+pub record Bounds (place : ℕ) (t : Tally) (ps : List Part) : Type 0 where
+  pub early : place + 5 * nodes_due ps ≤ 5007
+  pub few : t.counts.forks + forks_due ps ≤ 15
+  pub transactions : t.counts.transactions + nodes_due ps ≤ 1000
+  pub instructions : t.counts.instructions + 2 * nodes_due ps ≤ 2000
+  pub current : t.counts.current + nodes_due ps ≤ 1002
+  pub longest : t.counts.longest ≤ 1002
+
+-- what is due, where the next node stands, and the figures so far
+pub record State : Type 0 where
+  pub due : List Due
+  pub place : ℕ
+  pub tally : Tally
 
 pub record Walk (job : List ℕ) (tree : Proc) (s : State) (ps : List Part) : Type 0 where
-  pub height : s.height ≡ length ps
-  pub held : Held s.due ps
-  pub long : length s.due ≡ 65
+  pub held : reverse s.due ≡ map key ps
   pub fine : AllFine ps
-  pub bounds : Bounds s ps
+  pub bounds : Bounds s.place s.tally ps
   pub text : drop s.place job ≡ bytes_due ps
-  pub same : after_all ps s.totals ≡ after_p tree 0 0 nothing
+  pub same : after_all ps s.tally ≡ after_p tree 0 0 untold
 
 pub record Inv (job : List ℕ) (tree : Proc) (s : State) : Type 0 where
   pub parts : List Part
   pub walk : Walk job tree s parts
 
 -- the root is due
-pub inv_start : (job : List ℕ) (version : ℕ) (tree : Proc) → job ≡ job_bytes version tree → Within tree → Inv job tree (state_of first_cursor (replicate 65 0) (replicate 16 0))
+pub inv_start : (job : List ℕ) (version : ℕ) (tree : Proc) → job ≡ job_bytes version tree → Within tree → Inv job tree (record { due = record { thread = 0; base = 0 } ∷ []; place = 7; tally = untold })
 unfolding job_bytes job_mark bytes16
 inv_start job version tree e w =
     record {
       parts = proc tree 0 0 1 ∷ [];
       walk = record {
-        height = refl;
-        held = (refl, tt);
-        long = refl;
+        held = refl;
         fine = (record { shallow = omega (arith, w.sized.flat); low = omega arith; known = omega arith; stair = omega arith }, tt);
         bounds = record {
           early = omega (arith, w.sized.few);
@@ -112,11 +127,6 @@ inv_start job version tree e w =
 -- ---- the bytes
 
 module _ (job : List ℕ) (place : ℕ) where
-  first_byte : (b : ℕ) (rest : List ℕ) → drop place job ≡ b ∷ rest → get_or job place 0 ≡ b
-  first_byte b rest e =
-      let z : place ≡ place + 0 = omega arith in
-      ap (λ (i : ℕ). get_or job i 0) z ∙ (sym (get_or-drop place job 0 0) ∙ ap (λ (l : List ℕ). get_or l 0 0) e)
-
   second_byte : (b v : ℕ) (rest : List ℕ) → drop place job ≡ b ∷ v ∷ rest → get_or job (place + 1) 0 ≡ v
   second_byte b v rest e = sym (get_or-drop place job 1 0) ∙ ap (λ (l : List ℕ). get_or l 1 0) e
 
@@ -152,55 +162,19 @@ deep_p (AddP a b) = omega arith
 deep_p (Atomic t) = omega arith
 deep_p (Fork p) = omega arith
 
+-- its first byte is its kind
+first_of : (p : Part) (ps : List Part) → get_or (bytes_due (p ∷ ps)) 0 0 ≡ kind_number (kind_on p)
+unfolding bytes_p bytes_t node_bytes
+first_of (proc (ValP z) base thread level) ps = refl
+first_of (proc (AddP a b) base thread level) ps = refl
+first_of (proc (Atomic t) base thread level) ps = refl
+first_of (proc (Fork p) base thread level) ps = refl
+first_of (tran (ValT z) base thread level) ps = refl
+first_of (tran (AddT a b) base thread level) ps = refl
+first_of (tran (Read v) base thread level) ps = refl
+first_of (tran (Write v t) base thread level) ps = refl
+
 -- ---- a part is due
-
--- what its node needs
-pub record Ready (job : List ℕ) (s : State) : Type 0 where
-  pub room : s.height ≤ 64
-  pub thread : get_or s.due (s.height - 1) 0 < 2048
-  pub here : s.place + 1 < length job
-
-pub ready : (job : List ℕ) (tree : Proc) (s : State) → Inv job tree s → 1 ≤ s.height → Ready job s
-ready job tree s inv some = go inv.parts inv.walk
-  where
-    top : (n k : ℕ) → s.height ≡ suc n → get_or s.due n 0 ≡ k → get_or s.due (s.height - 1) 0 ≡ k
-    top n k h e = let z : s.height - 1 ≡ n = omega arith in ap (λ (i : ℕ). get_or s.due i 0) z ∙ e
-
-    found : (depth base thread level : ℕ) (bs rest : List ℕ) (n : ℕ) → Fine depth base thread level n → 1 ≤ depth → s.height ≡ suc n → get_or s.due n 0 ≡ thread * 128 + base → drop s.place job ≡ bs ++ rest → 2 ≤ length bs → Ready job s
-    found depth base thread level bs rest n f d h e t l =
-        record {
-          room = omega (arith, f.shallow, f.stair);
-          thread = omega (arith, top n (thread * 128 + base) h e, f.shallow, f.low, f.known);
-          here = omega (arith, length-drop s.place job, ap length t, length-append bs rest);
-        }
-
-    go : (ps : List Part) → Walk job tree s ps → Ready job s
-    go [] w = absurd (omega (arith, w.height))
-    go (proc p base thread level ∷ ps) w = found (depth_p p) base thread level (bytes_p p) (bytes_due ps) (length ps) w.fine.0 (deep_p p) w.height w.held.0 w.text (two_bytes_p p)
-    go (tran t base thread level ∷ ps) w = found (depth_t t) base thread level (bytes_t t) (bytes_due ps) (length ps) w.fine.0 (deep_t t) w.height w.held.0 w.text (two_bytes_t t)
-
-pub can_count : (job : List ℕ) (tree : Proc) (c : Cursor) (due heights : List ℕ) → Inv job tree (state_of c due heights) → 1 ≤ c.height → CanCount c (get_or due (c.height - 1) 0)
-can_count job tree c due heights inv some =
-    let r = ready job tree (state_of c due heights) inv some in
-    let b = inv.walk.bounds in
-    record {
-      small = record {
-        early = omega (arith, b.early);
-        few = omega (arith, b.few);
-        transactions = omega (arith, b.transactions);
-        instructions = omega (arith, b.instructions);
-        current = omega (arith, b.current);
-      };
-      some = some;
-      room = r.room;
-      thread = r.thread;
-    }
-
--- ---- one node is counted
-
-held_set : (due : List ℕ) (ps : List Part) (m v : ℕ) → length ps ≤ m → Held due ps → Held (set due m v) ps
-held_set due [] m v h held = tt
-held_set due (p ∷ ps) m v h held = (get_or-set_other due m (length ps) v 0 (omega arith) ∙ held.0, held_set due ps m v (omega arith) held.1)
 
 -- the parts of a node are one deeper
 part_fine : {d base thread level n : ℕ} → Fine d base thread level n → (d' base' n' : ℕ) → suc d' ≤ d → base' ≤ base + 1 → n' ≤ suc n → Fine d' base' thread (suc level) n'
@@ -208,205 +182,212 @@ part_fine f d' base' n' h k l =
     record { shallow = omega (arith, f.shallow); low = omega (arith, f.low); known = f.known; stair = omega (arith, f.stair) }
 
 -- what one node may add to the figures
-record Grown (f : ℕ) (t u : Totals) : Type 0 where
-  forks : u.forks ≡ t.forks + f
-  transactions : u.transactions ≤ t.transactions + 1
-  instructions : u.instructions ≤ t.instructions + 2
-  current : u.current ≤ max 2 (t.current + 1)
-  longest : u.longest ≤ max t.longest u.current
+record Grown (f : ℕ) (t u : Tally) : Type 0 where
+  forks : u.counts.forks ≡ t.counts.forks + f
+  transactions : u.counts.transactions ≤ t.counts.transactions + 1
+  instructions : u.counts.instructions ≤ t.counts.instructions + 2
+  current : u.counts.current ≤ max 2 (t.counts.current + 1)
+  longest : u.counts.longest ≤ max t.counts.longest u.counts.current
+
+-- the bounds behind a node
+bounds_on : (place : ℕ) (t : Tally) (top : Part) (ps qs : List Part) (place' : ℕ) (u : Tally) (f : ℕ) → Bounds place t (top ∷ ps) → place' ≤ place + 5 → suc (nodes_due qs) ≡ nodes_due (top ∷ ps) → f + forks_due qs ≡ forks_due (top ∷ ps) → Grown f t u → Bounds place' u qs
+bounds_on place t top ps qs place' u f b p n k g =
+    record {
+      early = omega (arith, b.early, p, n);
+      few = omega (arith, b.few, g.forks, k);
+      transactions = omega (arith, b.transactions, g.transactions, n);
+      instructions = omega (arith, b.instructions, g.instructions, n);
+      current = omega (arith, b.current, b.transactions, g.current, n);
+      longest = omega (arith, b.longest, b.current, b.transactions, g.longest, g.current, n);
+    }
+
+-- what the node on top needs
+record Ready (job : List ℕ) (place : ℕ) (top : Part) (others : ℕ) : Type 0 where
+  room : others ≤ 63
+  thread : (key top).thread ≤ 15
+  low : (key top).base ≤ 63
+  here : place + 1 < length job
+
+ready : (job : List ℕ) (place : ℕ) (top : Part) (ps : List Part) → AllFine (top ∷ ps) → drop place job ≡ bytes_due (top ∷ ps) → Ready job place top (length ps)
+ready job place (proc p base thread level) ps f t =
+    record {
+      room = omega (arith, f.0.shallow, f.0.stair, deep_p p);
+      thread = f.0.known;
+      low = omega (arith, f.0.shallow, f.0.low, deep_p p);
+      here = omega (arith, length-drop place job, ap length t, length-append (bytes_p p) (bytes_due ps), two_bytes_p p);
+    }
+ready job place (tran p base thread level) ps f t =
+    record {
+      room = omega (arith, f.0.shallow, f.0.stair, deep_t p);
+      thread = f.0.known;
+      low = omega (arith, f.0.shallow, f.0.low, deep_t p);
+      here = omega (arith, length-drop place job, ap length t, length-append (bytes_t p) (bytes_due ps), two_bytes_t p);
+    }
 
 module _ (job : List ℕ) (tree : Proc) (s : State) where
-  -- the bounds behind a node
-  bounds_on : (top : Part) (ps qs : List Part) (s' : State) (f : ℕ) → Bounds s (top ∷ ps) → s'.place ≤ s.place + 5 → suc (nodes_due qs) ≡ nodes_due (top ∷ ps) → f + forks_due qs ≡ forks_due (top ∷ ps) → Grown f s.totals s'.totals → Bounds s' qs
-  bounds_on top ps qs s' f b p n k g =
-      record {
-        early = omega (arith, b.early, p, n);
-        few = omega (arith, b.few, g.forks, k);
-        transactions = omega (arith, b.transactions, g.transactions, n);
-        instructions = omega (arith, b.instructions, g.instructions, n);
-        current = omega (arith, b.current, b.transactions, g.current, n);
-        longest = omega (arith, b.longest, b.current, b.transactions, g.longest, g.current, n);
-      }
-
-  -- the due stack behind it: nothing, the same, another part, or two parts instead of the one on top
-  module _ (top : Part) (ps : List Part) (w : Walk job tree s (top ∷ ps)) where
-    none_due : (size : ℕ) (u : Totals) → AllFine ps → Bounds (behind s (s.height - 1) size u) ps → drop (s.place + size) job ≡ bytes_due ps → after_all ps u ≡ after_p tree 0 0 nothing → Inv job tree (behind s (s.height - 1) size u)
-    none_due size u fine b t e =
-        record {
-          parts = ps;
-          walk = record { height = omega (arith, w.height); held = w.held.1; long = w.long; fine = fine; bounds = b; text = t; same = e };
-        }
-
-    same_due : (size : ℕ) (u : Totals) (q : Part) → key q ≡ key top → AllFine (q ∷ ps) → Bounds (behind s s.height size u) (q ∷ ps) → drop (s.place + size) job ≡ bytes_due (q ∷ ps) → after_all (q ∷ ps) u ≡ after_p tree 0 0 nothing → Inv job tree (behind s s.height size u)
-    same_due size u q k fine b t e =
-        record {
-          parts = q ∷ ps;
-          walk = record { height = w.height; held = (w.held.0 ∙ sym k, w.held.1); long = w.long; fine = fine; bounds = b; text = t; same = e };
-        }
-
-    child_due : (u : Totals) (q : Part) → key q ≡ (s.totals.forks + 1) * 128 → length ps < 65 → AllFine (q ∷ ps) → Bounds (with_child s u) (q ∷ ps) → drop (s.place + 1) job ≡ bytes_due (q ∷ ps) → after_all (q ∷ ps) u ≡ after_p tree 0 0 nothing → Inv job tree (with_child s u)
-    child_due u q k l fine b t e =
-        let v = (s.totals.forks + 1) * 128 in
-        let h : s.height - 1 ≡ length ps = omega (arith, w.height) in
-        record {
-          parts = q ∷ ps;
-          walk = record {
-            height = w.height;
-            held = subst (λ (i : ℕ). Held (set s.due i v) (q ∷ ps)) (sym h) (get_or-set_same s.due (length ps) v 0 (omega (arith, w.long)) ∙ sym k, held_set s.due ps (length ps) v (omega arith) w.held.1);
-            long = length-set s.due (s.height - 1) v ∙ w.long;
-            fine = fine;
-            bounds = b;
-            text = t;
-            same = e;
-          };
-        }
-
-    two_due : (part : ℕ) (u : Totals) (a b : Part) → key a ≡ part → key b ≡ part + 1 → suc (length ps) < 65 → AllFine (a ∷ b ∷ ps) → Bounds (with_two s part u) (a ∷ b ∷ ps) → drop (s.place + 1) job ≡ bytes_due (a ∷ b ∷ ps) → after_all (a ∷ b ∷ ps) u ≡ after_p tree 0 0 nothing → Inv job tree (with_two s part u)
-    two_due part u a b ka kb l fine bs t e =
-        let n = length ps in
-        let h : s.height - 1 ≡ n = omega (arith, w.height) in
-        let due₁ = set s.due n (part + 1) in
-        let long₁ : length due₁ ≡ 65 = length-set s.due n (part + 1) ∙ w.long in
-        record {
-          parts = a ∷ b ∷ ps;
-          walk = record {
-            height = omega (arith, w.height);
-            held =
-                subst (λ (i : ℕ). Held (set (set s.due i (part + 1)) s.height part) (a ∷ b ∷ ps)) (sym h) (subst (λ (i : ℕ). Held (set due₁ i part) (a ∷ b ∷ ps)) (sym w.height) (
-                  get_or-set_same due₁ (suc n) part 0 (omega arith) ∙ sym ka,
-                  (
-                    get_or-set_other due₁ (suc n) n part 0 (omega arith) ∙ (get_or-set_same s.due n (part + 1) 0 (omega (arith, w.long)) ∙ sym kb),
-                    held_set due₁ ps (suc n) part (omega arith) (held_set s.due ps n (part + 1) (omega arith) w.held.1),
-                  ),
-                ));
-            long = length-set (set s.due (s.height - 1) (part + 1)) s.height part ∙ (length-set s.due (s.height - 1) (part + 1) ∙ w.long);
-            fine = fine;
-            bounds = bs;
-            text = t;
-            same = e;
-          };
-        }
-
-  -- the part on top, as the array holds it
-  part_is : (top : Part) (ps : List Part) → Walk job tree s (top ∷ ps) → get_or s.due (s.height - 1) 0 ≡ key top
-  part_is top ps w = let h : s.height - 1 ≡ length ps = omega (arith, w.height) in ap (λ (i : ℕ). get_or s.due i 0) h ∙ w.held.0
-
-  thread_is : {d base thread level n : ℕ} → Fine d base thread level n → 1 ≤ d → (thread * 128 + base) / 128 ≡ thread
-  thread_is f d = omega (arith, f.shallow, f.low)
-
-  base_is : {d base thread level n : ℕ} → Fine d base thread level n → 1 ≤ d → (thread * 128 + base) % 128 ≡ base
-  base_is f d = omega (arith, f.shallow, f.low)
-
-  counted_grown : (heights : List ℕ) → Grown 0 s.totals (record { forks = s.totals.forks; transactions = s.totals.transactions; instructions = s.totals.instructions + 1; current = s.totals.current; longest = s.totals.longest; reads = s.totals.reads; writes = s.totals.writes; heights = heights })
-  counted_grown heights = record { forks = omega arith; transactions = omega arith; instructions = omega arith; current = omega arith; longest = omega arith }
-
-  inside_grown : (reads writes : ℕ) (heights : List ℕ) → Grown 0 s.totals (record { forks = s.totals.forks; transactions = s.totals.transactions; instructions = s.totals.instructions + 1; current = s.totals.current + 1; longest = max s.totals.longest (s.totals.current + 1); reads = reads; writes = writes; heights = heights })
-  inside_grown reads writes heights = record { forks = omega arith; transactions = omega arith; instructions = omega arith; current = omega arith; longest = omega arith }
-
-  with-kind : {kind k part p : ℕ} (register : ℕ) → kind ≡ k → part ≡ p → Inv job tree (advanced s k register p) → Inv job tree (advanced s kind register part)
-  with-kind register e f inv = subst₂ (λ (kind part : ℕ). Inv job tree (advanced s kind register part)) (sym e) (sym f) inv
-
-  -- the node on top is counted
-  node_of : (top : Part) (ps : List Part) → Walk job tree s (top ∷ ps) → Inv job tree (advanced s (get_or job s.place 0) (get_or job (s.place + 1) 0) (get_or s.due (s.height - 1) 0))
-  unfolding advanced after_p after_t bytes_p bytes_t node_bytes bytes32 nodes_p nodes_t depth_p depth_t forks_of
-  node_of (proc (ValP z) base thread level) ps w =
-      let top = proc (ValP z) base thread level in
-      let f = w.fine.0 in
-      with-kind _ (first_byte job s.place 1 _ w.text) (part_is top ps w)
-      (rw (thread_is f (omega arith), base_is f (omega arith))
-      (none_due top ps w 5 (counted (pushed thread base s.totals)) w.fine.1
-      (bounds_on top ps ps (behind s (s.height - 1) 5 (counted (pushed thread base s.totals))) 0 w.bounds (omega arith) (omega arith) (omega arith) (counted_grown _))
-      (past job s.place (node_bytes (VALP z)) (bytes_due ps) w.text)
-      w.same))
-  node_of (proc (AddP a b) base thread level) ps w =
-      let top = proc (AddP a b) base thread level in
-      let qs = proc a base thread (suc level) ∷ proc b (base + 1) thread (suc level) ∷ ps in
-      let f = w.fine.0 in
-      let u = counted s.totals in
-      with-kind _ (first_byte job s.place 2 _ w.text) (part_is top ps w)
-      (two_due top ps w (thread * 128 + base) u (proc a base thread (suc level)) (proc b (base + 1) thread (suc level)) refl (omega arith) (omega (arith, f.shallow, f.stair, deep_p a))
-      (part_fine f (depth_p a) base (suc (length ps)) (omega arith) (omega arith) (omega arith), (part_fine f (depth_p b) (base + 1) (length ps) (omega arith) (omega arith) (omega arith), w.fine.1))
-      (bounds_on top ps qs (with_two s (thread * 128 + base) u) 0 w.bounds (omega arith) (omega arith) (omega arith) (counted_grown _))
-      (past job s.place (node_bytes ADDP) _ w.text ∙ append_assoc (bytes_p a) (bytes_p b) (bytes_due ps))
-      w.same)
-  node_of (proc (Atomic t) base thread level) ps w =
-      let top = proc (Atomic t) base thread level in
-      let q = tran t base thread (suc level) in
-      let u = begun s.totals in
-      with-kind _ (first_byte job s.place 3 _ w.text) (part_is top ps w)
-      (same_due top ps w 1 u q refl
-      (part_fine w.fine.0 (depth_t t) base (length ps) (omega arith) (omega arith) (omega arith), w.fine.1)
-      (bounds_on top ps (q ∷ ps) (behind s s.height 1 u) 0 w.bounds (omega arith) (omega arith) (omega arith)
-      (record { forks = omega arith; transactions = omega arith; instructions = omega arith; current = omega arith; longest = omega arith }))
-      (past job s.place (node_bytes ATOMIC) _ w.text)
-      w.same)
-  node_of (proc (Fork p) base thread level) ps w =
-      let top = proc (Fork p) base thread level in
-      let q = proc p 0 (s.totals.forks + 1) (suc level) in
-      let f = w.fine.0 in
-      let u = forked (pushed thread base s.totals) in
-      with-kind _ (first_byte job s.place 4 _ w.text) (part_is top ps w)
-      (rw (thread_is f (omega arith), base_is f (omega arith))
-      (child_due top ps w u q (omega arith) (omega (arith, f.shallow, f.stair))
-      (record { shallow = omega (arith, f.shallow); low = omega arith; known = omega (arith, w.bounds.few); stair = omega (arith, f.stair) }, w.fine.1)
-      (bounds_on top ps (q ∷ ps) (with_child s u) 1 w.bounds (omega arith) (omega arith) (omega arith)
-      (record { forks = omega arith; transactions = omega arith; instructions = omega arith; current = omega arith; longest = omega arith }))
-      (past job s.place (node_bytes FORK) _ w.text)
-      w.same))
-  node_of (tran (ValT z) base thread level) ps w =
-      let top = tran (ValT z) base thread level in
-      let f = w.fine.0 in
-      let u = inside (pushed thread base s.totals) in
-      with-kind _ (first_byte job s.place 5 _ w.text) (part_is top ps w)
-      (rw (thread_is f (omega arith), base_is f (omega arith))
-      (none_due top ps w 5 u w.fine.1
-      (bounds_on top ps ps (behind s (s.height - 1) 5 u) 0 w.bounds (omega arith) (omega arith) (omega arith) (inside_grown _ _ _))
-      (past job s.place (node_bytes (VALT z)) (bytes_due ps) w.text)
-      w.same))
-  node_of (tran (AddT a b) base thread level) ps w =
-      let top = tran (AddT a b) base thread level in
-      let qs = tran a base thread (suc level) ∷ tran b (base + 1) thread (suc level) ∷ ps in
-      let f = w.fine.0 in
-      let u = inside s.totals in
-      with-kind _ (first_byte job s.place 6 _ w.text) (part_is top ps w)
-      (two_due top ps w (thread * 128 + base) u (tran a base thread (suc level)) (tran b (base + 1) thread (suc level)) refl (omega arith) (omega (arith, f.shallow, f.stair, deep_t a))
-      (part_fine f (depth_t a) base (suc (length ps)) (omega arith) (omega arith) (omega arith), (part_fine f (depth_t b) (base + 1) (length ps) (omega arith) (omega arith) (omega arith), w.fine.1))
-      (bounds_on top ps qs (with_two s (thread * 128 + base) u) 0 w.bounds (omega arith) (omega arith) (omega arith) (inside_grown _ _ _))
-      (past job s.place (node_bytes ADDT) _ w.text ∙ append_assoc (bytes_t a) (bytes_t b) (bytes_due ps))
-      w.same)
-  node_of (tran (Read v) base thread level) ps w =
-      let top = tran (Read v) base thread level in
-      let f = w.fine.0 in
-      let u = with_read v (inside (pushed thread base s.totals)) in
-      with-kind _ (first_byte job s.place 7 _ w.text) (part_is top ps w)
-      (rw (thread_is f (omega arith), base_is f (omega arith), second_byte job s.place 7 v _ w.text)
-      (none_due top ps w 2 u w.fine.1
-      (bounds_on top ps ps (behind s (s.height - 1) 2 u) 0 w.bounds (omega arith) (omega arith) (omega arith) (inside_grown _ _ _))
-      (past job s.place (node_bytes (READ v)) (bytes_due ps) w.text)
-      w.same))
-  node_of (tran (Write v t) base thread level) ps w =
-      let top = tran (Write v t) base thread level in
-      let q = tran t base thread (suc level) in
-      let u = with_write v (inside s.totals) in
-      with-kind _ (first_byte job s.place 8 _ w.text) (part_is top ps w)
-      (rw (second_byte job s.place 8 v _ w.text)
-      (same_due top ps w 2 u q refl
-      (part_fine w.fine.0 (depth_t t) base (length ps) (omega arith) (omega arith) (omega arith), w.fine.1)
-      (bounds_on top ps (q ∷ ps) (behind s s.height 2 u) 0 w.bounds (omega arith) (omega arith) (omega arith) (inside_grown _ _ _))
-      (past job s.place (node_bytes (WRITE v)) _ w.text)
-      w.same))
-
-  pub node_counted : Inv job tree s → 1 ≤ s.height → Inv job tree (advanced s (get_or job s.place 0) (get_or job (s.place + 1) 0) (get_or s.due (s.height - 1) 0))
-  node_counted inv some = go inv.parts inv.walk
-    where
-      go : (ps : List Part) → Walk job tree s ps → Inv job tree (advanced s (get_or job s.place 0) (get_or job (s.place + 1) 0) (get_or s.due (s.height - 1) 0))
-      go [] w = absurd (omega (arith, w.height))
-      go (top ∷ ps) w = node_of top ps w
-
   -- all trees are counted
-  pub at-end : Inv job tree s → s.height ≡ 0 → s.totals ≡ after_p tree 0 0 nothing
+  pub at-end : Inv job tree s → s.due ≡ [] → s.tally ≡ after_p tree 0 0 untold
   at-end inv none = go inv.parts inv.walk
     where
-      go : (ps : List Part) → Walk job tree s ps → s.totals ≡ after_p tree 0 0 nothing
+      go : (ps : List Part) → Walk job tree s ps → s.tally ≡ after_p tree 0 0 untold
       go [] w = w.same
-      go (top ∷ ps) w = absurd (omega (arith, w.height))
+      go (top ∷ ps) w = absurd (let e : ◌≡◌ {A = ℕ} 0 (suc (length (map key ps))) = ap (λ (ds : List Due). length (reverse ds)) (sym none) ∙ ap length w.held in omega arith)
+
+  -- a part is due, and others behind it
+  module _ (d : Due) (rest : List Due) (is : s.due ≡ rest ++ (d ∷ [])) where
+    -- the state behind a node of this kind
+    abbrev next : Kind → (register : ℕ) → Due → State
+    next k register x =
+        record {
+          due = rest ++ parts_of k x (s.tally.counts.forks + 1);
+          place = s.place + (1 + operand (kind_number k));
+          tally = record { counts = counts_with s.tally.counts k register; heights = heights_with s.tally.heights k x };
+        }
+
+    popped : reverse s.due ≡ d ∷ reverse rest
+    popped = ap reverse is ∙ reverse-append rest (d ∷ [])
+
+    -- the part, and the others
+    record Top : Type 0 where
+      top : Part
+      ps : List Part
+      walk : Walk job tree s (top ∷ ps)
+      first : d ≡ key top
+      others : reverse rest ≡ map key ps
+
+    top_of : Inv job tree s → Top
+    top_of inv = go inv.parts inv.walk
+      where
+        go : (ps : List Part) → Walk job tree s ps → Top
+        go [] w = absurd (let e : ◌≡◌ {A = ℕ} (suc (length (reverse rest))) 0 = ap length (sym popped ∙ w.held) in omega arith)
+        go (top ∷ ps) w =
+            let e : d ∷ reverse rest ≡ key top ∷ map key ps = sym popped ∙ w.held in
+            record { top = top; ps = ps; walk = w; first = ap (λ (ds : List Due). get_or ds 0 d) e; others = ap (λ (ds : List Due). drop 1 ds) e }
+
+    -- what counting the node needs
+    pub record CanCount : Type 0 where
+      pub small : Small s.tally.counts
+      pub room : length rest ≤ 63
+      pub early : s.place ≤ 5007
+      pub thread : d.thread < 16
+      pub low : d.base < 255
+
+    pub can_count : Inv job tree s → CanCount
+    can_count inv =
+        let t = top_of inv in
+        let r = ready job s.place t.top t.ps t.walk.fine t.walk.text in
+        let b = t.walk.bounds in
+        record {
+          small = record {
+            few = omega (arith, b.few);
+            transactions = omega (arith, b.transactions);
+            instructions = omega (arith, b.instructions);
+            current = omega (arith, b.current);
+          };
+          room = omega (arith, r.room, length-reverse rest, ap length t.others, length-map t.ps key);
+          early = omega (arith, b.early);
+          thread = rw t.first (omega (arith, r.thread));
+          low = rw t.first (omega (arith, r.low));
+        }
+
+    -- its kind stands in the job, and a byte behind it
+    pub stands : Inv job tree s → (s.place + 1 < length job) × ((k : Kind) × (kind_number k ≡ get_or job s.place 0))
+    stands inv =
+        let t = top_of inv in (
+          (ready job s.place t.top t.ps t.walk.fine t.walk.text).here,
+          (kind_on t.top, sym (first_of t.top t.ps) ∙ (ap (λ (bs : List ℕ). get_or bs 0 0) (sym t.walk.text) ∙ (get_or-drop s.place job 0 0 ∙ ap (λ (i : ℕ). get_or job i 0) (let z : s.place + 0 ≡ s.place = omega arith in z)))),
+        )
+
+    -- the parts behind a node are due, so many bytes further on
+    behind : (qs : List Part) (ps : List Part) (more : List Due) (place : ℕ) (u : Tally) → reverse rest ≡ map key ps → reverse more ++ map key ps ≡ map key qs → AllFine qs → Bounds place u qs → drop place job ≡ bytes_due qs → after_all qs u ≡ after_p tree 0 0 untold → Inv job tree (record { due = rest ++ more; place = place; tally = u })
+    behind qs ps more place u o m fine b t e =
+        record {
+          parts = qs;
+          walk = record { held = reverse-append rest more ∙ (ap (λ (ds : List Due). reverse more ++ ds) o ∙ m); fine = fine; bounds = b; text = t; same = e };
+        }
+
+    counted_grown : (heights : List ℕ) → Grown 0 s.tally (record { counts = counted s.tally.counts; heights = heights })
+    counted_grown heights = record { forks = omega arith; transactions = omega arith; instructions = omega arith; current = omega arith; longest = omega arith }
+
+    inside_grown : (reads writes : ℕ) (heights : List ℕ) → Grown 0 s.tally (record { counts = record { forks = s.tally.counts.forks; transactions = s.tally.counts.transactions; instructions = s.tally.counts.instructions + 1; current = s.tally.counts.current + 1; longest = max s.tally.counts.longest (s.tally.counts.current + 1); reads = reads; writes = writes }; heights = heights })
+    inside_grown reads writes heights = record { forks = omega arith; transactions = omega arith; instructions = omega arith; current = omega arith; longest = omega arith }
+
+    -- the node on top is counted
+    node_of : (top : Part) (ps : List Part) → Walk job tree s (top ∷ ps) → reverse rest ≡ map key ps → Inv job tree (next (kind_on top) (get_or job (s.place + 1) 0) (key top))
+    unfolding after_p after_t bytes_p bytes_t node_bytes bytes32 nodes_p nodes_t depth_p depth_t forks_of operand
+    node_of (proc (ValP z) base thread level) ps w o =
+        let top = proc (ValP z) base thread level in
+        behind ps ps [] (s.place + 5) (on counted (pushed thread base s.tally)) o refl w.fine.1
+        (bounds_on s.place s.tally top ps ps (s.place + 5) (on counted (pushed thread base s.tally)) 0 w.bounds (omega arith) (omega arith) (omega arith) (counted_grown _))
+        (past job s.place (node_bytes (VALP z)) (bytes_due ps) w.text)
+        w.same
+    node_of (proc (AddP a b) base thread level) ps w o =
+        let top = proc (AddP a b) base thread level in
+        let qs = proc a base thread (suc level) ∷ proc b (base + 1) thread (suc level) ∷ ps in
+        let f = w.fine.0 in
+        behind qs ps (parts_of kind.Addp (key top) (s.tally.counts.forks + 1)) (s.place + 1) (on counted s.tally) o refl
+        (part_fine f (depth_p a) base (suc (length ps)) (omega arith) (omega arith) (omega arith), (part_fine f (depth_p b) (base + 1) (length ps) (omega arith) (omega arith) (omega arith), w.fine.1))
+        (bounds_on s.place s.tally top ps qs (s.place + 1) (on counted s.tally) 0 w.bounds (omega arith) (omega arith) (omega arith) (counted_grown _))
+        (past job s.place (node_bytes ADDP) _ w.text ∙ append_assoc (bytes_p a) (bytes_p b) (bytes_due ps))
+        w.same
+    node_of (proc (Atomic t) base thread level) ps w o =
+        let top = proc (Atomic t) base thread level in
+        let q = tran t base thread (suc level) in
+        behind (q ∷ ps) ps (key top ∷ []) (s.place + 1) (on begun s.tally) o refl
+        (part_fine w.fine.0 (depth_t t) base (length ps) (omega arith) (omega arith) (omega arith), w.fine.1)
+        (bounds_on s.place s.tally top ps (q ∷ ps) (s.place + 1) (on begun s.tally) 0 w.bounds (omega arith) (omega arith) (omega arith)
+        (record { forks = omega arith; transactions = omega arith; instructions = omega arith; current = omega arith; longest = omega arith }))
+        (past job s.place (node_bytes ATOMIC) _ w.text)
+        w.same
+    node_of (proc (Fork p) base thread level) ps w o =
+        let top = proc (Fork p) base thread level in
+        let q = proc p 0 (s.tally.counts.forks + 1) (suc level) in
+        let f = w.fine.0 in
+        let u = on forked (pushed thread base s.tally) in
+        behind (q ∷ ps) ps (parts_of kind.Fork (key top) (s.tally.counts.forks + 1)) (s.place + 1) u o refl
+        (record { shallow = omega (arith, f.shallow); low = omega arith; known = omega (arith, w.bounds.few); stair = omega (arith, f.stair) }, w.fine.1)
+        (bounds_on s.place s.tally top ps (q ∷ ps) (s.place + 1) u 1 w.bounds (omega arith) (omega arith) (omega arith)
+        (record { forks = omega arith; transactions = omega arith; instructions = omega arith; current = omega arith; longest = omega arith }))
+        (past job s.place (node_bytes FORK) _ w.text)
+        w.same
+    node_of (tran (ValT z) base thread level) ps w o =
+        let top = tran (ValT z) base thread level in
+        let u = on inside (pushed thread base s.tally) in
+        behind ps ps [] (s.place + 5) u o refl w.fine.1
+        (bounds_on s.place s.tally top ps ps (s.place + 5) u 0 w.bounds (omega arith) (omega arith) (omega arith) (inside_grown _ _ _))
+        (past job s.place (node_bytes (VALT z)) (bytes_due ps) w.text)
+        w.same
+    node_of (tran (AddT a b) base thread level) ps w o =
+        let top = tran (AddT a b) base thread level in
+        let qs = tran a base thread (suc level) ∷ tran b (base + 1) thread (suc level) ∷ ps in
+        let f = w.fine.0 in
+        behind qs ps (parts_of kind.Addt (key top) (s.tally.counts.forks + 1)) (s.place + 1) (on inside s.tally) o refl
+        (part_fine f (depth_t a) base (suc (length ps)) (omega arith) (omega arith) (omega arith), (part_fine f (depth_t b) (base + 1) (length ps) (omega arith) (omega arith) (omega arith), w.fine.1))
+        (bounds_on s.place s.tally top ps qs (s.place + 1) (on inside s.tally) 0 w.bounds (omega arith) (omega arith) (omega arith) (inside_grown _ _ _))
+        (past job s.place (node_bytes ADDT) _ w.text ∙ append_assoc (bytes_t a) (bytes_t b) (bytes_due ps))
+        w.same
+    node_of (tran (Read v) base thread level) ps w o =
+        let top = tran (Read v) base thread level in
+        let u = on (with_read v) (on inside (pushed thread base s.tally)) in
+        rw (second_byte job s.place 7 v _ w.text)
+        (behind ps ps [] (s.place + 2) u o refl w.fine.1
+        (bounds_on s.place s.tally top ps ps (s.place + 2) u 0 w.bounds (omega arith) (omega arith) (omega arith) (inside_grown _ _ _))
+        (past job s.place (node_bytes (READ v)) (bytes_due ps) w.text)
+        w.same)
+    node_of (tran (Write v t) base thread level) ps w o =
+        let top = tran (Write v t) base thread level in
+        let q = tran t base thread (suc level) in
+        let u = on (with_write v) (on inside s.tally) in
+        rw (second_byte job s.place 8 v _ w.text)
+        (behind (q ∷ ps) ps (key top ∷ []) (s.place + 2) u o refl
+        (part_fine w.fine.0 (depth_t t) base (length ps) (omega arith) (omega arith) (omega arith), w.fine.1)
+        (bounds_on s.place s.tally top ps (q ∷ ps) (s.place + 2) u 0 w.bounds (omega arith) (omega arith) (omega arith) (inside_grown _ _ _))
+        (past job s.place (node_bytes (WRITE v)) _ w.text)
+        w.same)
+
+    pub node_counted : Inv job tree s → (k : Kind) → kind_number k ≡ get_or job s.place 0 → Inv job tree (next k (get_or job (s.place + 1) 0) d)
+    node_counted inv k e =
+        let t = top_of inv in
+        let q = first_of t.top t.ps in
+        let v : get_or job s.place 0 ≡ kind_number (kind_on t.top) = ap (λ (i : ℕ). get_or job i 0) (let z : s.place ≡ s.place + 0 = omega arith in z) ∙ (sym (get_or-drop s.place job 0 0) ∙ (ap (λ (bs : List ℕ). get_or bs 0 0) t.walk.text ∙ q)) in
+        subst₂ (λ (k : Kind) (x : Due). Inv job tree (next k (get_or job (s.place + 1) 0) x)) (sym (same_kind k (kind_on t.top) (e ∙ v))) (sym t.first) (node_of t.top t.ps t.walk t.others)

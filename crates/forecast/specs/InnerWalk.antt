@@ -1,10 +1,13 @@
--- For the proof of `forecast` only: what counting one node does to the cursor and the two arrays.
-use Rattle.std.specs.Prelude.{ℕ, ◌+◌, ◌*◌, ◌-◌, ◌/◌, ◌%◌, ◌≤◌, ◌<◌, max, cond, ◌≡◌, List, eqb, get_or, set}
-use Rattle.forecast.specs.declared.Cursor.{Cursor}
+-- For the proof of `forecast` only: what counting one node does to the parts that are due and to the figures.
+use Rattle.std.specs.Prelude.{ℕ, ◌+◌, ◌≤◌, max, ◌≡◌, List, [], ◌∷◌, get_or, set}
+use Rattle.forecast.specs.declared.Due.{Due}
+use Rattle.forecast.specs.declared.Totals.{Totals}
 use Rattle.script.specs.Count.{code_length}
 use Rattle.script.specs.Jobs.{Job}
 use Rattle.script.specs.Outcome.{done}
 use Rattle.script.specs.Reader.{read_job}
+use Rattle.terms.specs.declared.Kind.{Kind}
+use Rattle.terms.specs.declared.Kind.TheVariants as kind
 use Rattle.word.specs.Registers.{none, with}
 
 -- the bytes are an accepted job whose code has this length
@@ -13,48 +16,10 @@ pub record Accepts (bs : List ℕ) (length : ℕ) : Type 0 where
   pub read : read_job bs ≡ done job
   pub long : length ≡ code_length job.tree
 
--- the figures so far; `current` is the transaction at hand
-pub record Totals : Type 0 where
-  pub forks : ℕ
-  pub transactions : ℕ
-  pub instructions : ℕ
-  pub current : ℕ
-  pub longest : ℕ
-  pub reads : ℕ
-  pub writes : ℕ
-  pub heights : List ℕ
-
--- how far the nodes are counted: the parts that are due, each as its thread times 128 and the height below it; and the figures
-pub record State : Type 0 where
-  pub due : List ℕ
-  pub height : ℕ
-  pub place : ℕ
-  pub totals : Totals
-
--- the figures that a cursor and the heights hold
-abbrev pub totals_of : Cursor → (heights : List ℕ) → Totals
-totals_of c heights =
+-- before the first node
+abbrev pub nothing : Totals
+nothing =
     record {
-      forks = c.forks;
-      transactions = c.transactions;
-      instructions = c.instructions;
-      current = c.current;
-      longest = c.longest;
-      reads = c.reads;
-      writes = c.writes;
-      heights = heights;
-    }
-
--- a cursor with its two arrays
-abbrev pub state_of : Cursor → (due heights : List ℕ) → State
-state_of c due heights = record { due = due; height = c.height; place = c.place; totals = totals_of c heights }
-
--- before the first node: the root is due
-abbrev pub first_cursor : Cursor
-first_cursor =
-    record {
-      height = 1;
-      place = 7;
       forks = 0;
       transactions = 0;
       instructions = 0;
@@ -68,7 +33,7 @@ first_cursor =
 unfoldable pub raised : List ℕ → (thread height : ℕ) → List ℕ
 raised heights thread height = set heights thread (max (get_or heights thread 0) height)
 
--- ---- the figures with one node more
+-- ---- the counts with one node more
 
 -- a node of a process
 abbrev pub counted : Totals → Totals
@@ -81,7 +46,6 @@ counted t =
       longest = t.longest;
       reads = t.reads;
       writes = t.writes;
-      heights = t.heights;
     }
 
 -- a FORK
@@ -95,7 +59,6 @@ forked t =
       longest = t.longest;
       reads = t.reads;
       writes = t.writes;
-      heights = t.heights;
     }
 
 -- an ATOMIC: BEGIN and COMMIT
@@ -109,7 +72,6 @@ begun t =
       longest = t.longest;
       reads = t.reads;
       writes = t.writes;
-      heights = t.heights;
     }
 
 -- a node of a transaction
@@ -123,7 +85,6 @@ inside t =
       longest = max t.longest (t.current + 1);
       reads = t.reads;
       writes = t.writes;
-      heights = t.heights;
     }
 
 -- a READ or a WRITE names a register
@@ -137,7 +98,6 @@ with_read register t =
       longest = t.longest;
       reads = with t.reads register;
       writes = t.writes;
-      heights = t.heights;
     }
 
 -- a WRITE names a register
@@ -151,90 +111,49 @@ with_write register t =
       longest = t.longest;
       reads = t.reads;
       writes = with t.writes register;
-      heights = t.heights;
     }
 
--- a value is put on a thread's stack
-abbrev pub pushed : (thread base : ℕ) → Totals → Totals
-pushed thread base t =
-    record {
-      forks = t.forks;
-      transactions = t.transactions;
-      instructions = t.instructions;
-      current = t.current;
-      longest = t.longest;
-      reads = t.reads;
-      writes = t.writes;
-      heights = raised t.heights thread (base + 1);
-    }
+-- a node of this kind, by the byte behind it
+abbrev pub counts_with : Totals → Kind → (register : ℕ) → Totals
+counts_with t kind.Valp register = counted t
+counts_with t kind.Addp register = counted t
+counts_with t kind.Atomic register = begun t
+counts_with t kind.Fork register = forked t
+counts_with t kind.Valt register = inside t
+counts_with t kind.Addt register = inside t
+counts_with t kind.Read register = with_read register (inside t)
+counts_with t kind.Write register = with_write register (inside t)
 
--- ---- one node
+-- what counting a node needs of the counts
+pub record Small (t : Totals) : Type 0 where
+  pub few : t.forks ≤ 15
+  pub transactions : t.transactions ≤ 1000
+  pub instructions : t.instructions ≤ 2000
+  pub current : t.current ≤ 1002
 
--- the cursor behind a node of so many bytes
-abbrev pub behind : State → (height size : ℕ) → Totals → State
-behind s height size t = record { due = s.due; height = height; place = s.place + size; totals = t }
+-- ---- the heights and the parts behind a node, by the part as which it was due
 
--- the same with other figures
-abbrev pub with_totals : State → Totals → State
-with_totals s t = record { due = s.due; height = s.height; place = s.place; totals = t }
+-- a value is put on its thread's stack
+abbrev pub pushed : List ℕ → Due → List ℕ
+pushed heights d = raised heights d.thread (d.base + 1)
 
--- the node on top has two parts, the left one on top of the right one; or a child of its own thread
-abbrev pub with_two : State → (part : ℕ) → Totals → State
-with_two s part t =
-    record {
-      due = set (set s.due (s.height - 1) (part + 1)) s.height part;
-      height = s.height + 1;
-      place = s.place + 1;
-      totals = t;
-    }
+abbrev pub heights_with : List ℕ → Kind → Due → List ℕ
+heights_with heights kind.Valp d = pushed heights d
+heights_with heights kind.Addp d = heights
+heights_with heights kind.Atomic d = heights
+heights_with heights kind.Fork d = pushed heights d
+heights_with heights kind.Valt d = pushed heights d
+heights_with heights kind.Addt d = heights
+heights_with heights kind.Read d = pushed heights d
+heights_with heights kind.Write d = heights
 
--- the node on top has one part, the child of a new thread
-abbrev pub with_child : State → Totals → State
-with_child s t =
-    record {
-      due = set s.due (s.height - 1) ((s.totals.forks + 1) * 128);
-      height = s.height;
-      place = s.place + 1;
-      totals = t;
-    }
-
--- the node on top is counted: its kind, the byte behind it, and the part that is due
-unfoldable pub advanced : State → (kind register part : ℕ) → State
-advanced s kind register part =
-    cond
-    (eqb kind 2)
-    (with_two s part (counted s.totals))
-    (cond
-    (eqb kind 3)
-    (behind s s.height 1 (begun s.totals))
-    (cond
-    (eqb kind 4)
-    (with_child s (forked (pushed (part / 128) (part % 128) s.totals)))
-    (cond
-    (eqb kind 5)
-    (behind s (s.height - 1) 5 (inside (pushed (part / 128) (part % 128) s.totals)))
-    (cond
-    (eqb kind 6)
-    (with_two s part (inside s.totals))
-    (cond
-    (eqb kind 7)
-    (behind s (s.height - 1) 2 (with_read register (inside (pushed (part / 128) (part % 128) s.totals))))
-    (cond
-    (eqb kind 8)
-    (behind s s.height 2 (with_write register (inside s.totals)))
-    (behind s (s.height - 1) 5 (counted (pushed (part / 128) (part % 128) s.totals)))))))))
-
--- what counting a node needs of the cursor
-pub record Small (c : Cursor) : Type 0 where
-  pub early : c.place ≤ 5007
-  pub few : c.forks ≤ 15
-  pub transactions : c.transactions ≤ 1000
-  pub instructions : c.instructions ≤ 2000
-  pub current : c.current ≤ 1002
-
--- and of the part that is due
-pub record CanCount (c : Cursor) (part : ℕ) : Type 0 where
-  pub small : Small c
-  pub some : 1 ≤ c.height
-  pub room : c.height ≤ 64
-  pub thread : part < 2048
+-- its parts, the one on top last: of a sum the right one is above one value more, and a FORK's is the child of a new thread
+abbrev pub parts_of : Kind → Due → (child : ℕ) → List Due
+parts_of kind.Valp d child = []
+parts_of kind.Addp d child = record { thread = d.thread; base = d.base + 1 } ∷ d ∷ []
+parts_of kind.Atomic d child = d ∷ []
+parts_of kind.Fork d child = record { thread = child; base = 0 } ∷ []
+parts_of kind.Valt d child = []
+parts_of kind.Addt d child = record { thread = d.thread; base = d.base + 1 } ∷ d ∷ []
+parts_of kind.Read d child = []
+parts_of kind.Write d child = d ∷ []

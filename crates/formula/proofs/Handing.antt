@@ -1,33 +1,33 @@
 -- What `hand_out` answers, from the job reader's answer. Assumes nothing.
 use Prim.Native.Nat.{ℕ}
-use mathlib.Core.Path.{◌≡◌, refl, sym, ap, ◌∙◌}
+use mathlib.Core.Path.{◌≡◌, refl, ap, ◌∙◌}
 use mathlib.Core.List.{List}
-use native.Mathlib.Omega.{arith}
-use Rattle.delivery.specs.declared.Answer.TheVariants.{Refused}
+use Rattle.std.specs.Prelude.{Ok, Err}
 use Rattle.delivery.specs.Delivered.{Delivered, delivered}
-use Rattle.job.specs.declared.Reading.{Reading}
-use Rattle.job.specs.declared.Reading.TheVariants.{Accepted, Refused as refusal}
+use Rattle.terms.specs.declared.Refusal.{Refusal}
+use Rattle.terms.specs.Numbers.{outcome, reason_number}
+use Rattle.job.specs.declared.Accepted.{Accepted}
 use Rattle.job.specs.Answer.{answer}
 use Rattle.script.specs.Outcome.{Outcome, refused, done, mapped}
 use Rattle.script.specs.Jobs.{Job}
 use Rattle.script.specs.Reader.{read_job}
 use Rattle.formula.specs.FormulaTo.{if_accepted}
 
-refused_by : (o : Outcome Job) (n p : ℕ) → answer o ≡ refusal n p → o ≡ refused n p
+refused_by : (o : Outcome Job) (n p : ℕ) → refused n p ≡ answer o → o ≡ refused n p
 refused_by (refused m q) n p e =
     let a : m ≡ n = cc in
     let b : q ≡ p = cc in
     rw (a, b)
-refused_by (done j) n p e = absurd (let z : ◌≡◌ {A = ℕ} 0 1 = cc in omega arith)
+refused_by (done j) n p e = cc
 
-accepted_by : (o : Outcome Job) (v l : ℕ) (job : List ℕ) → answer o ≡ Accepted v l → mapped (λ _. job) o ≡ done job
-accepted_by (refused m q) v l job e = absurd (let z : ◌≡◌ {A = ℕ} 0 1 = cc in omega arith)
-accepted_by (done j) v l job e = refl
+accepted_by : (o : Outcome Job) (a : Accepted) (job : List ℕ) → done a ≡ answer o → mapped (λ _. job) o ≡ done job
+accepted_by (refused m q) a job e = cc
+accepted_by (done j) a job e = refl
 
-module _ (job before : List ℕ) (r : Reading) (e : r ≡ answer (read_job job)) where
-  pub turned-down : (n p : ℕ) → r ≡ refusal n p → delivered (if_accepted job) before ≡ record { answer = Refused n p; output = before }
+module _ (job before : List ℕ) where
+  pub turned-down : (r : Refusal) → outcome (Err r) ≡ answer (read_job job) → delivered (if_accepted job) before ≡ record { answer = outcome (Err r); output = before }
   unfolding delivered
-  turned-down n p z = rw (refused_by (read_job job) n p (sym e ∙ z))
+  turned-down r e = rw (refused_by (read_job job) (reason_number r.reason) r.place e)
 
-  pub handed : (v l : ℕ) (a : Delivered) → r ≡ Accepted v l → delivered (done job) before ≡ a → delivered (if_accepted job) before ≡ a
-  handed v l a z d = ap (λ (o : Outcome (List ℕ)). delivered o before) (accepted_by (read_job job) v l job (sym e ∙ z)) ∙ d
+  pub handed : (a : Accepted) (d : Delivered) → outcome (Ok a) ≡ answer (read_job job) → delivered (done job) before ≡ d → delivered (if_accepted job) before ≡ d
+  handed a d e f = ap (λ (o : Outcome (List ℕ)). delivered o before) (accepted_by (read_job job) a job e) ∙ f

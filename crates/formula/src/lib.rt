@@ -1,19 +1,19 @@
 // Scripts typed as formulas: a text becomes a version 1 job.
 #![tactic(auto)]
 
-ghost use Rattle.std.specs.Prelude.{ℕ, ◌+◌, ◌*◌, ◌-◌, ◌<◌, ◌≤◌, eqb, get_or, length, replicate, false, true, List, [], ◌∷◌, ◌⊎◌, ◌≡◌};
+ghost use Rattle.std.specs.Prelude.{if◌then◌else◌, Ok, Err, ◌==◌, ℕ, ◌+◌, ◌-◌, ◌<◌, ◌≤◌, get_or, length, replicate, true, List, [], ◌∷◌, ◌≡◌};
 ghost use Rattle.delivery.specs.InnerPlaces.{inserted, placed_at};
 ghost use Rattle.delivery.specs.Delivered.{delivered, onto};
 ghost use Rattle.script.specs.Bytes.{bytes16, bytes32};
 ghost use Rattle.formula.specs.FormulaTo.{formula_to, if_accepted};
 ghost use Rattle.script.specs.InnerTrees.{kind_in, sort_of};
-ghost use Rattle.script.specs.Tree.{process, transaction};
+ghost use Rattle.script.specs.Tree.{transaction};
+ghost use Rattle.terms.specs.Numbers.{kind_number, outcome};
 ghost use Rattle.grammar.specs.Grammar.{is_blank, is_digit};
-ghost use Rattle.parsing.specs.InnerParsing.{cursor_of, is_at, Skipped, ScannedTo, Ready, TermTo, SumTo, OpeningTo, WordTo, shut_to, joined_to, Joining, TermsReady};
+ghost use Rattle.parsing.specs.InnerParsing.{is_at, Skipped, ScannedTo, Ready, TermTo, SumTo, OpeningTo, WordTo, handed, shut_to, Joining, TermsReady};
 
-use delivery::Answer;
-use job::Reading;
-use parsing::{Cursor, Opening, Scanned};
+use parsing::{Opening, Scanned};
+use terms::{Kind, Reason, Refusal};
 
 // "A text of at most 32,768 bytes"
 const MOST_TEXT: usize = 32768;
@@ -22,67 +22,47 @@ const MOST_OPEN: usize = 64;
 
 const MOST_AROUND_ATOMIC: usize = 63;
 // "signed 32-bit range", without `-` and with it; "registers are 0 to 63"
-const MOST_PLAIN: u64 = 2147483647;
+const MOST_PLAIN: u32 = 2147483647;
 
-const MOST_NEGATIVE: u64 = 2147483648;
+const MOST_NEGATIVE: u32 = 2147483648;
 
-const MOST_REGISTER: u64 = 63;
+const MOST_REGISTER: u32 = 63;
 // the nodes of a job
 const MOST_NODES: usize = 1000;
-// a cursor in one number, which a call hands back in a register (`cursor_of`): 16 bits say where, one that it was read, 20 the job's size, the others its nodes
-const READ: usize = 0x10000;
-
-const SIZE: usize = 0x20000;
-
-const NODES: usize = 0x2000000000;
+// and its bytes: 7, and 3 for each of 1,000 nodes, and 2
+const LONGEST_JOB: usize = 3009;
 
 // ---- bytes of the text
 
 // Whether it is a byte 32, 10 or 13.
+#[tactic(auto, using(std::proofs::lemmas::Bool::Decides::nat_tests), unfolding(grammar::specs::Grammar::is_blank))]
 fn is_blank(b: u8) -> bool
     ensures { result ≡ is_blank b }
 {
-    if b == b' ' {
-        return true;
-    }
-    if b == b'\n' {
-        return true;
-    }
-    b == b'\r'
+    matches!(b, b' ' | b'\n' | b'\r')
 }
 
 // Whether it is a decimal digit.
+#[tactic(auto, unfolding(grammar::specs::Grammar::is_digit))]
 fn is_digit(b: u8) -> bool
     ensures { result ≡ is_digit b }
 {
-    b'0' <= b && b <= b'9'
-}
-
-// A byte as a number to reckon with.
-fn wide(b: u8) -> u64
-    ensures { result ≡ b }
-{
-    b as u64
+    b.is_ascii_digit()
 }
 
 // Whether this byte stands there.
+#[tactic(auto, unfolding(parsing::specs::InnerParsing::is_at))]
 fn is_at(text: &[u8], at: usize, b: u8) -> bool
     ensures { result ≡ is_at text.now at b }
 {
-    if at < text.len() {
-        return text[at] == b;
-    }
-    false
+    at < text.len() && text[at] == b
 }
 
 // Whether a digit stands there.
 fn digit_at(text: &[u8], at: usize) -> bool
     ensures { result ≡ true → (at < length text.now) × (is_digit (get_or text.now at 0) ≡ true) }
 {
-    if at < text.len() {
-        return is_digit(text[at]);
-    }
-    false
+    at < text.len() && is_digit(text[at])
 }
 
 // The first byte from here on that is no blank, or the text's end.
@@ -90,351 +70,233 @@ fn skip(text: &[u8], from: usize) -> usize
     requires { from ≤ length text.now }
     ensures { Skipped text.now from result }
 {
-    let mut at = from;
-    while at < text.len() {
+    for at in from..text.len() {
         if !is_blank(text[at]) {
             return at;
         }
-        at += 1;
     }
-    at
+    text.len()
 }
 
-// Digits of a number of at most so much.
-fn digits(text: &[u8], from: usize, most: u64) -> Scanned
+// The digits of a number that end here, if there are any.
+fn scanned(from: usize, at: usize, value: u32) -> Result<Scanned, usize>
+    ensures { result ≡ (if at == from then Err at else Ok (record { at = at; value = value })) }
+{
+    if at == from {
+        return Err(at);
+    }
+    Ok(Scanned { at, value })
+}
+
+// Digits of a number of at most so much, or where they are none.
+fn digits(text: &[u8], from: usize, most: u32) -> Result<Scanned, usize>
     requires { (from ≤ length text.now) × (most ≤ 2147483648) }
     ensures { ScannedTo text.now from most result }
 {
-    let mut at = from;
-    let mut value = 0u64;
-    while at < text.len() {
+    let mut value = 0u32;
+    for at in from..text.len() {
         let b = text[at];
         if !is_digit(b) {
-            return Scanned {
-                at,
-                value,
-                failed: at == from,
-            };
+            return scanned(from, at, value);
         }
-        let next = value * 10 + (wide(b) - 48);
-        if next > most {
-            return Scanned {
-                at,
-                value,
-                failed: true,
-            };
+        let next = u64::from(value) * 10 + u64::from(b - b'0');
+        if next > u64::from(most) {
+            return Err(at);
         }
-        value = next;
-        at += 1;
+        value = next as u32;
     }
-    Scanned {
-        at,
-        value,
-        failed: at == from,
-    }
+    scanned(from, text.len(), value)
 }
 
-// ---- bytes of the job: what does not fit is not written
+// ---- the job
 
-// A byte at a place.
-fn put(job: &mut [u8], at: usize, b: u8)
-    requires { at ≤ 1000000 }
-    ensures { at + 1 ≤ length job.old → job.new ≡ placed_at at (b ∷ []) job.old }
-{
-    if at < job.len() {
-        job[at] = b;
+// A job so far: its bytes, of which the first so many are written, and its nodes. What does not fit is counted and not written.
+// That `bytes` keeps its length stands in each contract: tried as a ghost field, with which the check makes no proof of `head`.
+#[derive(Drop)]
+struct Job {
+    bytes: [u8; LONGEST_JOB],
+    size: usize,
+    nodes: usize,
+}
+
+impl Job {
+    // A node's bytes, behind those that are written.
+    fn node(&mut self, bytes: &[u8])
+        requires { (self.old.size ≤ 1000000) × (self.old.nodes ≤ 1000000) × (length bytes.now ≤ 5) }
+        ensures size { self.new.size ≡ self.old.size + length bytes.now }
+        ensures nodes { self.new.nodes ≡ self.old.nodes + 1 }
+        ensures kept { length self.new.bytes ≡ length self.old.bytes }
+        ensures written { self.old.size + length bytes.now ≤ length self.old.bytes → self.new.bytes ≡ placed_at self.old.size bytes.now self.old.bytes }
+    {
+        let start = self.size;
+        self.size += bytes.len();
+        self.nodes += 1;
+        if self.size <= self.bytes.len() {
+            self.bytes[start..self.size].copy_from_slice(bytes);
+        }
     }
-}
 
-// Two bytes.
-fn put_two(job: &mut [u8], at: usize, a: u8, b: u8)
-    requires { at ≤ 1000000 }
-    ensures { at + 2 ≤ length job.old → job.new ≡ placed_at at (a ∷ b ∷ []) job.old }
-{
-    if at + 2 <= job.len() {
-        job[at] = a;
-        job[at + 1] = b;
+    // A number's node.
+    #[tactic(auto, unfolding(script::specs::Bytes::bytes32))]
+    fn value(&mut self, inside: bool, value: u32)
+        requires { (self.old.size ≤ 1000000) × (self.old.nodes ≤ 1000000) }
+        ensures size { self.new.size ≡ self.old.size + 5 }
+        ensures nodes { self.new.nodes ≡ self.old.nodes + 1 }
+        ensures kept { length self.new.bytes ≡ length self.old.bytes }
+        ensures written { self.old.size + 5 ≤ length self.old.bytes → self.new.bytes ≡ placed_at self.old.size (kind_in inside 1 ∷ bytes32 value) self.old.bytes }
+    {
+        let kind = if inside { Kind::Valt } else { Kind::Valp };
+        let n = value.to_be_bytes();
+        self.node(&[kind.byte(), n[0], n[1], n[2], n[3]]);
     }
-}
 
-// A kind byte and a number in four bytes.
-fn put_number(job: &mut [u8], at: usize, kind: u8, n: u64)
-    requires { at ≤ 1000000 }
-    ensures { at + 5 ≤ length job.old → job.new ≡ placed_at at (kind ∷ bytes32 n) job.old }
-{
-    if at + 5 <= job.len() {
-        job[at] = kind;
-        job[at + 1] = (n / 16777216 % 256) as u8;
-        job[at + 2] = (n / 65536 % 256) as u8;
-        job[at + 3] = (n / 256 % 256) as u8;
-        job[at + 4] = (n % 256) as u8;
+    // The kind bytes of so many sums, in front of what is written from there on: the sums' terms.
+    fn join(&mut self, start: usize, adds: usize, inside: bool)
+        requires { (start ≤ self.old.size) × (self.old.size + adds ≤ 1000000) × (self.old.nodes + adds ≤ 1000000) }
+        ensures size { self.new.size ≡ self.old.size + adds }
+        ensures nodes { self.new.nodes ≡ self.old.nodes + adds }
+        ensures kept { length self.new.bytes ≡ length self.old.bytes }
+        ensures written { self.old.size + adds ≤ length self.old.bytes → self.new.bytes ≡ inserted start self.old.size (replicate adds (kind_in inside 2)) self.old.bytes }
+    {
+        let kind = if inside { Kind::Addt } else { Kind::Addp };
+        let end = self.size;
+        self.size += adds;
+        self.nodes += adds;
+        if adds > 0 && self.size <= self.bytes.len() {
+            delivery::shift(&mut self.bytes, start, end, adds);
+            self.bytes[start..start + adds].fill(kind.byte());
+        }
     }
-}
 
-// So many times the same byte.
-fn fill(job: &mut [u8], start: usize, count: usize, b: u8)
-    requires { start + count ≤ length job.old }
-    ensures { job.new ≡ placed_at start (replicate count b) job.old }
-{
-    let mut k = 0;
-    while k < count {
-        job[start + k] = b;
-        k += 1;
-    }
-}
-
-// So many bytes in front of a part of the job.
-fn put_before(job: &mut [u8], start: usize, end: usize, count: usize, b: u8)
-    requires { (start ≤ end) × (end + count ≤ 1000000) }
-    ensures { end + count ≤ length job.old → job.new ≡ inserted start end (replicate count b) job.old }
-{
-    if count == 0 {
-        return;
-    }
-    if end + count <= job.len() {
-        delivery::shift(job, start, end, count);
-        fill(job, start, count, b);
-    }
-}
-
-// The kind byte of a node that is a process outside a transaction, and four more inside one.
-fn kind(inside: bool, process: u8) -> u8
-    requires { process ≤ 4 }
-    ensures { result ≡ kind_in inside process }
-{
-    if inside {
-        return process + 4;
-    }
-    process
-}
-
-// ---- cursors
-
-// It fails there.
-fn fails(at: usize) -> usize
-    requires { at ≤ 32768 }
-    ensures { cursor_of result ≡ record { at = at; size = 0; nodes = 0; failed = true } }
-{
-    at
-}
-
-// So far the text is read, and the job has so many bytes and nodes.
-fn node(at: usize, size: usize, nodes: usize) -> usize
-    requires { (at ≤ 32768) × (size ≤ 1000000) × (nodes ≤ 1000000) }
-    ensures { cursor_of result ≡ record { at = at; size = size; nodes = nodes; failed = false } }
-{
-    at + READ + size * SIZE + nodes * NODES
-}
-
-// The cursor that a number is.
-fn cursor(r: usize) -> Cursor
-    ensures { result ≡ cursor_of r }
-{
-    Cursor {
-        at: r % READ,
-        size: r / SIZE % 0x100000,
-        nodes: r / NODES,
-        failed: r / READ % 2 == 0,
+    // The header, in version 1.
+    #[tactic(auto, unfolding(script::specs::Bytes::bytes16))]
+    fn head(&mut self)
+        requires { self.old.nodes ≤ 1000 }
+        ensures size { self.new.size ≡ self.old.size }
+        ensures kept { length self.new.bytes ≡ length self.old.bytes }
+        ensures written { self.new.bytes ≡ onto (0x57 ∷ 0x53 ∷ 0x4A ∷ 0 ∷ 1 ∷ bytes16 self.old.nodes) self.old.bytes }
+    {
+        let count = (self.nodes as u16).to_be_bytes();
+        self.bytes[..7].copy_from_slice(&[b'W', b'S', b'J', 0, 1, count[0], count[1]]);
     }
 }
 
-// ---- the reader
+// ---- the reader: a function answers the place behind what it reads, or the one where that is no script
 
 // A number without a sign that begins here.
-fn number(text: &[u8], at: usize, size: usize, nodes: usize, inside: bool, job: &mut [u8]) -> usize
-    requires { (Ready text.now at size nodes 0) × (at < length text.now) × (is_digit (get_or text.now at 0) ≡ true) }
-    ensures { (opened : ℕ) → TermTo (sort_of inside) text.now at size nodes opened (cursor_of result) job.old job.new }
+fn number(text: &[u8], from: usize, inside: bool, job: &mut Job) -> Result<usize, usize>
+    requires { (Ready text.now from job.old.size job.old.nodes 0) × (from < length text.now) × (is_digit (get_or text.now from 0) ≡ true) }
+    ensures { (opened : ℕ) → TermTo (sort_of inside) text.now from job.old.size job.old.nodes opened (handed result job.new.size job.new.nodes) job.old.bytes job.new.bytes }
 {
-    let d = digits(text, at, MOST_PLAIN);
-    if d.failed {
-        return fails(d.at);
-    }
-    let k = kind(inside, 1);
-    put_number(job, size, k, d.value);
-    node(d.at, size + 5, nodes + 1)
+    let read = digits(text, from, MOST_PLAIN)?;
+    job.value(inside, read.value);
+    Ok(read.at)
 }
 
 // A `-` and behind it a number.
-fn negative(
-    text: &[u8],
-    at: usize,
-    size: usize,
-    nodes: usize,
-    inside: bool,
-    job: &mut [u8],
-) -> usize
-    requires { (Ready text.now at size nodes 0) × (at < length text.now) × (get_or text.now at 0 ≡ 45) }
-    ensures { (opened : ℕ) → TermTo (sort_of inside) text.now at size nodes opened (cursor_of result) job.old job.new }
+fn negative(text: &[u8], from: usize, inside: bool, job: &mut Job) -> Result<usize, usize>
+    requires { (Ready text.now from job.old.size job.old.nodes 0) × (from < length text.now) × (get_or text.now from 0 ≡ 45) }
+    ensures { (opened : ℕ) → TermTo (sort_of inside) text.now from job.old.size job.old.nodes opened (handed result job.new.size job.new.nodes) job.old.bytes job.new.bytes }
 {
-    let d = digits(text, at + 1, MOST_NEGATIVE);
-    if d.failed {
-        return fails(d.at);
-    }
-    let n = (4294967296 - d.value) % 4294967296;
-    let k = kind(inside, 1);
-    put_number(job, size, k, n);
-    node(d.at, size + 5, nodes + 1)
+    let read = digits(text, from + 1, MOST_NEGATIVE)?;
+    job.value(inside, read.value.wrapping_neg());
+    Ok(read.at)
 }
 
 // A register that begins here.
-fn register(text: &[u8], at: usize, size: usize, nodes: usize, job: &mut [u8]) -> usize
-    requires { (Ready text.now at size nodes 0) × (at < length text.now) × (get_or text.now at 0 ≡ 114) }
-    ensures { (opened : ℕ) → TermTo transaction text.now at size nodes opened (cursor_of result) job.old job.new }
+fn register(text: &[u8], from: usize, job: &mut Job) -> Result<usize, usize>
+    requires { (Ready text.now from job.old.size job.old.nodes 0) × (from < length text.now) × (get_or text.now from 0 ≡ 114) }
+    ensures { (opened : ℕ) → TermTo transaction text.now from job.old.size job.old.nodes opened (handed result job.new.size job.new.nodes) job.old.bytes job.new.bytes }
 {
-    let d = digits(text, at + 1, MOST_REGISTER);
-    if d.failed {
-        return fails(d.at);
-    }
-    put_two(job, size, 7, (d.value % 256) as u8);
-    node(d.at, size + 2, nodes + 1)
+    let read = digits(text, from + 1, MOST_REGISTER)?;
+    job.node(&[Kind::Read.byte(), read.value as u8]);
+    Ok(read.at)
 }
 
 // A write's register and `:=`, if a transaction begins with these.
-fn opening(text: &[u8], from: usize, opened: usize) -> Opening
-    requires { (from ≤ length text.now) × (length text.now ≤ 32768) }
+fn opening(text: &[u8], from: usize, opened: usize) -> Result<Opening, usize>
+    requires { from ≤ length text.now }
     ensures { OpeningTo text.now from opened result }
 {
     let at = skip(text, from);
     if !is_at(text, at, b'r') {
-        return Opening::Other(at);
+        return Ok(Opening::Other(at));
     }
-    let d = digits(text, at + 1, MOST_REGISTER);
-    if d.failed {
-        return Opening::Fails(d.at);
-    }
-    let v = (d.value % 256) as u8;
-    let colon = skip(text, d.at);
+    let read = digits(text, at + 1, MOST_REGISTER)?;
+    let register = read.value as u8;
+    let colon = skip(text, read.at);
     if !is_at(text, colon, b':') {
-        return Opening::Read(colon, v);
+        return Ok(Opening::Read(colon, register));
     }
     if opened >= MOST_OPEN {
-        return Opening::Fails(colon);
+        return Err(colon);
     }
     if !is_at(text, colon + 1, b'=') {
-        return Opening::Fails(colon + 1);
+        return Err(colon + 1);
     }
-    Opening::Write(colon + 2, v)
+    Ok(Opening::Write(colon + 2, register))
 }
 
-// The place of the first letter of `fork` that is not there, or the place behind the word.
-fn fork_word(text: &[u8], at: usize) -> usize
-    requires { (at < length text.now) × (length text.now ≤ 32768) × (get_or text.now at 0 ≡ 102) }
-    ensures { WordTo text.now at (111 ∷ 114 ∷ 107 ∷ []) result }
+// The place behind these letters of a word, or of the first one that is not there.
+fn word(text: &[u8], from: usize, letters: &[u8]) -> Result<usize, usize>
+    requires { from ≤ length text.now }
+    ensures { WordTo text.now from letters.now result }
 {
-    if !is_at(text, at + 1, b'o') {
-        return at + 1;
+    for (i, letter) in letters.iter().enumerate() {
+        if !is_at(text, from + i, *letter) {
+            return Err(from + i);
+        }
     }
-    if !is_at(text, at + 2, b'r') {
-        return at + 2;
-    }
-    if !is_at(text, at + 3, b'k') {
-        return at + 3;
-    }
-    at + 4
-}
-
-// The same of `atomic`.
-fn atomic_word(text: &[u8], at: usize) -> usize
-    requires { (at < length text.now) × (length text.now ≤ 32768) × (get_or text.now at 0 ≡ 97) }
-    ensures { WordTo text.now at (116 ∷ 111 ∷ 109 ∷ 105 ∷ 99 ∷ []) result }
-{
-    if !is_at(text, at + 1, b't') {
-        return at + 1;
-    }
-    if !is_at(text, at + 2, b'o') {
-        return at + 2;
-    }
-    if !is_at(text, at + 3, b'm') {
-        return at + 3;
-    }
-    if !is_at(text, at + 4, b'i') {
-        return at + 4;
-    }
-    if !is_at(text, at + 5, b'c') {
-        return at + 5;
-    }
-    at + 6
+    Ok(from + letters.len())
 }
 
 // Whether a bracket stands there that may be opened.
 fn opens(text: &[u8], at: usize, opened: usize) -> bool
     ensures { result ≡ true → (opened < 64) × (is_at text.now at 40 ≡ true) }
 {
-    if opened >= MOST_OPEN {
-        return false;
-    }
-    is_at(text, at, b'(')
+    opened < MOST_OPEN && is_at(text, at, b'(')
 }
 
-// A sum, and behind it its bracket.
-fn shut(text: &[u8], s: usize) -> usize
-    requires { ((cursor_of s).at ≤ length text.now) × (length text.now ≤ 32768) }
-    ensures { cursor_of result ≡ shut_to text.now (cursor_of s) }
+// The bracket behind a sum.
+#[tactic(auto, unfolding(parsing::specs::InnerParsing::shut_to))]
+fn shut(text: &[u8], at: usize) -> Result<usize, usize>
+    requires { at ≤ length text.now }
+    ensures { result ≡ shut_to text.now at }
 {
-    let c = cursor(s);
-    if c.failed {
-        return s;
+    if !is_at(text, at, b')') {
+        return Err(at);
     }
-    let at = c.at;
-    if is_at(text, at, b')') {
-        return s + 1;
-    }
-    fails(at)
-}
-
-// The terms of a sum are written: their sums' kind bytes go in front of them.
-fn joined(last: Cursor, at: usize, start: usize, adds: usize, inside: bool, job: &mut [u8]) -> usize
-    requires { (at ≤ 32768) × (start ≤ last.size) × (last.size + adds ≤ 1000000) × (last.nodes + adds ≤ 1000000) }
-    ensures { (cursor_of result ≡ joined_to last at adds) × (last.size + adds ≤ length job.old → job.new ≡ inserted start last.size (replicate adds (kind_in inside 2)) job.old) }
-{
-    let size = last.size;
-    let b = kind(inside, 2);
-    put_before(job, start, size, adds, b);
-    node(at, size + adds, last.nodes + adds)
+    Ok(at + 1)
 }
 
 // A process, or a transaction: a write, or terms joined by `+`.
 #[cycle(sum_term_terms)]
-fn sum(
-    text: &[u8],
-    from: usize,
-    start: usize,
-    nodes: usize,
-    opened: usize,
-    inside: bool,
-    job: &mut [u8],
-) -> usize
-    requires { Ready text.now from start nodes opened }
-    ensures { SumTo (sort_of inside) text.now from start nodes opened (cursor_of result) job.old job.new }
+fn sum(text: &[u8], from: usize, opened: usize, inside: bool, job: &mut Job) -> Result<usize, usize>
+    requires { Ready text.now from job.old.size job.old.nodes opened }
+    ensures { SumTo (sort_of inside) text.now from job.old.size job.old.nodes opened (handed result job.new.size job.new.nodes) job.old.bytes job.new.bytes }
 {
-    let mut head = 0;
+    let start = job.size;
     let at = skip(text, from);
-    if opens(text, at, opened) {
-        let s = sum(text, at + 1, start, nodes, opened + 1, inside, job);
-        head = shut(text, s);
+    let head = if opens(text, at, opened) {
+        let end = sum(text, at + 1, opened + 1, inside, job)?;
+        shut(text, end)?
     } else if digit_at(text, at) {
-        head = number(text, at, start, nodes, inside, job);
+        number(text, at, inside, job)?
     } else if inside {
-        let o = opening(text, from, opened);
-        match o {
-            Opening::Write(next, v) => {
-                put_two(job, start, 8, v);
-                return sum(text, next, start + 2, nodes + 1, opened + 1, true, job);
+        match opening(text, from, opened)? {
+            Opening::Write(next, register) => {
+                job.node(&[Kind::Write.byte(), register]);
+                return sum(text, next, opened + 1, true, job);
             }
-            Opening::Read(next, v) => {
-                put_two(job, start, 7, v);
-                head = node(next, start + 2, nodes + 1);
+            Opening::Read(next, register) => {
+                job.node(&[Kind::Read.byte(), register]);
+                next
             }
-            Opening::Fails(place) => {
-                return fails(place);
-            }
-            Opening::Other(next) => {
-                head = term(text, next, start, nodes, opened, true, job);
-            }
+            Opening::Other(next) => term(text, next, opened, true, job)?,
         }
     } else {
-        head = term(text, at, start, nodes, opened, false, job);
-    }
+        term(text, at, opened, false, job)?
+    };
     terms(text, head, start, opened, inside, job)
 }
 
@@ -446,29 +308,25 @@ fn terms(
     start: usize,
     opened: usize,
     inside: bool,
-    job: &mut [u8],
-) -> usize
-    requires { TermsReady text.now start opened (cursor_of head) }
-    ensures { (from nodes : ℕ) (before : List ℕ) → Joining inside text.now from start nodes opened (cursor_of head) 0 before job.old → SumTo (sort_of inside) text.now from start nodes opened (cursor_of result) before job.new }
+    job: &mut Job,
+) -> Result<usize, usize>
+    requires { TermsReady text.now start opened (record { at = head; size = job.old.size; nodes = job.old.nodes }) }
+    ensures { (from nodes : ℕ) (before : List ℕ) → Joining inside text.now from start nodes opened (record { at = head; size = job.old.size; nodes = job.old.nodes }) 0 before job.old.bytes → SumTo (sort_of inside) text.now from start nodes opened (handed result job.new.size job.new.nodes) before job.new.bytes }
 {
-    let mut last = cursor(head);
+    let mut last = head;
     let mut adds = 0;
     loop {
-        if last.failed {
-            return fails(last.at);
-        }
-        let at = skip(text, last.at);
+        let at = skip(text, last);
         if !is_at(text, at, b'+') {
-            return joined(last, at, start, adds, inside, job);
+            job.join(start, adds, inside);
+            return Ok(at);
         }
-        let i = skip(text, at + 1);
+        let next = skip(text, at + 1);
         adds += 1;
-        if digit_at(text, i) {
-            let n = number(text, i, last.size, last.nodes, inside, job);
-            last = cursor(n);
+        if digit_at(text, next) {
+            last = number(text, next, inside, job)?;
         } else {
-            let n = term(text, i, last.size, last.nodes, opened, inside, job);
-            last = cursor(n);
+            last = term(text, next, opened, inside, job)?;
         }
     }
 }
@@ -478,130 +336,92 @@ fn terms(
 fn term(
     text: &[u8],
     from: usize,
-    size: usize,
-    nodes: usize,
     opened: usize,
     inside: bool,
-    job: &mut [u8],
-) -> usize
-    requires { Ready text.now from size nodes opened }
-    ensures { TermTo (sort_of inside) text.now from size nodes opened (cursor_of result) job.old job.new }
+    job: &mut Job,
+) -> Result<usize, usize>
+    requires { Ready text.now from job.old.size job.old.nodes opened }
+    ensures { TermTo (sort_of inside) text.now from job.old.size job.old.nodes opened (handed result job.new.size job.new.nodes) job.old.bytes job.new.bytes }
 {
     let at = skip(text, from);
     if at >= text.len() {
-        return fails(at);
+        return Err(at);
     }
     let b = text[at];
     if is_digit(b) {
-        return number(text, at, size, nodes, inside, job);
+        return number(text, at, inside, job);
     }
     if b == b'-' {
-        return negative(text, at, size, nodes, inside, job);
+        return negative(text, at, inside, job);
     }
     if b == b'(' {
         if opened >= MOST_OPEN {
-            return fails(at);
+            return Err(at);
         }
-        return shut(
-            text,
-            sum(text, at + 1, size, nodes, opened + 1, inside, job),
-        );
+        let end = sum(text, at + 1, opened + 1, inside, job)?;
+        return shut(text, end);
     }
     if inside {
         if b == b'r' {
-            return register(text, at, size, nodes, job);
+            return register(text, at, job);
         }
-        return fails(at);
+        return Err(at);
     }
     if b == b'f' {
         if opened >= MOST_OPEN {
-            return fails(at);
+            return Err(at);
         }
-        let end = fork_word(text, at);
-        if end < at + 4 {
-            return fails(end);
-        }
-        put(job, size, 4);
-        return term(text, end, size + 1, nodes + 1, opened + 1, false, job);
+        let next = word(text, at + 1, b"ork")?;
+        job.node(&[Kind::Fork.byte()]);
+        return term(text, next, opened + 1, false, job);
     }
-    if b != b'a' {
-        return fails(at);
+    if b != b'a' || opened >= MOST_AROUND_ATOMIC {
+        return Err(at);
     }
-    if opened >= MOST_AROUND_ATOMIC {
-        return fails(at);
-    }
-    let end = atomic_word(text, at);
-    if end < at + 6 {
-        return fails(end);
-    }
-    let bracket = skip(text, end);
+    let next = word(text, at + 1, b"tomic")?;
+    let bracket = skip(text, next);
     if !is_at(text, bracket, b'(') {
-        return fails(bracket);
+        return Err(bracket);
     }
-    put(job, size, 3);
-    shut(
-        text,
-        sum(
-            text,
-            bracket + 1,
-            size + 1,
-            nodes + 1,
-            opened + 2,
-            true,
-            job,
-        ),
-    )
+    job.node(&[Kind::Atomic.byte()]);
+    let end = sum(text, bracket + 1, opened + 2, true, job)?;
+    shut(text, end)
 }
 
 // ---- the entry
 
-// The header of a job of so many nodes, in version 1.
-fn put_header(job: &mut [u8], nodes: usize)
-    requires { 7 ≤ length job.old }
-    ensures { job.new ≡ onto (0x57 ∷ 0x53 ∷ 0x4A ∷ 0 ∷ 1 ∷ bytes16 nodes) job.old }
-{
-    job[0] = 0x57;
-    job[1] = 0x53;
-    job[2] = 0x4A;
-    job[3] = 0;
-    job[4] = 1;
-    job[5] = word::high(nodes);
-    job[6] = word::low(nodes);
-}
-
 // The job's refusals, then 10; else the job is delivered.
-fn hand_out(job: &[u8], out: &mut [u8]) -> Answer
-    ensures { delivered (if_accepted job.now) out.old ≡ record { answer = result; output = out.new } }
+fn hand_out(job: &[u8], out: &mut [u8]) -> Result<usize, Refusal>
+    ensures { delivered (if_accepted job.now) out.old ≡ record { answer = outcome result; output = out.new } }
 {
-    let reading = job::read_job(job);
-    match reading {
-        Reading::Refused(number, place) => Answer::Refused(number, place),
-        Reading::Accepted(_, _) => delivery::deliver(out, job),
-    }
+    job::read_job(job)?;
+    delivery::deliver(out, job)
 }
 
-// Writes the job of a text to the front of `out`. Total: any bytes, any output.
-pub fn formula(text: &[u8], out: &mut [u8]) -> Answer
-    ensures { formula_to text.now out.old ≡ record { answer = result; output = out.new } }
+// Writes the job of a text to the front of `out`, and answers its length. Total: any bytes, any output.
+pub fn formula(text: &[u8], out: &mut [u8]) -> Result<usize, Refusal>
+    ensures { formula_to text.now out.old ≡ record { answer = outcome result; output = out.new } }
 {
     if text.len() > MOST_TEXT {
-        return Answer::Refused(15, MOST_TEXT);
+        return Err(Reason::NoScript.at(MOST_TEXT));
     }
-    let mut job = [0u8; 3009];
-    let end = sum(text, 0, 7, 0, 0, false, &mut job);
-    let c = cursor(end);
-    let at = c.at;
-    if c.failed {
-        return Answer::Refused(15, at);
+    let mut job = Job {
+        bytes: [0u8; LONGEST_JOB],
+        size: 7,
+        nodes: 0,
+    };
+    let end = match sum(text, 0, 0, false, &mut job) {
+        Ok(end) => end,
+        Err(place) => return Err(Reason::NoScript.at(place)),
+    };
+    if end < text.len() {
+        return Err(Reason::NoScript.at(end));
     }
-    if at < text.len() {
-        return Answer::Refused(15, at);
+    if job.nodes > MOST_NODES {
+        return Err(Reason::Count.at(5));
     }
-    let nodes = c.nodes;
-    if nodes > MOST_NODES {
-        return Answer::Refused(4, 5);
-    }
-    put_header(&mut job, nodes);
-    let size = c.size;
-    hand_out(&job[..size], out)
+    job.head();
+    let size = job.size;
+    let made = &job.bytes[..size];
+    hand_out(made, out)
 }

@@ -1,13 +1,14 @@
 -- A script is read, and its tree is the one that is read. Assumes nothing.
 use Prim.Native.Nat.{ℕ, ◌+◌, ◌*◌, ◌-◌, ◌≤◌, ◌<◌}
 use mathlib.Core.Path.{◌≡◌, refl, sym, ap, ◌∙◌, subst}
-use mathlib.Core.Bool.{Bool, true, false, ◌&&◌, ◌||◌}
+use mathlib.Core.Bool.{Bool, true, false, ◌||◌}
 use mathlib.Core.List.{List, [], ◌∷◌}
 use mathlib.Core.Logic.{◌⊎◌, inl, inr, ⊎_elim}
 use native.Mathlib.Omega.{arith}
 use lib.Dec.{eqb, leb}
 use lib.IntN.{ℤ}
 use borrow.Author.Tests.{lt-ltb, le-leb, eq-eqb, ne_eqb, eqb-true, leb-true}
+use Rattle.script.proofs.Accepts.{both}
 use Rattle.script.specs.Tree.{Tran, Read, Write, Proc, Atomic, Sort, process, transaction, Tree}
 use Rattle.grammar.specs.Grammar.{is_blank, is_digit, value, sum, most_open, Blanks, Spelled, Digits, Decimal, Number, Register, Around, Lexeme, Formula, Terms, Term, IsScript, most_plain, most_negative, most_register}
 use Rattle.grammar.specs.Reader.{SumIn, TermIn, text, bracket, atomic, write, first, added, forked, opens_s, opens_t, sum_in, grown, State, want, dash, number, unopened, letter_r, register, registered, after, on, most_size, signed_number, closed, step_after, step_registered, behind_register, step_number, step_register, step_letter, step_want, spelling, step, fails, reads, end_after, finish, read_from, begin}
@@ -18,10 +19,6 @@ unfolding read_from
 goes x y b bs e = rw (e, read_from)
 
 -- a digit is no blank
-pub both : (a b : Bool) → (a && b) ≡ true → (a ≡ true) × (b ≡ true)
-both true b e = (refl, e)
-both false b e = absurd (let z : ◌≡◌ {A = ℕ} 0 1 = cc in omega arith)
-
 pub digit_low : (b : ℕ) → is_digit b ≡ true → (48 ≤ b) × (b ≤ 57)
 unfolding is_digit
 digit_low b e = let h = both (leb 48 b) (leb b 57) e in (leb-true 48 b h.0, leb-true b 57 h.1)

@@ -28,7 +28,7 @@ data Way {s : Sort} (c : SumIn s) (t : Tree s) : Type 0 where
   shuts : (y : State) → closed c t ≡ on y → Completes y → Way c t
 
 never : {A : Type 0} (left : ℕ) (p : Proc) → fails left ≡ reads p → A
-never left p e = let z : ◌≡◌ {A = ℕ} 0 1 = cc in absurd (omega arith)
+never left p e = absurd (cc)
 
 settled : {s : Sort} {y : State} {t : Tree s} {c : SumIn s} → Settles s y t c → Way c t → Completes y
 unfolding read_from
@@ -91,7 +91,7 @@ fails_same e = cc
 
 end_zero : {s : Sort} (c : SumIn s) (t : Tree s) (left : ℕ) → end_after t c ≡ fails left → left ≡ 0
 unfolding end_after
-end_zero text t left e = absurd (let z : ◌≡◌ {A = ℕ} 0 1 = cc in omega arith)
+end_zero text t left e = cc
 end_zero (bracket c) t left e = sym (fails_same e)
 end_zero (atomic c) t left e = sym (fails_same e)
 end_zero (write v c) t left e = sym (fails_same e)

@@ -289,7 +289,7 @@ module _ (bs : List ℕ) (p : Proc) where
 
 -- ---- the end of the text
 never : {A : Type 0} (left : ℕ) (p : Proc) → fails left ≡ reads p → A
-never left p e = let z : ◌≡◌ {A = ℕ} 0 1 = cc in absurd (omega arith)
+never left p e = absurd (cc)
 
 end_back : {s : Sort} (c : SumIn s) (t : Tree s) (p : Proc) → end_after t c ≡ reads p → Spaced s c t [] p
 unfolding end_after

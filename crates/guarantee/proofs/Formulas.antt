@@ -8,7 +8,7 @@ use native.Mathlib.Omega.{arith}
 use lib.ListN.{length, drop}
 use Rattle.code.proofs.Foreign.{job-bytes}
 use Rattle.delivery.specs.Delivered.{Delivered, onto, delivered}
-use Rattle.delivery.specs.declared.Answer.TheVariants as answer
+use Rattle.script.specs.Outcome as answer
 use Rattle.delivery.proofs.Delivers.{delivers, too_short}
 use Rattle.formula.specs.FormulaTo.{formula_of, formula_to}
 use Rattle.grammar.specs.Grammar.{ShortScript, NoScript}
@@ -101,7 +101,7 @@ not_fifteen (refusal.long t f) = omega arith
 
 -- ---- the rows
 module _ (text before : List ℕ) where
-  not_a_script : (number place : ℕ) → read_text text ≡ refused number place → formula_to text before ≡ record { answer = answer.Refused number place; output = before }
+  not_a_script : (number place : ℕ) → read_text text ≡ refused number place → formula_to text before ≡ record { answer = answer.refused number place; output = before }
   unfolding formula_to formula_of delivered
   not_a_script number place e = rw (e)
 
@@ -109,7 +109,7 @@ module _ (text before : List ℕ) where
   unfolding formula_to formula_of
   a_script p o e f = rw (e, f)
 
-  turned : (p : Proc) (number place : ℕ) → read_text text ≡ done p → read_job (job_bytes 1 p) ≡ refused number place → formula_to text before ≡ record { answer = answer.Refused number place; output = before }
+  turned : (p : Proc) (number place : ℕ) → read_text text ≡ done p → read_job (job_bytes 1 p) ≡ refused number place → formula_to text before ≡ record { answer = answer.refused number place; output = before }
   unfolding delivered
   turned p number place e f = a_script p (refused number place) e f
 
@@ -144,21 +144,21 @@ module _ (text before : List ℕ) where
   formula_rows : (d : Delivered) → FormulaAnswer text before d ↔ (d ≡ formula_to text before)
   formula_rows d = (there d, λ e. subst (FormulaAnswer text before) (sym e) (back (read_text text) refl))
 
-  only_fifteen : (i : ℕ) → formula_to text before ≡ record { answer = answer.Refused 15 i; output = before } → NoScript text i
+  only_fifteen : (i : ℕ) → formula_to text before ≡ record { answer = answer.refused 15 i; output = before } → NoScript text i
   only_fifteen i e = go _ ((formula_rows _).1 refl) (ap (λ (d : Delivered). d.answer) e)
     where
-      go : (d : Delivered) → FormulaAnswer text before d → d.answer ≡ answer.Refused 15 i → NoScript text i
+      go : (d : Delivered) → FormulaAnswer text before d → d.answer ≡ answer.refused 15 i → NoScript text i
       go _ (rows.no_script {i = k} n) e = let z : k ≡ i = cc in subst (NoScript text) z n
       go _ (rows.refused {number = number} s r) e = absurd (let z : number ≡ 15 = cc in omega (arith, not_fifteen r))
       go _ (rows.short_tray s w l) e = absurd (let z : ◌≡◌ {A = ℕ} 10 15 = cc in omega arith)
       go _ (rows.written s w l) e = absurd (let z : ◌≡◌ {A = ℕ} 0 1 = cc in omega arith)
 
   written_so :
-      (n : ℕ) → (formula_to text before).answer ≡ answer.Done n →
+      (n : ℕ) → (formula_to text before).answer ≡ answer.done n →
       (job : List ℕ) × (j : Job) × ShortScript text j.tree × IsJob job j × (j.version ≡ 1) × (n ≡ length job) × (length job ≤ length before) × ((formula_to text before).output ≡ onto job before)
   written_so n e = go _ ((formula_rows _).1 refl) e refl
     where
-      go : (d : Delivered) → FormulaAnswer text before d → d.answer ≡ answer.Done n → d ≡ formula_to text before →
+      go : (d : Delivered) → FormulaAnswer text before d → d.answer ≡ answer.done n → d ≡ formula_to text before →
           (job : List ℕ) × (j : Job) × ShortScript text j.tree × IsJob job j × (j.version ≡ 1) × (n ≡ length job) × (length job ≤ length before) × ((formula_to text before).output ≡ onto job before)
       go _ (rows.no_script n) e f = absurd (let z : ◌≡◌ {A = ℕ} 0 1 = cc in omega arith)
       go _ (rows.refused s r) e f = absurd (let z : ◌≡◌ {A = ℕ} 0 1 = cc in omega arith)
@@ -168,13 +168,13 @@ module _ (text before : List ℕ) where
 -- ---- every job is that of some text
 typed :
     (job : List ℕ) (j : Job) → IsJob job j → j.version ≡ 1 →
-    (text : List ℕ) × ShortScript text j.tree × ((before : List ℕ) → length job ≤ length before → formula_to text before ≡ record { answer = answer.Done (length job); output = onto job before })
+    (text : List ℕ) × ShortScript text j.tree × ((before : List ℕ) → length job ≤ length before → formula_to text before ≡ record { answer = answer.done (length job); output = onto job before })
 typed job j i v =
     let s = (taken (printed j.tree) j.tree).0 (printed_read j.tree i.within.sized) in
     let b : job ≡ job_bytes 1 j.tree = i.text ∙ ap (λ (n : ℕ). job_bytes n j.tree) v in (
       printed j.tree,
       s,
-      subst (λ (job : List ℕ). (before : List ℕ) → length job ≤ length before → formula_to (printed j.tree) before ≡ record { answer = answer.Done (length job); output = onto job before }) (sym b)
+      subst (λ (job : List ℕ). (before : List ℕ) → length job ≤ length before → formula_to (printed j.tree) before ≡ record { answer = answer.done (length job); output = onto job before }) (sym b)
           (λ before l. sym ((formula_rows (printed j.tree) before _).0 (rows.written s i.within l))),
     )
 

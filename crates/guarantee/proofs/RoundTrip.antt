@@ -14,7 +14,6 @@ use Rattle.code.proofs.Foreign.{there_and_back, back_again}
 use Rattle.code.proofs.ReadBack.{read_is_code}
 use Rattle.compiler.specs.CompileTo.{compile_to}
 use Rattle.decompiler.specs.ReadBackTo.{bytes_of, read_back_to}
-use Rattle.delivery.specs.declared.Answer.TheVariants.{Done, Refused}
 use Rattle.delivery.proofs.Delivers.{delivers}
 use Rattle.delivery.specs.Delivered.{onto, delivered}
 use Rattle.script.specs.Bytes.{Bytes}
@@ -30,15 +29,15 @@ record Result (o : Outcome (List ℕ)) (before : List ℕ) (n : ℕ) : Type 0 wh
   was : o ≡ done result
   taken : take n (delivered o before).output ≡ result
 
-result_of : (o : Outcome (List ℕ)) (before : List ℕ) (n : ℕ) → (delivered o before).answer ≡ Done n → Result o before n
+result_of : (o : Outcome (List ℕ)) (before : List ℕ) (n : ℕ) → (delivered o before).answer ≡ done n → Result o before n
 unfolding delivered
 result_of (refused k p) before n e = absurd (let z : ◌≡◌ {A = ℕ} 0 1 = cc in omega arith)
 result_of (done r) before n e = go (ltb (length before) (length r)) refl
   where
     go : (b : Bool) → ltb (length before) (length r) ≡ b → Result (done r) before n
-    go true t = absurd (let f : Refused 10 0 ≡ Done n = rw t at e in let z : ◌≡◌ {A = ℕ} 0 1 = cc in omega arith)
+    go true t = absurd (let f : refused 10 0 ≡ done n = rw t at e in let z : ◌≡◌ {A = ℕ} 0 1 = cc in omega arith)
     go false t =
-        let f : Done (length r) ≡ Done n = rw t at e in
+        let f : done (length r) ≡ done n = rw t at e in
         let l : length r ≡ n = cc in
         record { result = r; was = refl; taken = rw (t, ← l) (take-append_seam r (drop (length r) before)) }
 
@@ -48,7 +47,7 @@ mapped_done f (refused n p) b e = absurd (let z : ◌≡◌ {A = ℕ} 0 1 = cc i
 mapped_done f (done a) b e = (a, refl, cc)
 
 -- compile then read back: the job's own bytes, into any output that is long enough
-pub compile_then_back : (job out out' : List ℕ) (n : ℕ) → Bytes job → (compile_to job out).answer ≡ Done n → length job ≤ length out' → read_back_to (take n (compile_to job out).output) out' ≡ record { answer = Done (length job); output = onto job out' }
+pub compile_then_back : (job out out' : List ℕ) (n : ℕ) → Bytes job → (compile_to job out).answer ≡ done n → length job ≤ length out' → read_back_to (take n (compile_to job out).output) out' ≡ record { answer = done (length job); output = onto job out' }
 unfolding compile_to read_back_to
 compile_then_back job out out' n b e h =
     let r = result_of (mapped compiled (read_job job)) out n e in
@@ -59,7 +58,7 @@ compile_then_back job out out' n b e h =
     ap (λ (o : Outcome Job). delivered (mapped bytes_of o) out') c ∙ (ap (λ (l : List ℕ). delivered (done l) out') t ∙ delivers job out' h)
 
 -- read back then compile: the code's own bytes
-pub back_then_compile : (code out out' : List ℕ) (n : ℕ) → Bytes code → (read_back_to code out).answer ≡ Done n → length code ≤ length out' → compile_to (take n (read_back_to code out).output) out' ≡ record { answer = Done (length code); output = onto code out' }
+pub back_then_compile : (code out out' : List ℕ) (n : ℕ) → Bytes code → (read_back_to code out).answer ≡ done n → length code ≤ length out' → compile_to (take n (read_back_to code out).output) out' ≡ record { answer = done (length code); output = onto code out' }
 unfolding compile_to read_back_to
 back_then_compile code out out' n b e h =
     let r = result_of (mapped bytes_of (read_code code)) out n e in

@@ -16,11 +16,10 @@ use Rattle.code.proofs.ReadBack.{code_read, read_is_code}
 use Rattle.compiler.specs.CompileTo.{compile_to}
 use Rattle.decompiler.specs.ReadBackTo.{bytes_of, read_back_to}
 use Rattle.delivery.specs.Delivered.{Delivered, delivered}
-use Rattle.delivery.specs.declared.Answer.TheVariants as answer
+use Rattle.script.specs.Outcome as answer
 use Rattle.delivery.proofs.Delivers.{delivers, too_short}
 use Rattle.job.specs.Answer as job-answer
-use Rattle.job.specs.declared.Reading.{Reading}
-use Rattle.job.specs.declared.Reading.TheVariants as reading
+use Rattle.job.specs.declared.Accepted.{Accepted}
 use Rattle.script.specs.Bytes.{Bytes}
 use Rattle.script.specs.Outcome.{Outcome, refused, done, mapped}
 use Rattle.script.specs.Jobs.{Job}
@@ -29,16 +28,16 @@ use Rattle.script.proofs.Accepts.{accepted_is_job, job_is_accepted}
 use Rattle.script.proofs.Refuses.{refused_is_read, read_is_refused}
 
 -- ---- the job reader
-pub job_rows : (job : List ℕ) → Bytes job → (r : Reading) → JobAnswer job r ↔ (r ≡ job-answer.answer (read_job job))
+pub job_rows : (job : List ℕ) → Bytes job → (r : Outcome Accepted) → JobAnswer job r ↔ (r ≡ job-answer.answer (read_job job))
 job_rows job b r = (there r, λ e. subst (JobAnswer job) (sym e) (back (read_job job) refl))
   where
-    there : (r : Reading) → JobAnswer job r → r ≡ job-answer.answer (read_job job)
+    there : (r : Outcome Accepted) → JobAnswer job r → r ≡ job-answer.answer (read_job job)
     there r (rows.refused x) = sym (ap job-answer.answer (refused_is_read x))
-    there r (rows.accepted {j} i) = ap (reading.Accepted j.version) (code-length j) ∙ sym (ap job-answer.answer (job_is_accepted job j i))
+    there r (rows.accepted {j} i) = ap (λ (n : ℕ). answer.done (record { version = j.version; length = n })) (code-length j) ∙ sym (ap job-answer.answer (job_is_accepted job j i))
 
     back : (o : Outcome Job) → read_job job ≡ o → JobAnswer job (job-answer.answer o)
     back (refused n p) e = rows.refused (read_is_refused job b n p e)
-    back (done j) e = subst (λ (n : ℕ). JobAnswer job (reading.Accepted j.version n)) (code-length j) (rows.accepted (accepted_is_job job j b e))
+    back (done j) e = subst (λ (n : ℕ). JobAnswer job (answer.done (record { version = j.version; length = n }))) (code-length j) (rows.accepted (accepted_is_job job j b e))
 
 -- ---- compiling
 module _ (job before : List ℕ) where
@@ -46,7 +45,7 @@ module _ (job before : List ℕ) where
   unfolding compile_to
   compile_reads o e = ap (λ (x : Outcome Job). delivered (mapped compiled x) before) e
 
-  stays : (number place : ℕ) → delivered (refused number place) before ≡ record { answer = answer.Refused number place; output = before }
+  stays : (number place : ℕ) → delivered (refused number place) before ≡ record { answer = answer.refused number place; output = before }
   unfolding delivered
   stays number place = refl
 

@@ -9,9 +9,8 @@ use Rattle.code.specs.Reader.{read_code}
 use Rattle.compiler.specs.CompileTo.{compile_to}
 use Rattle.decompiler.specs.ReadBackTo.{bytes_of, read_back_to}
 use Rattle.delivery.specs.Delivered.{Delivered, onto}
-use Rattle.delivery.specs.declared.Answer.TheVariants.{Done}
 use Rattle.job.specs.Answer.{answer}
-use Rattle.job.specs.declared.Reading.{Reading}
+use Rattle.job.specs.declared.Accepted.{Accepted}
 use Rattle.machine.specs.Answers.{sum_of, fresh_of, step_of, run_of, fresh_says, step_says, run_says}
 use Rattle.machine.specs.Answers.{Returned, fresh_call, step_call, run_call, FreshAnswer, StepAnswer, RunAnswer}
 use Rattle.machine.specs.FitTest.{fits}
@@ -22,7 +21,7 @@ use Rattle.machine.specs.declared.RunReply.{RunReply}
 use Rattle.machine.specs.declared.StepReply.{StepReply}
 use Rattle.script.specs.Bytes.{Bytes}
 use Rattle.script.specs.Count.{bound}
-use Rattle.script.specs.Outcome.{refused, done, mapped}
+use Rattle.script.specs.Outcome.{Outcome, refused, done, mapped}
 use Rattle.script.specs.Jobs.{Job}
 use Rattle.script.specs.Overflows.{overflows_turns}
 use Rattle.script.specs.Reader.{read_job}
@@ -65,7 +64,7 @@ pub record Replies : Type 0 where
 -- its type (`ByType`).
 pub record Demand1 : Type 0 where
   -- `job::read_job`
-  pub job_reader : (job : List ℕ) → Bytes job → (r : Reading) → JobAnswer job r ↔ (r ≡ answer (read_job job))
+  pub job_reader : (job : List ℕ) → Bytes job → (r : Outcome Accepted) → JobAnswer job r ↔ (r ≡ answer (read_job job))
   -- `compiler::compile`
   pub compiling : (job before : List ℕ) → Bytes job → (d : Delivered) → CompileAnswer job before d ↔ (d ≡ compile_to job before)
   -- `compiler::read_back`
@@ -116,11 +115,11 @@ pub record Demand2 : Type 0 where
       (mapped bytes_of (read_code code) ≡ done job) ↔ (mapped compiled (read_job job) ≡ done code)
   -- of the calls: compiling and then reading back gives the job's own bytes, reading back and then compiling the code's
   pub compile_then_back :
-      (job out out' : List ℕ) (n : ℕ) → Bytes job → (compile_to job out).answer ≡ Done n → length job ≤ length out' →
-      read_back_to (take n (compile_to job out).output) out' ≡ record { answer = Done (length job); output = onto job out' }
+      (job out out' : List ℕ) (n : ℕ) → Bytes job → (compile_to job out).answer ≡ done n → length job ≤ length out' →
+      read_back_to (take n (compile_to job out).output) out' ≡ record { answer = done (length job); output = onto job out' }
   pub back_then_compile :
-      (code out out' : List ℕ) (n : ℕ) → Bytes code → (read_back_to code out).answer ≡ Done n → length code ≤ length out' →
-      compile_to (take n (read_back_to code out).output) out' ≡ record { answer = Done (length code); output = onto code out' }
+      (code out out' : List ℕ) (n : ℕ) → Bytes code → (read_back_to code out).answer ≡ done n → length code ≤ length out' →
+      compile_to (take n (read_back_to code out).output) out' ≡ record { answer = done (length code); output = onto code out' }
 
 -- 3. "every list of calls that run its code by picks, from a fresh state, idle picks and refused calls included":
 -- a call is one of `engine::kuspigo_step` or `engine::kuspigo_run`, a fresh state what `engine::kuspigo_fresh` lays down.

@@ -2,7 +2,6 @@
 -- (grammar/specs/Grammar). The theorem `formulas` (guarantee/proofs/Formulas) says that it holds.
 use Rattle.std.specs.Prelude.{ℕ, ◌≤◌, List, ◌↔◌, ◌⊎◌, ◌≡◌, length}
 use Rattle.delivery.specs.Delivered.{Delivered, onto}
-use Rattle.delivery.specs.declared.Answer.TheVariants.{Done, Refused}
 use Rattle.formula.specs.FormulaTo.{formula_to}
 use Rattle.grammar.specs.Grammar.{IsScript, ShortScript, NoScript}
 use Rattle.grammar.specs.Reader.{read_text}
@@ -31,18 +30,18 @@ pub record Formulas : Type 0 where
   -- `formula::formula`: what a call comes to is what one row says, and no row says anything else
   pub formula : (text before : List ℕ) (d : Delivered) → FormulaAnswer text before d ↔ (d ≡ formula_to text before)
   -- so 15 is told exactly there, whatever the output
-  pub fifteen : (text before : List ℕ) (i : ℕ) → NoScript text i ↔ (formula_to text before ≡ record { answer = Refused 15 i; output = before })
+  pub fifteen : (text before : List ℕ) (i : ℕ) → NoScript text i ↔ (formula_to text before ≡ record { answer = refused 15 i; output = before })
   -- of the job's own refusals only 4, 7, 8 and 14 can follow
   pub follow :
       (text : List ℕ) (p : Proc) (number place : ℕ) → ShortScript text p → refusal.Refused (job_bytes 1 p) number place →
       (number ≡ 4) ⊎ ((number ≡ 7) ⊎ ((number ≡ 8) ⊎ (number ≡ 14)))
   -- What is written is the accepted job of a script, which is read as the script's tree; by `formula` it is written wherever it fits
   pub written :
-      (text before : List ℕ) (n : ℕ) → (formula_to text before).answer ≡ Done n →
+      (text before : List ℕ) (n : ℕ) → (formula_to text before).answer ≡ done n →
       (job : List ℕ) × (j : Job) × ShortScript text j.tree × IsJob job j × (j.version ≡ 1) × (n ≡ length job) ×
       (length job ≤ length before) × ((formula_to text before).output ≡ onto job before)
   -- Every version 1 job can be typed: some text is a script of its tree, and its job is that job.
   pub typed :
       (job : List ℕ) (j : Job) → IsJob job j → j.version ≡ 1 →
       (text : List ℕ) × ShortScript text j.tree ×
-      ((before : List ℕ) → length job ≤ length before → formula_to text before ≡ record { answer = Done (length job); output = onto job before })
+      ((before : List ℕ) → length job ≤ length before → formula_to text before ≡ record { answer = done (length job); output = onto job before })

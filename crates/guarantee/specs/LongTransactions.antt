@@ -2,7 +2,7 @@
 use Rattle.std.specs.Prelude.{ℕ, ◌+◌, ◌≤◌, ◌↔◌, ◌⊎◌, ◌≡◌, List, ◌∷◌, ◌++◌, length}
 use Rattle.code.specs.Bytes.{compiled, Foreign}
 use Rattle.compiler.specs.CompileTo.{compile_to}
-use Rattle.delivery.specs.declared.Answer.TheVariants as answer
+use Rattle.script.specs.Outcome as answer
 use Rattle.forecast.specs.Figures.{refused_with, forecast_of}
 use Rattle.script.specs.Bytes.{Bytes, bytes_t}
 use Rattle.script.specs.Count.{nodes_t, longest}
@@ -32,7 +32,7 @@ pub record OfTree (job : List ℕ) (j : Job) : Type 0 where
   pub forecast : (i : ℕ) → FirstLong j.tree i ↔ (forecast_of (read_job job) ≡ refused_with 14 (7 + i))
   pub compiling :
       (i : ℕ) → FirstLong j.tree i →
-      (before : List ℕ) → compile_to job before ≡ record { answer = answer.Refused 14 (7 + i); output = before }
+      (before : List ℕ) → compile_to job before ≡ record { answer = answer.refused 14 (7 + i); output = before }
   -- "Code of a longer one is foreign code from now on", and no other code of such a job
   pub foreign : (i : ℕ) → FirstLong j.tree i → Foreign (compiled j)
   pub not_foreign : AllShort j → Foreign (compiled j) → ⊥

@@ -1,16 +1,21 @@
 -- Why the reader's loop finds the first long transaction: the nodes that it counts are the tree's. Assumes nothing.
-use Prim.Native.Nat.{ℕ, zero, suc, ◌+◌, ◌≤◌, ◌<◌}
+use Prim.Native.Nat.{ℕ, suc, ◌+◌, ◌≤◌, ◌<◌}
 use mathlib.Core.Path.{◌≡◌, refl, sym, ap, subst, ◌∙◌}
-use mathlib.Core.Bool.{Bool, true, false, cond, ◌&&◌}
+use mathlib.Core.Bool.{Bool, true, false, cond}
 use mathlib.Core.List.{List, [], ◌∷◌, ◌++◌, append_assoc, append-nil}
 use native.Mathlib.Decide.{dec_lt}
 use native.Mathlib.Omega.{arith}
-use lib.Dec.{eqb, leb, ltb}
+use lib.Dec.{ltb}
 use lib.ListN.{length, drop, get_or, length-append, length-drop}
 use lib.Seq.{drop-append_seam, drop-drop, get_or-drop}
 use borrow.Author.Tests.{lt-ltb, le-ltb}
 use Rattle.job.specs.declared.Transactions.{Transactions}
-use Rattle.job.specs.InnerScan.{kind_byte, long_with, with_kind}
+use Rattle.job.specs.InnerScan.{node_kind, no_transactions, long_with, with_kind}
+use Rattle.std.specs.Prelude.{Option, Some, None}
+use Rattle.terms.specs.Numbers.{kind_number}
+use Rattle.terms.specs.declared.Kind.{Kind}
+use Rattle.terms.specs.declared.Kind.TheVariants as kind
+use Rattle.job.proofs.KindBytes.{same_kind}
 use Rattle.job.proofs.Walk.{size, kind_first}
 use Rattle.script.specs.Tree.{Tran, ValT, AddT, Read, Write, Proc, ValP, AddP, Atomic, Fork, Sort}
 use Rattle.script.specs.Count.{nodes_t}
@@ -28,8 +33,8 @@ use Rattle.script.proofs.Reading.{both_ends, one_ends, read_sound, mapped_from}
 pub data AnyNode : Type 0 where
   node : {s : Sort} → Node s → AnyNode
 
-abbrev pub kind_of : AnyNode → ℕ
-kind_of (node n) = kind_byte n
+abbrev pub kind_of : AnyNode → Kind
+kind_of (node n) = node_kind n
 
 abbrev pub text_of : AnyNode → List ℕ
 text_of (node n) = node_bytes n
@@ -51,7 +56,7 @@ texts_of [] = []
 texts_of (n ∷ ns) = text_of n ++ texts_of ns
 
 -- the first long one with these nodes, the first of them standing there
-unfoldable pub long_in : (place : ℕ) → Transactions → List AnyNode → ℕ
+unfoldable pub long_in : (place : ℕ) → Transactions → List AnyNode → Option ℕ
 long_in place t [] = t.long
 long_in place t (n ∷ ns) = long_in (place + length (text_of n)) (with_kind t (kind_of n) place) ns
 
@@ -75,81 +80,73 @@ texts_proc (Fork p) ns = rw (texts_proc p ns)
 
 -- ---- the loop on them
 
-abbrev hand : (atomic nodes long : ℕ) → Transactions
+abbrev hand : (atomic nodes : ℕ) (long : Option ℕ) → Transactions
 hand atomic nodes long = record { atomic = atomic; nodes = nodes; long = long }
 
 -- of two tests of the same transaction, the one of the greater number decides
-tested_twice : (l m n a : ℕ) → m ≤ n → 1 ≤ a → long_with (long_with l m a) n a ≡ long_with l n a
-unfolding long_with
-tested_twice l m n a h some = go (dec_lt 0 l) (dec_lt 200 m)
+tested_twice : (l : Option ℕ) (m n a : ℕ) → m ≤ n → long_with (long_with l m a) n a ≡ long_with l n a
+tested_twice (Some l) m n a h = refl
+tested_twice None m n a h = go (dec_lt 200 m)
   where
-    go : Dec (0 < l) → Dec (200 < m) → long_with (long_with l m a) n a ≡ long_with l n a
-    go (yes p) d = rw (lt-ltb 0 l p, lt-ltb 0 l p)
-    go (no p) (yes q) = rw (le-ltb 0 l (omega arith), lt-ltb 200 m q, lt-ltb 0 a some, lt-ltb 200 n (omega arith))
-    go (no p) (no q) = rw (le-ltb 0 l (omega arith), le-ltb 200 m (omega arith))
+    go : Dec (200 < m) → long_with (long_with None m a) n a ≡ long_with None n a
+    go (yes q) = rw (lt-ltb 200 m q, lt-ltb 200 n (omega arith))
+    go (no q) = rw (le-ltb 200 m (omega arith))
 
 -- a transaction's nodes are counted, one test of their sum standing for each node's
-count_tran : (t : Tran) (place a n l : ℕ) (ns : List AnyNode) → 1 ≤ a → long_in place (hand a n l) (nodes_of_t t ns) ≡ long_in (place + length (bytes_t t)) (hand a (n + nodes_t t) (long_with l (n + nodes_t t) a)) ns
-unfolding long_in nodes_of_t with_kind kind_byte nodes_t bytes_t
-count_tran (ValT z) place a n l ns some = refl
-count_tran (AddT x y) place a n l ns some =
+count_tran : (t : Tran) (place a n : ℕ) (l : Option ℕ) (ns : List AnyNode) → long_in place (hand a n l) (nodes_of_t t ns) ≡ long_in (place + length (bytes_t t)) (hand a (n + nodes_t t) (long_with l (n + nodes_t t) a)) ns
+unfolding long_in nodes_of_t nodes_t bytes_t
+count_tran (ValT z) place a n l ns = refl
+count_tran (AddT x y) place a n l ns =
     let m : n + 1 + nodes_t x + nodes_t y ≡ n + suc (nodes_t x + nodes_t y) = omega arith in
     let e : place + length (node_bytes ADDT) + length (bytes_t x) + length (bytes_t y) ≡ place + length (bytes_t (AddT x y)) = both_ends place (node_bytes ADDT) (bytes_t x) (bytes_t y) in
     rw (
-      count_tran x (place + length (node_bytes ADDT)) a (n + 1) (long_with l (n + 1) a) (nodes_of_t y ns) some,
-      tested_twice l (n + 1) (n + 1 + nodes_t x) a (omega arith) some,
-      count_tran y (place + length (node_bytes ADDT) + length (bytes_t x)) a (n + 1 + nodes_t x) (long_with l (n + 1 + nodes_t x) a) ns some,
-      tested_twice l (n + 1 + nodes_t x) (n + 1 + nodes_t x + nodes_t y) a (omega arith) some,
+      count_tran x (place + length (node_bytes ADDT)) a (n + 1) (long_with l (n + 1) a) (nodes_of_t y ns),
+      tested_twice l (n + 1) (n + 1 + nodes_t x) a (omega arith),
+      count_tran y (place + length (node_bytes ADDT) + length (bytes_t x)) a (n + 1 + nodes_t x) (long_with l (n + 1 + nodes_t x) a) ns,
+      tested_twice l (n + 1 + nodes_t x) (n + 1 + nodes_t x + nodes_t y) a (omega arith),
       e,
       m,
     )
-count_tran (Read v) place a n l ns some = refl
-count_tran (Write v t) place a n l ns some =
+count_tran (Read v) place a n l ns = refl
+count_tran (Write v t) place a n l ns =
     let m : n + 1 + nodes_t t ≡ n + suc (nodes_t t) = omega arith in
     let e : place + length (node_bytes (WRITE v)) + length (bytes_t t) ≡ place + length (bytes_t (Write v t)) = one_ends place (node_bytes (WRITE v)) (bytes_t t) in
     rw (
-      count_tran t (place + length (node_bytes (WRITE v))) a (n + 1) (long_with l (n + 1) a) ns some,
-      tested_twice l (n + 1) (n + 1 + nodes_t t) a (omega arith) some,
+      count_tran t (place + length (node_bytes (WRITE v))) a (n + 1) (long_with l (n + 1) a) ns,
+      tested_twice l (n + 1) (n + 1 + nodes_t t) a (omega arith),
       e,
       m,
     )
 
 -- the first long one, by the outcome of a test; one that is known stays
-abbrev place_of : Outcome (Unit {0}) → ℕ
-place_of (refused k p) = p
-place_of (done u) = 0
+abbrev pub place_of : Outcome (Unit {0}) → Option ℕ
+place_of (refused k p) = Some p
+place_of (done u) = None
 
-unfoldable chosen : ℕ → Outcome (Unit {0}) → ℕ
-chosen l o = cond (ltb 0 l) l (place_of o)
+abbrev chosen : Option ℕ → Outcome (Unit {0}) → Option ℕ
+chosen (Some l) o = Some l
+chosen None o = place_of o
 
-chosen_none : (l : ℕ) → chosen l (done tt) ≡ l
-unfolding chosen
-chosen_none l = go (dec_lt 0 l)
+chosen_none : (l : Option ℕ) → chosen l (done tt) ≡ l
+chosen_none (Some l) = refl
+chosen_none None = refl
+
+chosen_twice : (l : Option ℕ) (o r : Outcome (Unit {0})) → chosen (chosen l o) r ≡ chosen l (onward o (λ _. r))
+chosen_twice (Some l) o r = refl
+chosen_twice None (refused k p) r = refl
+chosen_twice None (done u) r = refl
+
+chosen_atomic : (l : Option ℕ) (n place : ℕ) → long_with l n place ≡ chosen l (refuse (ltb 200 n) 14 place (done tt))
+chosen_atomic (Some l) n place = refl
+chosen_atomic None n place = go (ltb 200 n)
   where
-    go : Dec (0 < l) → chosen l (done tt) ≡ l
-    go (yes p) = rw (lt-ltb 0 l p)
-    go (no p) = rw (le-ltb 0 l (omega arith)) (omega arith)
-
-chosen_twice : (l place : ℕ) (p : Proc) (o r : Outcome (Unit {0})) → 1 ≤ place → Judged place p o → chosen (chosen l o) r ≡ chosen l (onward o (λ _. r))
-unfolding chosen
-chosen_twice l place p o r h j = go (dec_lt 0 l) o j
-  where
-    go : Dec (0 < l) → (o : Outcome (Unit {0})) → Judged place p o → chosen (chosen l o) r ≡ chosen l (onward o (λ _. r))
-    go (yes q) o j = rw (lt-ltb 0 l q, lt-ltb 0 l q)
-    go (no q) _ (short s) = rw (le-ltb 0 l (omega arith))
-    go (no q) _ (too-long {at = at} f e) = rw (le-ltb 0 l (omega arith), lt-ltb 0 at (omega (arith, e)))
-
-chosen_atomic : (l n place : ℕ) → long_with l n place ≡ chosen l (refuse (ltb 200 n) 14 place (done tt))
-unfolding chosen long_with
-chosen_atomic l n place = ap (cond (ltb 0 l) l) (go (ltb 200 n))
-  where
-    go : (b : Bool) → cond b place 0 ≡ place_of (refuse b 14 place (done tt))
+    go : (b : Bool) → cond b (Some place) None ≡ place_of (refuse b 14 place (done tt))
     go true = refl
     go false = refl
 
 -- nodes whose first long one does not depend on the transaction before them
 abbrev Apart : List AnyNode → Type 0
-Apart ns = (place a n l : ℕ) → 1 ≤ place → long_in place (hand a n l) ns ≡ long_in place (hand 0 0 l) ns
+Apart ns = (place a n : ℕ) (l : Option ℕ) → long_in place (hand a n l) ns ≡ long_in place (hand 0 0 l) ns
 
 sum_length : (place : ℕ) → place + length (node_bytes ADDP) ≡ suc place
 unfolding node_bytes
@@ -160,53 +157,49 @@ unfolding node_bytes
 fork_length place = omega arith
 
 -- a process's nodes come to its own test
-count_proc : (p : Proc) (place a n l : ℕ) (ns : List AnyNode) → Apart ns → 1 ≤ place → long_in place (hand a n l) (nodes_of_p p ns) ≡ long_in (place + length (bytes_p p)) (hand 0 0 (chosen l (short_from place p))) ns
-unfolding long_in nodes_of_p with_kind kind_byte bytes_p short_from
-count_proc (ValP z) place a n l ns apart h = rw (chosen_none l) (apart (place + length (bytes_p (ValP z))) a n l (omega arith))
-count_proc (AddP x y) place a n l ns apart h =
+count_proc : (p : Proc) (place a n : ℕ) (l : Option ℕ) (ns : List AnyNode) → Apart ns → long_in place (hand a n l) (nodes_of_p p ns) ≡ long_in (place + length (bytes_p p)) (hand 0 0 (chosen l (short_from place p))) ns
+unfolding long_in nodes_of_p bytes_p short_from
+count_proc (ValP z) place a n l ns apart = rw (chosen_none l) (apart (place + length (bytes_p (ValP z))) a n l)
+count_proc (AddP x y) place a n l ns apart =
     let s : place + length (node_bytes ADDP) ≡ suc place = sum_length place in
     let e : suc place + length (bytes_p x) + length (bytes_p y) ≡ place + length (bytes_p (AddP x y)) = rw (← s) (both_ends place (node_bytes ADDP) (bytes_p x) (bytes_p y)) in
-    let next : Apart (nodes_of_p y ns) = λ q b m k i. count_proc y q b m k ns apart i ∙ sym (count_proc y q 0 0 k ns apart i) in
+    let next : Apart (nodes_of_p y ns) = λ q b m k. count_proc y q b m k ns apart ∙ sym (count_proc y q 0 0 k ns apart) in
     rw (
-      count_proc x (place + length (node_bytes ADDP)) a n l (nodes_of_p y ns) next (omega arith),
-      count_proc y (place + length (node_bytes ADDP) + length (bytes_p x)) 0 0 (chosen l (short_from (place + length (node_bytes ADDP)) x)) ns apart (omega arith),
+      count_proc x (place + length (node_bytes ADDP)) a n l (nodes_of_p y ns) next,
+      count_proc y (place + length (node_bytes ADDP) + length (bytes_p x)) 0 0 (chosen l (short_from (place + length (node_bytes ADDP)) x)) ns apart,
       s,
       e,
-      chosen_twice l (suc place) x (short_from (suc place) x) (short_from (suc place + length (bytes_p x)) y) (omega arith) (judged (suc place) x),
+      chosen_twice l (short_from (suc place) x) (short_from (suc place + length (bytes_p x)) y),
     )
-count_proc (Atomic t) place a n l ns apart h =
+count_proc (Atomic t) place a n l ns apart =
     let e : place + length (node_bytes ATOMIC) + length (bytes_t t) ≡ place + length (bytes_p (Atomic t)) = one_ends place (node_bytes ATOMIC) (bytes_t t) in
     let z : 0 + nodes_t t ≡ nodes_t t = omega arith in
-    rw (count_tran t (place + length (node_bytes ATOMIC)) place 0 l ns h, e, z, ← chosen_atomic l (nodes_t t) place) (apart (place + length (bytes_p (Atomic t))) place (nodes_t t) (long_with l (nodes_t t) place) (omega arith))
-count_proc (Fork p) place a n l ns apart h =
+    rw (count_tran t (place + length (node_bytes ATOMIC)) place 0 l ns, e, z, ← chosen_atomic l (nodes_t t) place) (apart (place + length (bytes_p (Atomic t))) place (nodes_t t) (long_with l (nodes_t t) place))
+count_proc (Fork p) place a n l ns apart =
     let s : place + length (node_bytes FORK) ≡ suc place = fork_length place in
     let e : suc place + length (bytes_p p) ≡ place + length (bytes_p (Fork p)) = rw (← s) (one_ends place (node_bytes FORK) (bytes_p p)) in
-    rw (count_proc p (place + length (node_bytes FORK)) a n l ns apart (omega arith), s, e)
+    rw (count_proc p (place + length (node_bytes FORK)) a n l ns apart, s, e)
 
-count_whole : (p : Proc) → long_in 7 (hand 0 0 0) (nodes_of_p p []) ≡ place_of (short_from 7 p)
-unfolding long_in chosen
-count_whole p = count_proc p 7 0 0 0 [] (λ place a n l h. refl) (omega arith)
+count_whole : (p : Proc) → long_in 7 no_transactions (nodes_of_p p []) ≡ place_of (short_from 7 p)
+unfolding long_in
+count_whole p = count_proc p 7 0 0 None [] (λ place a n l. refl)
 
--- the outcome of document 02 No. 3's test, by the place of the first long transaction, 0 if there is none
-abbrev pub unless_long : ℕ → Outcome (Unit {0})
-unless_long zero = done tt
-unless_long (suc n) = refused 14 (suc n)
+-- the outcome of document 02 No. 3's test, by the place of the first long transaction
+abbrev pub unless_long : Option ℕ → Outcome (Unit {0})
+unless_long None = done tt
+unless_long (Some n) = refused 14 n
 
 -- the test's outcome is told by the place
 told : (p : Proc) (o : Outcome (Unit {0})) → Judged 7 p o → o ≡ unless_long (place_of o)
 told p _ (short h) = refl
-told p _ (too-long {at = at} f e) = go at (omega (arith, e))
-  where
-    go : (n : ℕ) → 1 ≤ n → refused 14 n ≡ unless_long n
-    go zero h = absurd (omega arith)
-    go (suc n) h = refl
+told p _ (too-long f e) = refl
 
 -- ---- where the loop stands
 
-text_length : (n : AnyNode) → length (text_of n) ≡ 1 + operand (kind_of n)
+text_length : (n : AnyNode) → length (text_of n) ≡ 1 + operand (kind_number (kind_of n))
 text_length (node n) = omega (arith, size n)
 
-its_kind : (n : AnyNode) (rest : List ℕ) → get_or (text_of n ++ rest) 0 0 ≡ kind_of n
+its_kind : (n : AnyNode) (rest : List ℕ) → get_or (text_of n ++ rest) 0 0 ≡ kind_number (kind_of n)
 its_kind (node n) rest = kind_first n rest
 
 -- the nodes behind it are the rest of the job, and the first long one with them is the tree's
@@ -216,7 +209,7 @@ pub record Stands (job : List ℕ) (p : Proc) (place : ℕ) (t : Transactions) :
   pub ends : place + length (texts_of behind) ≡ length job
   pub same : long_in place t behind ≡ place_of (short_from 7 p)
 
-stands_first : (job : List ℕ) (p : Proc) → 7 ≤ length job → drop 7 job ≡ bytes_p p → Stands job p 7 (hand 0 0 0)
+stands_first : (job : List ℕ) (p : Proc) → 7 ≤ length job → drop 7 job ≡ bytes_p p → Stands job p 7 no_transactions
 unfolding texts_of
 stands_first job p h t =
     let e = texts_proc p [] ∙ append-nil (bytes_p p) in
@@ -236,51 +229,52 @@ module _ (job : List ℕ) (p : Proc) (place : ℕ) (t : Transactions) (s : Stand
       go [] e = refl
       go (n ∷ ns) e = absurd (omega (arith, e, text_length n, length-append (text_of n) (texts_of ns)))
 
-  stands_next : place < length job → Stands job p (place + (1 + operand (get_or job place 0))) (with_kind t (get_or job place 0) place)
+  stands_next : place < length job → (k : Kind) → get_or job place 0 ≡ kind_number k → Stands job p (place + (1 + operand (kind_number k))) (with_kind t k place)
   unfolding long_in texts_of
-  stands_next h = go s.behind s.text s.ends s.same
+  stands_next h k is = go s.behind s.text s.ends s.same
     where
-      go : (ns : List AnyNode) → drop place job ≡ texts_of ns → place + length (texts_of ns) ≡ length job → long_in place t ns ≡ place_of (short_from 7 p) → Stands job p (place + (1 + operand (get_or job place 0))) (with_kind t (get_or job place 0) place)
+      go : (ns : List AnyNode) → drop place job ≡ texts_of ns → place + length (texts_of ns) ≡ length job → long_in place t ns ≡ place_of (short_from 7 p) → Stands job p (place + (1 + operand (kind_number k))) (with_kind t k place)
       go [] e l m = absurd (omega (arith, l))
       go (n ∷ ns) e l m =
           let z : place + 0 ≡ place = omega arith in
-          let k : get_or job place 0 ≡ kind_of n = ap (λ (i : ℕ). get_or job i 0) (sym z) ∙ (sym (get_or-drop place job 0 0) ∙ (ap (λ (u : List ℕ). get_or u 0 0) e ∙ its_kind n (texts_of ns))) in
-          rw k (record {
+          let v : get_or job place 0 ≡ kind_number (kind_of n) = ap (λ (i : ℕ). get_or job i 0) (sym z) ∙ (sym (get_or-drop place job 0 0) ∙ (ap (λ (u : List ℕ). get_or u 0 0) e ∙ its_kind n (texts_of ns))) in
+          let same : k ≡ kind_of n = same_kind k (kind_of n) (sym is ∙ v) in
+          rw same (record {
             behind = ns;
-            text = sym (drop-drop (1 + operand (kind_of n)) place job) ∙ (ap (drop (1 + operand (kind_of n))) e ∙ (rw (← text_length n) (drop-append_seam (text_of n) (texts_of ns))));
+            text = sym (drop-drop (1 + operand (kind_number (kind_of n))) place job) ∙ (ap (drop (1 + operand (kind_number (kind_of n)))) e ∙ (rw (← text_length n) (drop-append_seam (text_of n) (texts_of ns))));
             ends = omega (arith, l, text_length n, length-append (text_of n) (texts_of ns));
             same = (rw (← text_length n) refl) ∙ m;
           })
 
 -- ---- the loop's count
 
-with_low : (t : Transactions) (kind place : ℕ) → t.nodes ≤ place → (with_kind t kind place).nodes ≤ place + (1 + operand kind)
-unfolding with_kind
-with_low t kind place h = go (eqb kind 3) (leb 5 kind && leb kind 8)
-  where
-    go : (a b : Bool) → (cond a (hand place 0 t.long) (cond b (hand t.atomic (t.nodes + 1) (long_with t.long (t.nodes + 1) t.atomic)) t)).nodes ≤ place + (1 + operand kind)
-    go true b = omega arith
-    go false true = omega arith
-    go false false = omega arith
+with_low : (t : Transactions) (k : Kind) (place : ℕ) → t.nodes ≤ place → (with_kind t k place).nodes ≤ place + (1 + operand (kind_number k))
+with_low t kind.Valp place h = omega arith
+with_low t kind.Addp place h = omega arith
+with_low t kind.Atomic place h = omega arith
+with_low t kind.Fork place h = omega arith
+with_low t kind.Valt place h = omega arith
+with_low t kind.Addt place h = omega arith
+with_low t kind.Read place h = omega arith
+with_low t kind.Write place h = omega arith
 
 -- the transactions before this place, if document 01's tests come to a job
 pub record Counting (job : List ℕ) (o : Outcome Job) (place : ℕ) (t : Transactions) : Type 0 where
   pub low : t.nodes ≤ place
   pub stands : (j : Job) → o ≡ done j → Stands job j.tree place t
 
-pub counting_first : (job : List ℕ) (version count : ℕ) → Bytes job → 7 ≤ length job → Counting job (whole version (read_nodes count root 0 7 (drop 7 job))) 7 (hand 0 0 0)
+pub counting_first : (job : List ℕ) (version count : ℕ) → Bytes job → 7 ≤ length job → Counting job (whole version (read_nodes count root 0 7 (drop 7 job))) 7 no_transactions
 counting_first job version count b h = record { low = omega arith; stands = first }
   where
-    first : (j : Job) → whole version (read_nodes count root 0 7 (drop 7 job)) ≡ done j → Stands job j.tree 7 (hand 0 0 0)
+    first : (j : Job) → whole version (read_nodes count root 0 7 (drop 7 job)) ≡ done j → Stands job j.tree 7 no_transactions
     first j e =
         let w = mapped_from (λ (ts : Forest root). record { version = version; tree = ts.0 }) (read_nodes count root 0 7 (drop 7 job)) j e in
         let r = read_sound count root 0 7 (drop 7 job) w.before (bytes_drop 7 b) (omega arith) w.was in
-        subst (λ (k : Job). Stands job k.tree 7 (hand 0 0 0)) w.becomes (stands_first job w.before.0 h (r.text ∙ append-nil (bytes_p w.before.0)))
+        subst (λ (k : Job). Stands job k.tree 7 no_transactions) w.becomes (stands_first job w.before.0 h (r.text ∙ append-nil (bytes_p w.before.0)))
 
 module _ {job : List ℕ} {o : Outcome Job} {place : ℕ} {t : Transactions} (c : Counting job o place t) where
-  pub counts_on : (kind next : ℕ) → place < length job → get_or job place 0 ≡ kind → next ≡ place + (1 + operand kind) → Counting job o next (with_kind t kind place)
-  counts_on kind next h k n =
-      rw (n, ← k) (record { low = with_low t (get_or job place 0) place c.low; stands = λ j e. stands_next job j.tree place t (c.stands j e) h })
+  pub counts_on : (k : Kind) → place < length job → get_or job place 0 ≡ kind_number k → Counting job o (place + (1 + operand (kind_number k))) (with_kind t k place)
+  counts_on k h is = record { low = with_low t k place c.low; stands = λ j e. stands_next job j.tree place t (c.stands j e) h k is }
 
   pub counted : length job ≤ place → (j : Job) → o ≡ done j → short_from 7 j.tree ≡ unless_long t.long
   counted h j e = told j.tree (short_from 7 j.tree) (judged 7 j.tree) ∙ ap unless_long (sym (at-end job j.tree place t (c.stands j e) h))

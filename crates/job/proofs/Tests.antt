@@ -1,141 +1,189 @@
 -- The tests of one node, on the job and the place. Assumes nothing.
 use Prim.Native.Nat.{ℕ, suc, ◌+◌, ◌-◌, ◌≤◌, ◌<◌}
-use mathlib.Core.Path.{◌≡◌, refl, ap, ◌∙◌}
-use mathlib.Core.Bool.{Bool, true, false, and-false}
+use mathlib.Core.Path.{◌≡◌, refl, sym, ap, ◌∙◌}
+use mathlib.Core.Bool.{Bool, true, false, beq, ◌&&◌, and-false}
 use mathlib.Core.List.{List}
+use mathlib.Core.Logic.{◌⊎◌, inl, inr}
 use native.Mathlib.Omega.{arith}
-use lib.Dec.{eqb}
+use lib.Dec.{eqb, leb}
 use lib.ListN.{length, drop, get_or, length-drop, drop_of_length-le}
 use lib.Seq.{drop-cons, get_or-drop}
 use borrow.Author.Tests.{lt-ltb, le-ltb, le-leb, lt-leb, eq-eqb, ne_eqb}
-use Rattle.job.specs.declared.Tested.{Tested}
-use Rattle.job.specs.declared.Tested.TheVariants.{Kind, Refused}
-use Rattle.job.specs.InnerScan.{kind_byte, tested}
+use denote.Enum.Bare.{sameb}
+use Rattle.terms.specs.contracts.Kind.{the_type}
+use Rattle.job.specs.declared.Due.{Due}
+use Rattle.job.specs.InnerScan.{node_kind, tested, of_transactions, due_part}
 use Rattle.script.specs.InnerTrees.{sort_of}
-use Rattle.script.specs.Tree.{Sort}
 use Rattle.script.specs.Jobs.{operand}
+use Rattle.script.specs.Outcome.{Outcome, refused, done}
 use Rattle.script.specs.Reader.{permitted, node_of, node_at}
-use Rattle.script.proofs.Nodes.{Kind as Kinds, val_p, add_p, atomic, fork, val_t, add_t, read, write, other, kind_of, permitted_no}
+use Rattle.terms.specs.Numbers.{kind_number}
+use Rattle.terms.specs.declared.Kind.{Kind}
+use Rattle.terms.specs.declared.Kind.TheVariants as kind
 
--- the node of a permitted kind has that kind
-kind_is : (s : Sort) (k : ℕ) (rest : List ℕ) → permitted s k ≡ true → kind_byte (node_of s k rest) ≡ k
-unfolding kind_byte node_of
-kind_is s k rest e = go s k (kind_of s k) e
-  where
-    go : (s : Sort) (k : ℕ) → Kinds s k → permitted s k ≡ true → kind_byte (node_of s k rest) ≡ k
-    go _ _ val_p e = refl
-    go _ _ add_p e = refl
-    go _ _ atomic e = refl
-    go _ _ fork e = refl
-    go _ _ val_t e = refl
-    go _ _ add_t e = refl
-    go _ _ read e = refl
-    go _ _ write e = refl
-    go s k (other n) e = let f = permitted_no s k n in absurd (let z : ◌≡◌ {A = ℕ} 0 1 = cc in omega arith)
+-- where a kind may stand
+pub placed : (k : Kind) (t : Bool) → permitted (sort_of t) (kind_number k) ≡ beq (of_transactions k) t
+unfolding permitted
+placed kind.Valp true = refl
+placed kind.Valp false = refl
+placed kind.Addp true = refl
+placed kind.Addp false = refl
+placed kind.Atomic true = refl
+placed kind.Atomic false = refl
+placed kind.Fork true = refl
+placed kind.Fork false = refl
+placed kind.Valt true = refl
+placed kind.Valt false = refl
+placed kind.Addt true = refl
+placed kind.Addt false = refl
+placed kind.Read true = refl
+placed kind.Read false = refl
+placed kind.Write true = refl
+placed kind.Write false = refl
 
-four_bare : (k : ℕ) → operand k ≡ 1 → k ≡ 4 → ⊥
-unfolding operand
-four_bare k o e = let z : ◌≡◌ {A = ℕ} 0 1 = rw e at o in omega arith
+-- no other byte may stand anywhere
+nowhere : (byte : ℕ) (t : Bool) → (byte ≡ 0) ⊎ (8 < byte) → permitted (sort_of t) byte ≡ false
+unfolding permitted
+nowhere byte true (inl e) = rw e refl
+nowhere byte false (inl e) = rw e refl
+nowhere byte true (inr h) = rw (le-leb 5 byte (omega arith), lt-leb byte 8 h) refl
+nowhere byte false (inr h) = rw (le-leb 1 byte (omega arith), lt-leb byte 4 (omega arith)) refl
 
-module _ (job : List ℕ) (place : ℕ) (t : Bool) (depth forks : ℕ) where
-  abbrev answered : Tested
-  answered = tested (node_at (record { sort = sort_of t; depth = depth }) forks place (drop place job))
+-- the node of a kind that may stand there has that kind
+kind_is : (k : Kind) (t : Bool) (rest : List ℕ) → beq (of_transactions k) t ≡ true → node_kind (node_of (sort_of t) (kind_number k) rest) ≡ k
+unfolding node_of
+kind_is kind.Valp false rest e = refl
+kind_is kind.Addp false rest e = refl
+kind_is kind.Atomic false rest e = refl
+kind_is kind.Fork false rest e = refl
+kind_is kind.Valt true rest e = refl
+kind_is kind.Addt true rest e = refl
+kind_is kind.Read true rest e = refl
+kind_is kind.Write true rest e = refl
+kind_is kind.Valp true rest e = absurd (let z : ◌≡◌ {A = ℕ} 0 1 = cc in omega arith)
+kind_is kind.Addp true rest e = absurd (let z : ◌≡◌ {A = ℕ} 0 1 = cc in omega arith)
+kind_is kind.Atomic true rest e = absurd (let z : ◌≡◌ {A = ℕ} 0 1 = cc in omega arith)
+kind_is kind.Fork true rest e = absurd (let z : ◌≡◌ {A = ℕ} 0 1 = cc in omega arith)
+kind_is kind.Valt false rest e = absurd (let z : ◌≡◌ {A = ℕ} 0 1 = cc in omega arith)
+kind_is kind.Addt false rest e = absurd (let z : ◌≡◌ {A = ℕ} 0 1 = cc in omega arith)
+kind_is kind.Read false rest e = absurd (let z : ◌≡◌ {A = ℕ} 0 1 = cc in omega arith)
+kind_is kind.Write false rest e = absurd (let z : ◌≡◌ {A = ℕ} 0 1 = cc in omega arith)
 
-  pub no_byte : length job ≤ place → Refused 1 place ≡ answered
+-- the tests of an operand and of a FORK, by what the code asks
+pub no_register : (size byte : ℕ) → (size ≡ 1 → ⊥) → (eqb size 1 && leb 64 byte) ≡ false
+no_register size byte n = rw (ne_eqb size 1 n) refl
+
+pub low_register : (size byte : ℕ) → byte < 64 → (eqb size 1 && leb 64 byte) ≡ false
+low_register size byte h = rw (lt-leb 64 byte h) (and-false (eqb size 1))
+
+pub few_forks : (n forks : ℕ) → forks < 15 → (eqb n 4 && leb 15 forks) ≡ false
+few_forks n forks h = rw (lt-leb 15 forks h) (and-false (eqb n 4))
+
+pub not_fork : (n forks : ℕ) → eqb n 4 ≡ false → (eqb n 4 && leb 15 forks) ≡ false
+not_fork n forks e = rw e refl
+
+-- a kind is FORK if its byte is
+pub same_fork : (k : Kind) → sameb the_type k kind.Fork ≡ eqb (kind_number k) 4
+same_fork kind.Valp = refl
+same_fork kind.Addp = refl
+same_fork kind.Atomic = refl
+same_fork kind.Fork = refl
+same_fork kind.Valt = refl
+same_fork kind.Addt = refl
+same_fork kind.Read = refl
+same_fork kind.Write = refl
+
+module _ (job : List ℕ) (place : ℕ) (d : Due) (forks : ℕ) where
+  abbrev answered : Outcome Kind
+  answered = tested (node_at (due_part d) forks place (drop place job))
+
+  pub no_byte : length job ≤ place → refused 1 place ≡ answered
   unfolding node_at
   no_byte h = rw (drop_of_length-le job h)
 
   module _ (h : place < length job) where
-    abbrev kind : ℕ
-    kind = get_or job place 0
-
-    abbrev rest : List ℕ
-    rest = drop (suc place) job
-
-    pub bad_kind : permitted (sort_of t) kind ≡ false → Refused 5 place ≡ answered
+    pub unknown : (get_or job place 0 ≡ 0) ⊎ (8 < get_or job place 0) → refused 5 place ≡ answered
     unfolding node_at
-    bad_kind e = rw (drop-cons job place 0 h, e)
+    unknown e = rw (drop-cons job place 0 h, nowhere (get_or job place 0) d.transaction e)
 
-    module _ (may : permitted (sort_of t) kind ≡ true) where
-      pub too_deep : 64 < depth → Refused 7 place ≡ answered
-      unfolding node_at
-      too_deep d = rw (drop-cons job place 0 h, may, lt-ltb 64 depth d)
+    pub elsewhere : permitted (sort_of d.transaction) (get_or job place 0) ≡ false → refused 5 place ≡ answered
+    unfolding node_at
+    elsewhere e = rw (drop-cons job place 0 h, e)
 
-      module _ (flat : depth ≤ 64) where
-        pub cut : length job - place - 1 < operand kind → Refused 1 (length job) ≡ answered
+    module _ (k : Kind) (is : kind_number k ≡ get_or job place 0) where
+      pub may_stand : permitted (sort_of d.transaction) (get_or job place 0) ≡ true → beq (of_transactions k) d.transaction ≡ true
+      may_stand e = sym (placed k d.transaction) ∙ (ap (permitted (sort_of d.transaction)) is ∙ e)
+
+      module _ (may : beq (of_transactions k) d.transaction ≡ true) where
+        abbrev rest : List ℕ
+        rest = drop (suc place) job
+
+        pub too_deep : 64 < d.depth → refused 7 place ≡ answered
         unfolding node_at
-        cut l =
-            let n : length rest ≡ length job - place - 1 = omega (arith, length-drop (suc place) job) in
-            let e : place + suc (length job - place - 1) ≡ length job = omega arith in
-            rw (drop-cons job place 0 h, may, le-ltb 64 depth flat, n, lt-ltb (length job - place - 1) (operand kind) l, e)
+        too_deep g = rw (drop-cons job place 0 h, ← is, placed k d.transaction, may, lt-ltb 64 d.depth g)
 
-        module _ (whole : operand kind ≤ length job - place - 1) where
-          behind : length rest ≡ length job - place - 1
-          behind = omega (arith, length-drop (suc place) job)
-
-          first : get_or rest 0 0 ≡ get_or job (place + 1) 0
-          first = let e : suc place + 0 ≡ place + 1 = omega arith in get_or-drop (suc place) job 0 0 ∙ ap (λ (i : ℕ). get_or job i 0) e
-
-          pub bad_register : operand kind ≡ 1 → 64 ≤ get_or job (place + 1) 0 → Refused 6 (place + 1) ≡ answered
+        module _ (flat : d.depth ≤ 64) where
+          pub cut : length job - place - 1 < operand (kind_number k) → refused 1 (length job) ≡ answered
           unfolding node_at
-          bad_register o r =
-              rw (drop-cons job place 0 h, may, le-ltb 64 depth flat, behind, le-ltb (length job - place - 1) (operand kind) whole, o, first, le-leb 64 (get_or job (place + 1) 0) r)
+          cut l =
+              let n : length rest ≡ length job - place - 1 = omega (arith, length-drop (suc place) job) in
+              let e : place + suc (length job - place - 1) ≡ length job = omega arith in
+              rw (drop-cons job place 0 h, ← is, placed k d.transaction, may, le-ltb 64 d.depth flat, n, lt-ltb (length job - place - 1) (operand (kind_number k)) l, e)
 
-          pub good_register : operand kind ≡ 1 → get_or job (place + 1) 0 < 64 → Kind kind ≡ answered
-          unfolding node_at
-          good_register o r =
-              rw (
-                drop-cons job place 0 h,
-                may,
-                le-ltb 64 depth flat,
-                behind,
-                le-ltb (length job - place - 1) (operand kind) whole,
-                first,
-                lt-leb 64 (get_or job (place + 1) 0) r,
-                ne_eqb kind 4 (four_bare kind o),
-                and-false (eqb (operand kind) 1),
-                kind_is (sort_of t) kind rest may,
-              )
+          module _ (whole : operand (kind_number k) ≤ length job - place - 1) where
+            behind : length rest ≡ length job - place - 1
+            behind = omega (arith, length-drop (suc place) job)
 
-          pub many_forks : (operand kind ≡ 1 → ⊥) → kind ≡ 4 → 15 ≤ forks → Refused 8 place ≡ answered
-          unfolding node_at
-          many_forks o k f =
-              rw (
-                drop-cons job place 0 h,
-                may,
-                le-ltb 64 depth flat,
-                behind,
-                le-ltb (length job - place - 1) (operand kind) whole,
-                ne_eqb (operand kind) 1 o,
-                eq-eqb kind 4 k,
-                le-leb 15 forks f,
-              )
+            first : get_or rest 0 0 ≡ get_or job (place + 1) 0
+            first = let e : suc place + 0 ≡ place + 1 = omega arith in get_or-drop (suc place) job 0 0 ∙ ap (λ (i : ℕ). get_or job i 0) e
 
-          pub good_fork : (operand kind ≡ 1 → ⊥) → forks < 15 → Kind kind ≡ answered
-          unfolding node_at
-          good_fork o f =
-              rw (
-                drop-cons job place 0 h,
-                may,
-                le-ltb 64 depth flat,
-                behind,
-                le-ltb (length job - place - 1) (operand kind) whole,
-                ne_eqb (operand kind) 1 o,
-                lt-leb 15 forks f,
-                and-false (eqb kind 4),
-                kind_is (sort_of t) kind rest may,
-              )
+            pub bad_register : operand (kind_number k) ≡ 1 → 64 ≤ get_or job (place + 1) 0 → refused 6 (place + 1) ≡ answered
+            unfolding node_at
+            bad_register o r =
+                rw (
+                  drop-cons job place 0 h,
+                  ← is,
+                  placed k d.transaction,
+                  may,
+                  le-ltb 64 d.depth flat,
+                  behind,
+                  le-ltb (length job - place - 1) (operand (kind_number k)) whole,
+                  o,
+                  first,
+                  le-leb 64 (get_or job (place + 1) 0) r,
+                )
 
-          pub good_other : (operand kind ≡ 1 → ⊥) → (kind ≡ 4 → ⊥) → Kind kind ≡ answered
-          unfolding node_at
-          good_other o k =
-              rw (
-                drop-cons job place 0 h,
-                may,
-                le-ltb 64 depth flat,
-                behind,
-                le-ltb (length job - place - 1) (operand kind) whole,
-                ne_eqb (operand kind) 1 o,
-                ne_eqb kind 4 k,
-                kind_is (sort_of t) kind rest may,
-              )
+            module _ (named : (eqb (operand (kind_number k)) 1 && leb 64 (get_or job (place + 1) 0)) ≡ false) where
+              pub many_forks : kind_number k ≡ 4 → 15 ≤ forks → refused 8 place ≡ answered
+              unfolding node_at
+              many_forks e f =
+                  rw (
+                    drop-cons job place 0 h,
+                    ← is,
+                    placed k d.transaction,
+                    may,
+                    le-ltb 64 d.depth flat,
+                    behind,
+                    le-ltb (length job - place - 1) (operand (kind_number k)) whole,
+                    first,
+                    named,
+                    eq-eqb (kind_number k) 4 e,
+                    le-leb 15 forks f,
+                  )
+
+              pub good : (eqb (kind_number k) 4 && leb 15 forks) ≡ false → done k ≡ answered
+              unfolding node_at
+              good f =
+                  rw (
+                    drop-cons job place 0 h,
+                    ← is,
+                    placed k d.transaction,
+                    may,
+                    le-ltb 64 d.depth flat,
+                    behind,
+                    le-ltb (length job - place - 1) (operand (kind_number k)) whole,
+                    first,
+                    named,
+                    f,
+                    kind_is k d.transaction rest may,
+                  )

@@ -1,36 +1,35 @@
 // The job reader: which bytes are a job, and what is refused with which number at which place.
 #![tactic(auto)]
 
-ghost use Rattle.std.specs.Prelude.{ℕ, ◌+◌, ◌<◌, ◌≤◌, eqb, leb, ltb, drop, length, ◌&&◌, ◌||◌, List, ◌≡◌};
+ghost use Rattle.std.specs.Prelude.{◌+◌, ◌-◌, ◌<◌, ◌≤◌, drop, length, take, List, [], ◌∷◌, ◌≡◌, ◌++◌};
 ghost use Rattle.job.specs.Answer.{answer};
-ghost use Rattle.script.specs.InnerTrees.{sort_of};
-ghost use Rattle.job.specs.InnerScan.{CanAdvance, CanRead, advanced, first_cursor, joined, long_with, tested, with_kind, with_none, with_one, with_two};
+ghost use Rattle.job.specs.InnerScan.{CanAdvance, behind, due_part, first_cursor, no_transactions, of_transactions, parts_of, tested, with_kind};
 ghost use Rattle.script.specs.Jobs.{root, operand as size};
 ghost use Rattle.script.specs.Outcome.{onward};
-ghost use Rattle.script.specs.Reader.{node_at, read_job, read_nodes, short_only, whole, permitted as may};
+ghost use Rattle.script.specs.InnerTrees.{sort_of};
+ghost use Rattle.script.specs.Reader.{node_at, permitted as may, read_job, read_nodes, short_only, whole};
+ghost use Rattle.terms.specs.Numbers.{kind_number, outcome};
 
-// What reading a job comes to.
+use terms::{Kind, Reason, Refusal};
+
+// An accepted job's version, and its code's length in bytes.
+#[derive(Clone, Copy, Debug, PartialEq, Eq)]
+pub struct Accepted {
+    pub version: u16,
+    pub length: usize,
+}
+
+// A part that is due: the depth of its node, and whether it is a transaction.
 #[derive(Clone, Copy)]
-pub enum Reading {
-    // the job's version, and its code's length in bytes
-    Accepted(u16, usize),
-    // the papers' number, and the place in the job
-    Refused(u8, usize),
+struct Due {
+    depth: u8,
+    transaction: bool,
 }
 
-// What stands where a node is due: its kind, or why it is refused and where.
-#[derive(Drop)]
-enum Tested {
-    Kind(u8),
-    Refused(u8, usize),
-}
-
-// How far the reader has come: how many parts are due, how many nodes are left of the count, how many FORKs there were, where the next
-// node is due, and how many bytes of code there are so far. The parts that are due stand beside it, each as the depth of its node, and 128 more for a
-// transaction.
+// How far the reader has come: how many nodes are left of the count, how many FORKs there were, where the next node is due, and how many bytes of
+// code there are so far.
 #[derive(Drop)]
 struct Cursor {
-    height: usize,
     left: usize,
     forks: usize,
     place: usize,
@@ -38,67 +37,99 @@ struct Cursor {
 }
 
 // The transactions so far: where the ATOMIC of the one at hand stands, how many nodes that one has, and where the first ATOMIC stands whose
-// transaction has more than 200, 0 if there is none.
+// transaction has more than 200.
 #[derive(Drop)]
 struct Transactions {
     atomic: usize,
     nodes: usize,
-    long: usize,
+    long: Option<usize>,
 }
 
-// Whether a kind may stand where a process or a transaction is due.
-fn permitted(kind: u8, transaction: bool) -> bool
-    ensures { result ≡ may (sort_of transaction) kind }
+// Whether a kind byte may stand where a process or a transaction is due: processes have the kinds 1 to 4, transactions 5 to 8.
+fn permitted(byte: u8, transaction: bool) -> bool
+    ensures { result ≡ may (sort_of transaction) byte }
 {
-    match kind {
+    match byte {
         1..=4 => !transaction,
         5..=8 => transaction,
         _ => false,
     }
 }
 
-// How many bytes a kind's operand has.
-fn operand(kind: u8) -> usize
-    ensures { result ≡ size kind }
+// Whether a kind is one of transactions.
+fn is_transaction(kind: Kind) -> bool
+    ensures { result ≡ of_transactions kind }
 {
     match kind {
-        1 | 5 => 4,
-        7 | 8 => 1,
+        Kind::Valp | Kind::Addp | Kind::Atomic | Kind::Fork => false,
+        Kind::Valt | Kind::Addt | Kind::Read | Kind::Write => true,
+    }
+}
+
+// How many bytes a kind's operand has.
+#[tactic(auto, unfolding(script::specs::Jobs::operand))]
+pub fn operand(kind: Kind) -> usize
+    ensures { result ≡ size (kind_number kind) }
+{
+    match kind {
+        Kind::Valp | Kind::Valt => 4,
+        Kind::Read | Kind::Write => 1,
         _ => 0,
     }
 }
 
 // The tests of a node that is due, in document 01's order.
-fn node(job: &[u8], place: usize, transaction: bool, depth: u8, forks: usize) -> Tested
-    ensures { result ≡ tested (node_at (record { sort = sort_of transaction; depth = depth }) forks place (drop place job.now)) }
+fn node(job: &[u8], place: usize, due: Due, forks: usize) -> Result<Kind, Refusal>
+    ensures { outcome result ≡ tested (node_at (due_part due) forks place (drop place job.now)) }
 {
     let length = job.len();
     if place >= length {
-        return Tested::Refused(1, place);
+        return Err(Reason::Cut.at(place));
     }
-    let kind = job[place];
-    if !permitted(kind, transaction) {
-        return Tested::Refused(5, place);
+    let byte = job[place];
+    if !permitted(byte, due.transaction) {
+        return Err(Reason::Kind.at(place));
     }
-    if depth > 64 {
-        return Tested::Refused(7, place);
+    let Ok(kind) = Kind::try_from(byte) else {
+        return Err(Reason::Kind.at(place));
+    };
+    if due.depth > 64 {
+        return Err(Reason::Depth.at(place));
     }
     let size = operand(kind);
     if length - place - 1 < size {
-        return Tested::Refused(1, length);
+        return Err(Reason::Cut.at(length));
     }
-    if size == 1 {
-        if job[place + 1] >= 64 {
-            return Tested::Refused(6, place + 1);
-        }
-        return Tested::Kind(kind);
+    if size == 1 && job[place + 1] >= 64 {
+        return Err(Reason::Register.at(place + 1));
     }
-    if kind == 4 {
-        if forks >= 15 {
-            return Tested::Refused(8, place);
-        }
+    if kind == Kind::Fork && forks >= 15 {
+        return Err(Reason::Forks.at(place));
     }
-    Tested::Kind(kind)
+    Ok(kind)
+}
+
+// A part becomes due above so many others; how many are due then. (An array with its height beside it is faster than the kit's ArrayVec, whose length
+// lies in memory: read_job takes 488 ns against 638 at 74 nodes. The forecast has its own: no public function has a `requires`.)
+fn wait(due: &mut [Due; 65], waiting: usize, part: Due) -> usize
+    requires { waiting ≤ 64 }
+    ensures count { result ≡ waiting + 1 }
+    ensures long { length due.new ≡ 65 }
+    ensures parts { take result due.new ≡ take waiting due.old ++ part ∷ [] }
+{
+    due[waiting] = part;
+    waiting + 1
+}
+
+// Two parts of the same kind become due.
+fn wait_twice(due: &mut [Due; 65], waiting: usize, part: Due) -> usize
+    requires { waiting ≤ 63 }
+    ensures count { result ≡ waiting + 2 }
+    ensures long { length due.new ≡ 65 }
+    ensures parts { take result due.new ≡ take waiting due.old ++ part ∷ part ∷ [] }
+{
+    let one = wait(due, waiting, part);
+    wait(due, one, part)
 }
 
 impl Cursor {
@@ -107,7 +138,6 @@ impl Cursor {
         ensures { result ≡ first_cursor count }
     {
         Cursor {
-            height: 1,
             left: count,
             forks: 0,
             place: 7,
@@ -115,200 +145,150 @@ impl Cursor {
         }
     }
 
-    // The node on top, of so many bytes and bytes of code, is read, and has no parts.
-    fn leaf(self, size: usize, code: usize) -> Cursor
-        requires { CanRead self size code }
-        ensures { (due : List ℕ) → joined result due ≡ with_none (joined self due) size code }
+    // A node of so many bytes is read, which adds so many bytes of code.
+    fn read(&mut self, size: usize, code: usize)
+        requires { (1 ≤ self.old.left) × (self.old.place + size < 18446744073709551616) × (self.old.code ≤ 6000) × (code ≤ 5) }
+        ensures { self.new ≡ record { left = self.old.left - 1; forks = self.old.forks; place = self.old.place + size; code = self.old.code + code } }
     {
-        Cursor {
-            height: self.height - 1,
-            left: self.left - 1,
-            forks: self.forks,
-            place: self.place + size,
-            code: self.code + code,
-        }
+        self.left -= 1;
+        self.place += size;
+        self.code += code;
     }
 
-    // It has one part, which becomes due in its stead.
-    fn one(self, due: &mut [u8; 65], part: u8, forks: usize, size: usize, code: usize) -> Cursor
-        requires { CanRead self size code × (forks ≤ 1) }
-        ensures { joined result due.new ≡ with_one (joined self due.old) part forks size code }
+    // A node is read, and its parts become due at this depth, above so many others. How many are due then.
+    #[tactic(auto, unfolding(script::specs::Jobs::operand))]
+    fn advance(&mut self, due: &mut [Due; 65], waiting: usize, kind: Kind, depth: u8) -> usize
+        requires { CanAdvance self.old kind × (waiting ≤ 63) }
+        ensures cursor { self.new ≡ behind self.old kind }
+        ensures count { result ≤ waiting + 2 }
+        ensures long { length due.new ≡ 65 }
+        ensures parts { take result due.new ≡ take waiting due.old ++ parts_of kind depth }
     {
-        let top = self.height - 1;
-        due[top] = part;
-        Cursor {
-            height: self.height,
-            left: self.left - 1,
-            forks: self.forks + forks,
-            place: self.place + size,
-            code: self.code + code,
-        }
-    }
-
-    // It has two parts of the same kind.
-    fn two(self, due: &mut [u8; 65], part: u8) -> Cursor
-        requires { CanRead self 1 1 }
-        ensures { joined result due.new ≡ with_two (joined self due.old) part }
-    {
-        let height = self.height;
-        let top = height - 1;
-        due[top] = part;
-        due[height] = part;
-        Cursor {
-            height: height + 1,
-            left: self.left - 1,
-            forks: self.forks,
-            place: self.place + 1,
-            code: self.code + 1,
-        }
-    }
-
-    // The node on top is read, and its parts become due at this depth.
-    fn advance(self, due: &mut [u8; 65], kind: u8, depth: u8) -> Cursor
-        requires { CanAdvance self kind depth }
-        ensures { joined result due.new ≡ advanced (joined self due.old) kind depth }
-    {
+        let process = Due {
+            depth,
+            transaction: false,
+        };
+        let transaction = Due {
+            depth,
+            transaction: true,
+        };
         match kind {
-            2 => self.two(due, depth),
-            3 => self.one(due, depth + 128, 0, 1, 2),
-            4 => self.one(due, depth, 1, 1, 3),
-            6 => self.two(due, depth + 128),
-            7 => self.leaf(2, 2),
-            8 => self.one(due, depth + 128, 0, 2, 2),
-            _ => self.leaf(5, 5),
+            Kind::Valp | Kind::Valt => {
+                self.read(5, 5);
+                waiting
+            }
+            Kind::Addp => {
+                self.read(1, 1);
+                wait_twice(due, waiting, process)
+            }
+            Kind::Atomic => {
+                self.read(1, 2);
+                wait(due, waiting, transaction)
+            }
+            Kind::Fork => {
+                self.forks += 1;
+                self.read(1, 3);
+                wait(due, waiting, process)
+            }
+            Kind::Addt => {
+                self.read(1, 1);
+                wait_twice(due, waiting, transaction)
+            }
+            Kind::Read => {
+                self.read(2, 2);
+                waiting
+            }
+            Kind::Write => {
+                self.read(2, 2);
+                wait(due, waiting, transaction)
+            }
         }
     }
-}
-
-// Where the first ATOMIC with more than 200 nodes below it stands, 0 if there is none: `long` if one is known, else `atomic` if that one has more.
-fn first_long(long: usize, nodes: usize, atomic: usize) -> usize
-    ensures { result ≡ long_with long nodes atomic }
-{
-    if long > 0 {
-        return long;
-    }
-    if nodes > 200 {
-        return atomic;
-    }
-    0
 }
 
 impl Transactions {
-    // The transactions with a node of this kind more, which stands at `place`.
-    fn with(self, kind: u8, place: usize) -> Transactions
-        requires { self.nodes < 18446744073709551615 }
-        ensures { result ≡ with_kind self kind place }
+    // No transaction yet.
+    fn none() -> Transactions
+        ensures { result ≡ no_transactions }
     {
-        match kind {
-            3 => Transactions {
-                atomic: place,
-                nodes: 0,
-                long: self.long,
-            },
-            5..=8 => Transactions {
-                atomic: self.atomic,
-                nodes: self.nodes + 1,
-                long: first_long(self.long, self.nodes + 1, self.atomic),
-            },
-            _ => self,
+        Transactions {
+            atomic: 0,
+            nodes: 0,
+            long: None,
         }
     }
-}
 
-// Whether nodes of the count or bytes of the job are left over where the tree ended.
-fn left_over(left: usize, end: usize, length: usize) -> bool
-    ensures { result ≡ ltb 0 left || ltb end length }
-{
-    if left > 0 {
-        return true;
+    // A node of this kind more, which stands at `place`.
+    fn count(&mut self, kind: Kind, place: usize)
+        requires { self.old.nodes < 18446744073709551615 }
+        ensures { self.new ≡ with_kind self.old kind place }
+    {
+        if kind == Kind::Atomic {
+            self.atomic = place;
+            self.nodes = 0;
+        } else if is_transaction(kind) {
+            self.nodes += 1;
+            if self.nodes > 200 {
+                self.long = self.long.or(Some(self.atomic));
+            }
+        }
     }
-    end < length
 }
 
 // The nodes of a job, as many as its count.
-fn nodes(job: &[u8], version: u16, count: usize) -> Reading
+fn nodes(job: &[u8], version: u16, count: usize) -> Result<Accepted, Refusal>
     requires { (7 ≤ length job.now) × (count ≤ 1000) }
-    ensures { result ≡ answer (onward (whole version (read_nodes count root 0 7 (drop 7 job.now))) short_only) }
+    ensures { outcome result ≡ answer (onward (whole version (read_nodes count root 0 7 (drop 7 job.now))) short_only) }
 {
-    let mut due = [0u8; 65];
-    due[0] = 1;
-    let mut s = Cursor::start(count);
-    let mut t = Transactions {
-        atomic: 0,
-        nodes: 0,
-        long: 0,
+    let root = Due {
+        depth: 1,
+        transaction: false,
     };
-    while s.height > 0 {
-        let place = s.place;
-        if s.left == 0 {
-            return Reading::Refused(9, place);
+    let mut due = [root; 65];
+    let mut height = 1;
+    let mut cursor = Cursor::start(count);
+    let mut transactions = Transactions::none();
+    while height > 0 {
+        height -= 1;
+        let part = due[height];
+        let place = cursor.place;
+        if cursor.left == 0 {
+            return Err(Reason::Length.at(place));
         }
-        let top = s.height - 1;
-        let part = due[top];
-        let found = node(job, place, part >= 128, part % 128, s.forks);
-        match found {
-            Tested::Kind(kind) => {
-                t = t.with(kind, place);
-                s = s.advance(&mut due, kind, part % 128 + 1);
-            }
-            Tested::Refused(number, at) => {
-                return Reading::Refused(number, at);
-            }
-        }
+        let kind = node(job, place, part, cursor.forks)?;
+        transactions.count(kind, place);
+        height = cursor.advance(&mut due, height, kind, part.depth + 1);
     }
-    let end = s.place;
-    if left_over(s.left, end, job.len()) {
-        return Reading::Refused(9, end);
+    let end = cursor.place;
+    if cursor.left > 0 || end < job.len() {
+        return Err(Reason::Length.at(end));
     }
-    let long = t.long;
-    if long > 0 {
-        return Reading::Refused(14, long);
+    if let Some(atomic) = transactions.long {
+        return Err(Reason::LongTransaction.at(atomic));
     }
-    let code = s.code;
-    Reading::Accepted(version, code)
+    Ok(Accepted {
+        version,
+        length: cursor.code,
+    })
 }
 
 // Reads a job. Total: every byte string is answered.
-pub fn read_job(job: &[u8]) -> Reading
-    ensures { result ≡ answer (read_job job.now) }
+pub fn read_job(job: &[u8]) -> Result<Accepted, Refusal>
+    ensures { outcome result ≡ answer (read_job job.now) }
 {
-    let length = job.len();
-    if length < 7 {
-        return Reading::Refused(1, length);
+    if job.len() < 7 {
+        return Err(Reason::Cut.at(job.len()));
     }
-    if !is_job_mark(job[0], job[1], job[2]) {
-        return Reading::Refused(2, 0);
+    if !job.starts_with(b"WSJ") {
+        return Err(Reason::Mark.at(0));
     }
-    let version = word::number16(job[3], job[4]);
+    let version = u16::from_be_bytes([job[3], job[4]]);
     if version != 1 {
-        return Reading::Refused(3, 3);
+        return Err(Reason::Version.at(3));
     }
-    let count = word::number16(job[5], job[6]);
-    if !counted(count) {
-        return Reading::Refused(4, 5);
+    let count = u16::from_be_bytes([job[5], job[6]]);
+    if !(1..=1000).contains(&count) {
+        return Err(Reason::Count.at(5));
     }
-    nodes(job, version, count as usize)
-}
-
-// Whether a node count is 1 to 1,000.
-fn counted(count: u16) -> bool
-    ensures { result ≡ leb 1 count && leb count 1000 }
-{
-    if count < 1 {
-        return false;
-    }
-    count <= 1000
-}
-
-// Whether the first three bytes are the mark `WSJ`.
-fn is_job_mark(a: u8, b: u8, c: u8) -> bool
-    ensures { result ≡ eqb a 0x57 && (eqb b 0x53 && eqb c 0x4A) }
-{
-    if a != 0x57 {
-        return false;
-    }
-    if b != 0x53 {
-        return false;
-    }
-    c == 0x4A
+    nodes(job, version, usize::from(count))
 }

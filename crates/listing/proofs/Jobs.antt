@@ -13,12 +13,9 @@ use Rattle.code.specs.Bytes.{compiled}
 use Rattle.code.specs.Reader.{read_code}
 use Rattle.compiler.specs.CompileTo.{compile_to}
 use Rattle.delivery.specs.Delivered.{Delivered, onto, room_for, settled, delivered}
-use Rattle.delivery.specs.declared.Answer.{Answer}
-use Rattle.delivery.specs.declared.Answer.TheVariants as answer
 use Rattle.machine.specs.Answers.{run_of}
 use Rattle.machine.specs.Steps.{fresh}
 use Rattle.scan.specs.Answer.{told}
-use Rattle.scan.specs.declared.Scanned.TheVariants as scanned
 use Rattle.scan.proofs.Whole.{too-long}
 use Rattle.script.proofs.Accepts.{accepted_is_job}
 use Rattle.script.specs.Bytes.{Bytes}
@@ -41,9 +38,9 @@ short code j b e = by_test (ltb 5005 (length code)) refl
   where
     by_test : (t : Bool) → ltb 5005 (length code) ≡ t → length code ≤ 5005
     by_test false f = ltb-false 5005 (length code) f
-    by_test true f = let z = too-long code b (ltb-true 5005 (length code) f) in let y : scanned.Refused 11 0 ≡ told (done j) = z ∙ ap told e in absurd (let w : ◌≡◌ {A = ℕ} 0 1 = cc in omega arith)
+    by_test true f = let z = too-long code b (ltb-true 5005 (length code) f) in let y : refused 11 0 ≡ told (done j) = z ∙ ap told e in absurd (let w : ◌≡◌ {A = ℕ} 0 1 = cc in omega arith)
 
-module _ (bytes before : List ℕ) (small : Bytes bytes) (room : length before ≡ 5005) (r : Answer) (output : List ℕ) (f : compile_to bytes before ≡ record { answer = r; output = output }) where
+module _ (bytes before : List ℕ) (small : Bytes bytes) (room : length before ≡ 5005) (r : Outcome ℕ) (output : List ℕ) (f : compile_to bytes before ≡ record { answer = r; output = output }) where
   abbrev settles : Outcome Job → Delivered
   settles o = settled (onward (mapped compiled o) (room_for before)) before
 
@@ -59,35 +56,35 @@ module _ (bytes before : List ℕ) (small : Bytes bytes) (room : length before �
     fits : length (compiled j) ≤ 5005
     fits = short (compiled j) j (code-bytes j (accepted_is_job bytes j small accepted).within.sized.valued) own
 
-    written : settles (done j) ≡ record { answer = answer.Done (length (compiled j)); output = onto (compiled j) before }
+    written : settles (done j) ≡ record { answer = done (length (compiled j)); output = onto (compiled j) before }
     written = rw (le-ltb (length before) (length (compiled j)) (omega (arith, fits, room))) refl
 
   -- a refusal is the job's
-  pub refused_job : (picks : List ℕ) (number place : ℕ) → r ≡ answer.Refused number place → refusal_line number place ≡ printed (job_run bytes picks)
+  pub refused_job : (picks : List ℕ) (number place : ℕ) → r ≡ refused number place → refusal_line number place ≡ printed (job_run bytes picks)
   unfolding job_run printed
   refused_job picks number place e = go (read_job bytes) refl
     where
       go : (o : Outcome Job) → read_job bytes ≡ o → refusal_line number place ≡ printed (onward o (λ (j : Job). run_of (compiled j) (fresh (compiled j)) picks))
       go (refused n p) q =
-          let a : answer.Refused n p ≡ r = ap (λ (o : Outcome Job). (settles o).answer) (sym q) ∙ ap (λ (d : Delivered). d.answer) comes in
+          let a : refused n p ≡ r = ap (λ (o : Outcome Job). (settles o).answer) (sym q) ∙ ap (λ (d : Delivered). d.answer) comes in
           let x : ◌≡◌ {A = ℕ} number n = cc in
           let y : ◌≡◌ {A = ℕ} place p = cc in
           ap (λ (k : ℕ). refusal_line k place) x ∙ ap (refusal_line n) y
       go (done j) q =
-          let a : answer.Done (length (compiled j)) ≡ r = ap (λ (d : Delivered). d.answer) (sym (written j q)) ∙ ap (λ (o : Outcome Job). (settles o).answer) (sym q) ∙ ap (λ (d : Delivered). d.answer) comes in
+          let a : done (length (compiled j)) ≡ r = ap (λ (d : Delivered). d.answer) (sym (written j q)) ∙ ap (λ (o : Outcome Job). (settles o).answer) (sym q) ∙ ap (λ (d : Delivered). d.answer) comes in
           absurd (let z : ◌≡◌ {A = ℕ} 0 1 = cc in omega arith)
 
   -- a result is its code
-  pub coded : (n : ℕ) → r ≡ answer.Done n → Coded bytes output n
+  pub coded : (n : ℕ) → r ≡ done n → Coded bytes output n
   coded n e = go (read_job bytes) refl
     where
       go : (o : Outcome Job) → read_job bytes ≡ o → Coded bytes output n
       go (refused m p) q =
-          let a : answer.Refused m p ≡ r = ap (λ (o : Outcome Job). (settles o).answer) (sym q) ∙ ap (λ (d : Delivered). d.answer) comes in
+          let a : refused m p ≡ r = ap (λ (o : Outcome Job). (settles o).answer) (sym q) ∙ ap (λ (d : Delivered). d.answer) comes in
           absurd (let z : ◌≡◌ {A = ℕ} 0 1 = cc in omega arith)
       go (done j) q =
-          let d : ◌≡◌ {A = Delivered} (record { answer = answer.Done (length (compiled j)); output = onto (compiled j) before }) (record { answer = r; output = output }) = sym (written j q) ∙ ap settles (sym q) ∙ comes in
-          let a : answer.Done (length (compiled j)) ≡ r = ap (λ (x : Delivered). x.answer) d in
+          let d : ◌≡◌ {A = Delivered} (record { answer = done (length (compiled j)); output = onto (compiled j) before }) (record { answer = r; output = output }) = sym (written j q) ∙ ap settles (sym q) ∙ comes in
+          let a : done (length (compiled j)) ≡ r = ap (λ (x : Delivered). x.answer) d in
           let l : length (compiled j) ≡ n = cc in
           record {
             job = j;

@@ -1,55 +1,15 @@
--- Texts put on a page one behind the other, and how long they are. Assumes nothing.
-use Prim.Native.Nat.{ℕ, zero, suc, ◌+◌, ◌-◌, ◌*◌, ◌/◌, ◌%◌, ◌^◌, ◌<◌, ◌≤◌, min}
+-- The digits of a number on a page, and how many they are. Assumes nothing.
+use Prim.Native.Nat.{ℕ, zero, suc, ◌+◌, ◌-◌, ◌*◌, ◌/◌, ◌%◌, ◌^◌, ◌<◌, ◌≤◌}
 use mathlib.Core.Bool.{Bool, true, false, cond}
-use mathlib.Core.Path.{◌≡◌, refl, sym, ap, subst, ◌∙◌}
-use mathlib.Core.List.{List, [], ◌∷◌, ◌++◌, append_assoc, append-nil}
+use mathlib.Core.Path.{◌≡◌, refl, ap, subst, ◌∙◌}
+use mathlib.Core.List.{[], ◌∷◌, ◌++◌}
 use native.Mathlib.Nat.{pow-suc, one-le-pow}
 use native.Mathlib.Omega.{arith}
 use borrow.Author.Tests.{lt-ltb, le-ltb}
 use lib.Dec.{ltb, lit<}
-use lib.ListN.{length, take, get_or, set, length-append, length-set, length-take}
-use lib.Seq.{take-suc, take-set-le, get_or-set_same}
+use lib.ListN.{length, length-append}
 use Rattle.io.specs.Digits as io
-use Rattle.listing.specs.InnerPage.{Put}
 use Rattle.listing.specs.Listed.{digits, decimal}
-
--- two texts, one behind the other
-pub put_put : {a r s : ℕ} {t u e m x : List ℕ} → Put a t e r m → Put r u m s x → Put a (t ++ u) e s x
-put_put {a} {r} {s} {t} {u} {e} {m} {x} p q =
-    record {
-      end = q.end ∙ ap (◌+ length u) p.end ∙ (let z : a + length t + length u ≡ a + (length t + length u) = omega arith in z) ∙ ap (a +◌) (sym (length-append t u));
-      front = q.front ∙ ap (◌++ u) p.front ∙ append_assoc (take a e) t u;
-    }
-
--- the same text
-pub put_same : {a r : ℕ} {t u e x : List ℕ} → t ≡ u → Put a t e r x → Put a u e r x
-put_same {a} {r} {e = e} {x = x} q p = subst (λ (v : List ℕ). Put a v e r x) q p
-
--- no text
-pub put_none : (a : ℕ) (e : List ℕ) → Put a [] e a e
-put_none a e = record { end = omega arith; front = sym (append-nil (take a e)) }
-
--- a page that has a text and nothing else at its front
-pub record Whole (text : List ℕ) (r : ℕ) (page : List ℕ) : Type 0 where
-  pub front : take r page ≡ text
-  pub size : r ≡ length text
-  pub within : r ≤ length page
-
-pub whole : {text e x : List ℕ} {r : ℕ} → Put 0 text e r x → Whole text r x
-whole {text} {x = x} {r = r} p =
-    let s : r ≡ length text = omega (arith, p.end) in
-    let m : length (take r x) ≡ min r (length x) = length-take r x in
-    record { front = p.front; size = s; within = omega (arith, s, m, ap length p.front) }
-
--- one byte more of a text, behind those that are there
-pub one_more : (at i : ℕ) (text before page : List ℕ) → i < length text → at + i < length page → take (at + i) page ≡ take at before ++ take i text
-    → take (at + (i + 1)) (set page (at + i) (get_or text i 0)) ≡ take at before ++ take (i + 1) text
-one_more at i text before page h k e =
-    ap (λ (n : ℕ). take n (set page (at + i) (get_or text i 0))) (let z : at + (i + 1) ≡ suc (at + i) = omega arith in z) ∙ stored (at + i) (get_or text i 0) page k ∙ ap (◌++ (get_or text i 0 ∷ [])) e ∙ append_assoc (take at before) (take i text) (get_or text i 0 ∷ []) ∙
-    ap (take at before ++◌) (sym (take-suc text i 0 h) ∙ ap (λ (n : ℕ). take n text) (let z : suc i ≡ i + 1 = omega arith in z))
-  where
-    stored : (j a : ℕ) (l : List ℕ) → j < length l → take (suc j) (set l j a) ≡ take j l ++ (a ∷ [])
-    stored j a l q = take-suc (set l j a) j 0 (subst (j <◌) (sym (length-set l j a)) q) ∙ ap (λ (x : ℕ). take j (set l j a) ++ (x ∷ [])) (get_or-set_same l j a 0 q) ∙ ap (◌++ (a ∷ [])) (take-set-le j l j a (omega arith))
 
 -- a digit below 10
 glyph_is : (d : ℕ) → d < 10 → io.hex_digit_ascii d ≡ 48 + d

@@ -20,10 +20,9 @@ use Rattle.ops.specs.Shown.{show_op, shown_op}
 use Rattle.script.specs.Bytes.{bytes16, bytes32}
 use Rattle.script.specs.Jobs.{Job}
 use Rattle.script.specs.Outcome.{Outcome, done}
-use Rattle.thread.specs.declared.Action.{Action}
 use Rattle.thread.specs.declared.Thread.{Thread}
 use Rattle.thread.specs.Threads.{exists, blank, with_rule, below, sum_told, adding, push, add, begin, read, write, closed, source_of, first_stale, overlaid, recounted}
-use Rattle.thread.specs.InnerStep.{rule_at, enough_for, takes_op, source_number, outside_turn, Handed, handed, unacted, acting, note_after, over_at_once, summing, committed, committed_by, performed, attempted, stepped, recounted_in, risen_by, sized_by, table_from}
+use Rattle.thread.specs.InnerStep.{rule_at, enough_for, takes_op, source_number, outside_turn, Numbered, Handed, handed, unacted, acting, note_after, over_at_once, summing, committed, committed_by, performed, attempted, stepped, recounted_in, risen_by, sized_by, table_from}
 use Rattle.machine.specs.Steps.{State, Acted, alters, committing, commit, ruled, act, perform, settle, thread_at, pick_among, DoesOne, table_in}
 use Rattle.machine.specs.Fits.{Exists, Fits, Typed}
 use Rattle.machine.specs.InnerStands.{register_cells, op_of, Ready}
@@ -144,7 +143,7 @@ module _ (sum : Rule) (table : Table) (t : Thread) where
 
   performs_add : Small → acted_as (performed sum table t (show_op code.add)) ≡ act sum table t code.add
   unfolding acted_as performed act perform event_of outside_turn rule_at rule_after used_by rule_number backs_after add
-  performs_add l = ap (λ (a : Action). acted_as (handed a table)) (sums l) ∙ go (eqb t.begin 0) (sum_told t)
+  performs_add l = ap (λ (a : Numbered). acted_as (handed a table)) (sums l) ∙ go (eqb t.begin 0) (sum_told t)
     where
       go : (b : Bool) (n : ℕ) → ruled (alters (add sum t) table (summed (eqb (cond b 1 0) 0)) n) ≡ ruled (alters (add sum t) table (summed (not b)) n)
       go true n = refl
@@ -184,7 +183,7 @@ module _ (sum : Rule) (table : Table) (t : Thread) where
   -- and the other way: every number that is handed back is the event's
   hands_add : Small → performed sum table t (show_op code.add) ≡ handed_as (act sum table t code.add)
   unfolding handed_as performed act perform event_number event_register turn_number outside_turn add rule_at rule_after used_by rule_number backs_after
-  hands_add l = ap (λ (a : Action). handed a table) (sums l) ∙ go (eqb t.begin 0) (sum_told t)
+  hands_add l = ap (λ (a : Numbered). handed a table) (sums l) ∙ go (eqb t.begin 0) (sum_told t)
     where
       go : (b : Bool) (n : ℕ) → handed (acting 2 (cond b 1 0) n (add sum t)) table ≡ handed_as (ruled (alters (add sum t) table (summed (not b)) n))
       go true n = refl

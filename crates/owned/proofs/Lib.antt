@@ -1,3 +1,2 @@
 -- Why the calls on an owned state do what their contracts say.
-pub mod First
 pub mod Freshly

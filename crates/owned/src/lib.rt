@@ -3,128 +3,173 @@
 #![tactic(auto)]
 
 ghost use Rattle.std.specs.Prelude.{pos, replicate, ◌≡◌};
-ghost use Rattle.machine.specs.Answers.{answered, fresh_call, run_call, step_call};
+ghost use Rattle.machine.specs.Answers.{Returned, answered, fresh_call, run_call, step_call};
+ghost use Rattle.machine.specs.Steps.{State, state_from};
 ghost use Rattle.owned.specs.Owned.{freshly_run, on_first};
 ghost use Rattle.thread.specs.Threads.{blank};
 
-// What `fresh` leaves and answers.
+// A state that is owned: one register, one count and one record more than fit any code.
 #[derive(Clone, Copy)]
-pub struct Laid {
+pub struct Owned {
     pub registers: [i32; 65],
     pub counts: [u32; 65],
     pub threads: [thread::Thread; 17],
-    pub reply: machine::FreshReply,
+}
+
+// How many of each a call is lent.
+#[derive(Clone, Copy, Debug, PartialEq, Eq)]
+pub struct Lent {
+    pub registers: usize,
+    pub counts: usize,
+    pub records: usize,
+}
+
+// What a call leaves and answers.
+#[derive(Clone, Copy)]
+pub struct Left<R> {
+    pub state: Owned,
+    pub reply: R,
+}
+
+// A call on a state that is lent.
+pub trait Call {
+    type Reply;
+
+    // what it comes to
+    ghost comes_to: { Self → State → Returned Self.Reply };
+
+    fn on(
+        self,
+        registers: &mut [i32],
+        counts: &mut [u32],
+        threads: &mut [thread::Thread],
+    ) -> Self::Reply
+        ensures { answered registers.new counts.new threads.new result ≡ comes_to self (state_from registers.old counts.old threads.old) };
+}
+
+// Lays down a fresh state.
+#[derive(Clone, Copy)]
+pub struct FreshCall<'a> {
+    pub code: &'a [u8],
+}
+
+// Does one pick.
+#[derive(Clone, Copy)]
+pub struct StepCall<'a> {
+    pub code: &'a [u8],
+    pub pick: u8,
+}
+
+// Does a list of picks.
+#[derive(Clone, Copy)]
+pub struct RunCall<'a> {
+    pub code: &'a [u8],
+    pub picks: &'a [u8],
+}
+
+impl<'a> Call for FreshCall<'a> {
+    type Reply = machine::FreshReply;
+
+    ghost comes_to = { λ c s. fresh_call c.code.now s };
+
+    fn on(
+        self,
+        registers: &mut [i32],
+        counts: &mut [u32],
+        threads: &mut [thread::Thread],
+    ) -> machine::FreshReply {
+        engine::kuspigo_fresh(self.code, registers, counts, threads)
+    }
+}
+
+impl<'a> Call for StepCall<'a> {
+    type Reply = machine::StepReply;
+
+    ghost comes_to = { λ c s. step_call c.code.now s c.pick };
+
+    fn on(
+        self,
+        registers: &mut [i32],
+        counts: &mut [u32],
+        threads: &mut [thread::Thread],
+    ) -> machine::StepReply {
+        engine::kuspigo_step(self.code, registers, counts, threads, self.pick)
+    }
+}
+
+impl<'a> Call for RunCall<'a> {
+    type Reply = machine::RunReply;
+
+    ghost comes_to = { λ c s. run_call c.code.now s c.picks.now };
+
+    fn on(
+        self,
+        registers: &mut [i32],
+        counts: &mut [u32],
+        threads: &mut [thread::Thread],
+    ) -> machine::RunReply {
+        engine::kuspigo_run(self.code, registers, counts, threads, self.picks)
+    }
+}
+
+// Any of these calls on the first so many.
+pub fn lend<C: Call>(state: Owned, lent: Lent, call: C) -> Left<C::Reply>
+    ensures { answered result.state.registers result.state.counts result.state.threads result.reply ≡ on_first lent.registers lent.counts lent.records (C.comes_to call) state.registers state.counts state.threads }
+{
+    let mut registers = state.registers;
+    let mut counts = state.counts;
+    let mut threads = state.threads;
+    let reply = call.on(
+        &mut registers[..lent.registers.min(65)],
+        &mut counts[..lent.counts.min(65)],
+        &mut threads[..lent.records.min(17)],
+    );
+    Left {
+        state: Owned {
+            registers,
+            counts,
+            threads,
+        },
+        reply,
+    }
 }
 
 // A fresh state.
-pub fn fresh(
-    code: &[u8],
-    registers: [i32; 65],
-    cells: usize,
-    counts: [u32; 65],
-    counters: usize,
-    threads: [thread::Thread; 17],
-    records: usize,
-) -> Laid
-    ensures { answered result.registers result.counts result.threads result.reply ≡ on_first cells counters records (λ s. fresh_call code.now s) registers counts threads }
+pub fn fresh(code: &[u8], state: Owned, lent: Lent) -> Left<machine::FreshReply>
+    ensures { answered result.state.registers result.state.counts result.state.threads result.reply ≡ on_first lent.registers lent.counts lent.records (λ s. fresh_call code.now s) state.registers state.counts state.threads }
 {
-    let mut rs = registers;
-    let mut ns = counts;
-    let mut ts = threads;
-    let n = engine::least(cells, 65);
-    let k = engine::least(counters, 65);
-    let m = engine::least(records, 17);
-    let reply = engine::kuspigo_fresh(code, &mut rs[..n], &mut ns[..k], &mut ts[..m]);
-    Laid {
-        registers: rs,
-        counts: ns,
-        threads: ts,
-        reply,
-    }
-}
-
-// What `step` leaves and answers.
-#[derive(Clone, Copy)]
-pub struct Stepped {
-    pub registers: [i32; 65],
-    pub counts: [u32; 65],
-    pub threads: [thread::Thread; 17],
-    pub reply: machine::StepReply,
+    lend(state, lent, FreshCall { code })
 }
 
 // One pick.
-pub fn step(
-    code: &[u8],
-    registers: [i32; 65],
-    cells: usize,
-    counts: [u32; 65],
-    counters: usize,
-    threads: [thread::Thread; 17],
-    records: usize,
-    pick: u8,
-) -> Stepped
-    ensures { answered result.registers result.counts result.threads result.reply ≡ on_first cells counters records (λ s. step_call code.now s pick) registers counts threads }
+pub fn step(code: &[u8], state: Owned, lent: Lent, pick: u8) -> Left<machine::StepReply>
+    ensures { answered result.state.registers result.state.counts result.state.threads result.reply ≡ on_first lent.registers lent.counts lent.records (λ s. step_call code.now s pick) state.registers state.counts state.threads }
 {
-    let mut rs = registers;
-    let mut ns = counts;
-    let mut ts = threads;
-    let n = engine::least(cells, 65);
-    let k = engine::least(counters, 65);
-    let m = engine::least(records, 17);
-    let reply = engine::kuspigo_step(code, &mut rs[..n], &mut ns[..k], &mut ts[..m], pick);
-    Stepped {
-        registers: rs,
-        counts: ns,
-        threads: ts,
-        reply,
-    }
-}
-
-// What `run` leaves and answers.
-#[derive(Clone, Copy)]
-pub struct Ran {
-    pub registers: [i32; 65],
-    pub counts: [u32; 65],
-    pub threads: [thread::Thread; 17],
-    pub reply: machine::RunReply,
+    lend(state, lent, StepCall { code, pick })
 }
 
 // A list of picks.
-pub fn run(
-    code: &[u8],
-    registers: [i32; 65],
-    cells: usize,
-    counts: [u32; 65],
-    counters: usize,
-    threads: [thread::Thread; 17],
-    records: usize,
-    picks: &[u8],
-) -> Ran
-    ensures { answered result.registers result.counts result.threads result.reply ≡ on_first cells counters records (λ s. run_call code.now s picks.now) registers counts threads }
+pub fn run(code: &[u8], state: Owned, lent: Lent, picks: &[u8]) -> Left<machine::RunReply>
+    ensures { answered result.state.registers result.state.counts result.state.threads result.reply ≡ on_first lent.registers lent.counts lent.records (λ s. run_call code.now s picks.now) state.registers state.counts state.threads }
 {
-    let mut rs = registers;
-    let mut ns = counts;
-    let mut ts = threads;
-    let n = engine::least(cells, 65);
-    let k = engine::least(counters, 65);
-    let m = engine::least(records, 17);
-    let reply = engine::kuspigo_run(code, &mut rs[..n], &mut ns[..k], &mut ts[..m], picks);
-    Ran {
-        registers: rs,
-        counts: ns,
-        threads: ts,
-        reply,
-    }
+    lend(state, lent, RunCall { code, picks })
 }
 
 // A fresh state, and a list of picks on it: 64 registers, 64 counts and 16 records, the one behind them 0.
-pub fn shown(code: &[u8], picks: &[u8]) -> Ran
-    ensures { answered result.registers result.counts result.threads result.reply ≡ on_first 64 64 16 (freshly_run code.now picks.now) (replicate 65 (pos 0)) (replicate 65 0) (replicate 17 blank) }
+pub fn shown(code: &[u8], picks: &[u8]) -> Left<machine::RunReply>
+    ensures { answered result.state.registers result.state.counts result.state.threads result.reply ≡ on_first 64 64 16 (freshly_run code.now picks.now) (replicate 65 (pos 0)) (replicate 65 0) (replicate 17 blank) }
 {
-    let t = engine::spawned(0, 0);
-    let laid = fresh(code, [0; 65], 64, [0; 65], 64, [t; 17], 16);
-    let rs = laid.registers;
-    let ns = laid.counts;
-    let ts = laid.threads;
-    run(code, rs, 64, ns, 64, ts, 16, picks)
+    let lent = Lent {
+        registers: 64,
+        counts: 64,
+        records: 16,
+    };
+    let blank = engine::spawned(0, 0);
+    let empty = Owned {
+        registers: [0; 65],
+        counts: [0; 65],
+        threads: [blank; 17],
+    };
+    let laid = fresh(code, empty, lent);
+    run(code, laid.state, lent, picks)
 }

@@ -1,38 +1,24 @@
--- The same byte several times, and put in front of a part. Assumes nothing.
-use Prim.Native.Nat.{ℕ, ◌+◌, ◌≤◌, ◌<◌}
+-- The same byte put several times in front of a part. Assumes nothing.
+use Prim.Native.Nat.{ℕ, ◌+◌, ◌-◌, ◌≤◌}
 use mathlib.Core.Path.{◌≡◌, sym, ap, ◌∙◌}
-use mathlib.Core.List.{List, [], ◌∷◌, ◌++◌}
+use mathlib.Core.List.{List, ◌++◌}
 use native.Mathlib.Omega.{arith}
-use lib.ListN.{length, take, drop, set, replicate, length-replicate, replicate-append-replicate, length-append, length-take, length-drop, take-append-drop}
+use lib.ListN.{length, take, drop, replicate, length-replicate}
+use lib.Seq.{drop-drop}
+use borrow.Rule.Slice.PartMut.{mid_of, put_mid, mid_len}
 use Rattle.delivery.specs.InnerPlaces.{placed_at, moved, inserted}
-use Rattle.delivery.proofs.Places.{one_stored, placed_placed, placed_moved, inserted_none}
+use Rattle.delivery.proofs.Places.{placed_moved, inserted_none}
 
--- ---- the same byte, several times
-pub fill_none : (start b : ℕ) (xs : List ℕ) → xs ≡ placed_at start (replicate 0 b) xs
-fill_none start b xs = let n : start + 0 ≡ start = omega arith in rw n (sym (take-append-drop start xs))
-
-pub fill_length : (start k b : ℕ) (xs : List ℕ) → start + k ≤ length xs → length (placed_at start (replicate k b) xs) ≡ length xs
-fill_length start k b xs h =
-    omega (
-      arith,
-      length-append (take start xs) (replicate k b ++ drop (start + length (replicate k b)) xs),
-      length-append (replicate k b) (drop (start + length (replicate k b)) xs),
-      length-take start xs,
-      length-drop (start + length (replicate k b)) xs,
-      length-replicate k b,
-    )
-
-pub fill_turn : (start k b : ℕ) (xs out : List ℕ) → start + k < length xs → out ≡ placed_at start (replicate k b) xs → set out (start + k) b ≡ placed_at start (replicate (k + 1) b) xs
-fill_turn start k b xs out h e =
-    let l = fill_length start k b xs (omega arith) in
-    let p = placed_placed start (start + k) (replicate k b) (b ∷ []) xs (omega (arith, length-replicate k b)) (omega arith) in
-    ap (λ (o : List ℕ). set o (start + k) b) e ∙ one_stored (start + k) b (placed_at start (replicate k b) xs) (omega arith) ∙ p ∙ ap (λ (r : List ℕ). placed_at start r xs) (replicate-append-replicate k 1 b)
-
--- ---- in front of a part
-pub put_before : (i e n b : ℕ) (xs mid out : List ℕ) → i ≤ e → e + n ≤ length xs → mid ≡ moved i e n xs → out ≡ placed_at i (replicate n b) mid → out ≡ inserted i e (replicate n b) xs
-put_before i e n b xs mid out p q a c =
+-- in front of a part, which was moved on before
+pub put_before : (i e n b : ℕ) (xs mid ys : List ℕ) → i ≤ e → e + n ≤ length xs → length mid ≡ length xs → mid ≡ moved i e n xs → ys ≡ replicate (length (mid_of i (i + n - i) mid)) b → put_mid i (i + n - i) mid ys ≡ inserted i e (replicate n b) xs
+put_before i e n b xs mid ys p q l a f =
+    let k : i + n - i ≡ n = omega arith in
     let r : length (replicate n b) ≡ n = length-replicate n b in
-    c ∙ ap (placed_at i (replicate n b)) (a ∙ ap (λ (n : ℕ). moved i e n xs) (sym r)) ∙ placed_moved i e (replicate n b) xs p (omega arith)
+    let m : length (mid_of i (i + n - i) mid) ≡ n = mid_len i (i + n) mid (omega arith) ∙ k in
+    let y : ys ≡ replicate n b = f ∙ ap (λ (n : ℕ). replicate n b) m in
+    let d : drop (i + n - i) (drop i mid) ≡ drop (i + length (replicate n b)) mid = ap (λ (k : ℕ). drop k (drop i mid)) (k ∙ sym r) ∙ drop-drop (length (replicate n b)) i mid in
+    ap (λ (ys : List ℕ). put_mid i (i + n - i) mid ys) y ∙ ap (λ (z : List ℕ). take i mid ++ (replicate n b ++ z)) d
+    ∙ ap (placed_at i (replicate n b)) (a ∙ ap (λ (n : ℕ). moved i e n xs) (sym r)) ∙ placed_moved i e (replicate n b) xs p (omega arith)
 
 -- nothing in front of a part
 pub put_none : (i e n b : ℕ) (xs : List ℕ) → i ≤ e → n ≡ 0 → xs ≡ inserted i e (replicate n b) xs

@@ -1,5 +1,5 @@
 -- For the proofs of the functions that read formulas only: what each of them reads, by the reader that goes byte by byte, and what it writes.
-use Rattle.std.specs.Prelude.{ℕ, ◌+◌, ◌*◌, ◌-◌, ◌/◌, ◌%◌, ◌≤◌, ◌<◌, ◌≡◌, Bool, true, false, cond, ◌&&◌, List, ◌++◌, ◌⊎◌, eqb, ltb, length, drop, get_or, replicate}
+use Rattle.std.specs.Prelude.{ℕ, ◌+◌, ◌*◌, ◌-◌, ◌≤◌, ◌<◌, ◌≡◌, Bool, true, false, cond, ◌&&◌, List, ◌++◌, ◌⊎◌, eqb, ltb, length, drop, get_or, replicate, Result, Ok, Err}
 use Rattle.delivery.specs.InnerPlaces.{placed_at}
 use Rattle.script.specs.Tree.{Sort, process, transaction, Tree}
 use Rattle.script.specs.Tree as T
@@ -7,14 +7,25 @@ use Rattle.script.specs.InnerTrees.{sort_of, nodes as nodesOf, bytes, kind_in}
 use Rattle.grammar.specs.Grammar.{is_blank, is_digit, Digits}
 use Rattle.grammar.specs.Reader.{SumIn, TermIn, first, added, write, opens_s, opens_t, sum_in, grown}
 use Rattle.grammar.specs.Reader.{State, want, spelling, after, on, step, fails, read_from}
-use Rattle.parsing.specs.declared.Cursor.{Cursor}
 use Rattle.parsing.specs.declared.Scanned.{Scanned}
 use Rattle.parsing.specs.declared.Opening.{Opening}
-use Rattle.parsing.specs.declared.Opening.TheVariants.{Write, Read, Fails, Other}
+use Rattle.parsing.specs.declared.Opening.TheVariants.{Write, Read, Other}
 
--- a cursor in one number: 16 bits say where, one bit that it did not fail, 20 bits the job's size, the rest its nodes
-unfoldable pub cursor_of : ℕ → Cursor
-cursor_of r = record { at = r % 0x10000; size = r / 0x20000 % 0x100000; nodes = r / 0x2000000000; failed = eqb (r / 0x10000 % 2) 0 }
+-- how far reading has come: the next byte of the text, the bytes of the job so far and its nodes
+pub record Cursor : Type 0 where
+  pub at : ℕ
+  pub size : ℕ
+  pub nodes : ℕ
+
+-- where reading stopped: behind what was read, or where that is no script
+abbrev pub place : Result Cursor ℕ → ℕ
+place (Ok r) = r.at
+place (Err at) = at
+
+-- the same from what a function answers, and the job that it leaves
+abbrev pub handed : Result ℕ ℕ → (size nodes : ℕ) → Result Cursor ℕ
+handed (Ok at) size nodes = Ok (record { at = at; size = size; nodes = nodes })
+handed (Err at) size nodes = Err at
 
 -- this byte stands there
 unfoldable pub is_at : List ℕ → ℕ → ℕ → Bool
@@ -32,20 +43,24 @@ pub record Skipped (bs : List ℕ) (from next : ℕ) : Type 0 where
   pub blank : from < next → is_blank (get_or bs from 0) ≡ true
   pub stopped : next < length bs → is_blank (get_or bs next 0) ≡ false
 
--- digits were read: all of them, or up to one that makes the number too large, or there is none
-abbrev pub ScannedSo : Bool → (bs : List ℕ) (from most value next : ℕ) → Type 0
-ScannedSo false bs from most value next = (from < next) × (next < length bs → is_digit (get_or bs next 0) ≡ false)
-ScannedSo true bs from most value next =
-    ((next ≡ from) × (next < length bs → is_digit (get_or bs next 0) ≡ false))
-    ⊎ ((next < length bs) × (is_digit (get_or bs next 0) ≡ true) × (most < value * 10 + (get_or bs next 0 - 48)))
+-- digits were read up to there, and make that number
+pub record Scanning (bs : List ℕ) (from most next value : ℕ) : Type 0 where
+  pub ahead : from ≤ next
+  pub within : next ≤ length bs
+  pub digits : Digits 0 value (drop from bs) (drop next bs)
+  pub small : value ≤ most
 
--- the digits that were read, and what stopped it
-pub record ScannedTo (bs : List ℕ) (from most : ℕ) (r : Scanned) : Type 0 where
-  pub ahead : from ≤ r.at
-  pub within : r.at ≤ length bs
-  pub digits : Digits 0 r.value (drop from bs) (drop r.at bs)
-  pub small : r.value ≤ most
-  pub so : ScannedSo r.failed bs from most r.value r.at
+-- no digit stands there
+abbrev pub NoDigit : (bs : List ℕ) (i : ℕ) → Type 0
+NoDigit bs i = i < length bs → is_digit (get_or bs i 0) ≡ false
+
+-- all the digits were read, one at least; or there is none, or one that makes the number too large
+abbrev pub ScannedTo : (bs : List ℕ) (from most : ℕ) → Result Scanned ℕ → Type 0
+ScannedTo bs from most (Ok r) = Scanning bs from most r.at r.value × (from < r.at) × NoDigit bs r.at
+ScannedTo bs from most (Err at) =
+    (value : ℕ)
+    × Scanning bs from most at value
+    × (((at ≡ from) × NoDigit bs at) ⊎ ((at < length bs) × (is_digit (get_or bs at 0) ≡ true) × (most < value * 10 + (get_or bs at 0 - 48))))
 
 -- the numbers of a call are small enough
 pub record Ready (bs : List ℕ) (from size nodes opened : ℕ) : Type 0 where
@@ -80,102 +95,85 @@ Later {s = transaction} bs i (first c) = NoRegister bs i
 Later {s = transaction} bs i (added a c) = Unit {0}
 
 -- a term was read, or fails
-abbrev pub TermSo : Bool → (s : Sort) (bs : List ℕ) (from size nodes opened : ℕ) → Cursor → (before after : List ℕ) → Type 0
-TermSo false s bs from size nodes opened r before out =
+abbrev pub TermSo : (s : Sort) (bs : List ℕ) (from size nodes opened : ℕ) → Result Cursor ℕ → (before after : List ℕ) → Type 0
+TermSo s bs from size nodes opened (Ok r) before out =
     (t : Tree s)
     × ((c : TermIn s) → opens_t c ≡ opened → Later bs from c → read_from (want c) (drop from bs) ≡ read_from (after (grown c t) (sum_in c)) (drop r.at bs))
     × (from < r.at)
     × Built s t from size nodes r.at r.size r.nodes before out
-TermSo true s bs from size nodes opened r before out =
-    (c : TermIn s) → opens_t c ≡ opened → Later bs from c → read_from (want c) (drop from bs) ≡ fails (length bs - r.at)
+TermSo s bs from size nodes opened (Err at) before out = (c : TermIn s) → opens_t c ≡ opened → Later bs from c → read_from (want c) (drop from bs) ≡ fails (length bs - at)
 
 -- what `term` comes to, and what it leaves of the job
-pub record TermTo (s : Sort) (bs : List ℕ) (from size nodes opened : ℕ) (r : Cursor) (before after : List ℕ) : Type 0 where
+pub record TermTo (s : Sort) (bs : List ℕ) (from size nodes opened : ℕ) (r : Result Cursor ℕ) (before after : List ℕ) : Type 0 where
   pub kept : length after ≡ length before
-  pub within : r.at ≤ length bs
-  pub so : TermSo r.failed s bs from size nodes opened r before after
+  pub within : place r ≤ length bs
+  pub so : TermSo s bs from size nodes opened r before after
 
 -- a sum was read, or fails
-abbrev pub SumSo : Bool → (s : Sort) (bs : List ℕ) (from size nodes opened : ℕ) → Cursor → (before after : List ℕ) → Type 0
-SumSo false s bs from size nodes opened r before out =
+abbrev pub SumSo : (s : Sort) (bs : List ℕ) (from size nodes opened : ℕ) → Result Cursor ℕ → (before after : List ℕ) → Type 0
+SumSo s bs from size nodes opened (Ok r) before out =
     (t : Tree s)
     × ((c : SumIn s) → opens_s c ≡ opened → read_from (want (first c)) (drop from bs) ≡ read_from (after t c) (drop r.at bs))
     × Stopped bs r.at
     × (from < r.at)
     × Built s t from size nodes r.at r.size r.nodes before out
-SumSo true s bs from size nodes opened r before out = (c : SumIn s) → opens_s c ≡ opened → read_from (want (first c)) (drop from bs) ≡ fails (length bs - r.at)
+SumSo s bs from size nodes opened (Err at) before out = (c : SumIn s) → opens_s c ≡ opened → read_from (want (first c)) (drop from bs) ≡ fails (length bs - at)
 
 -- what `sum` comes to, and what it leaves of the job
-pub record SumTo (s : Sort) (bs : List ℕ) (from size nodes opened : ℕ) (r : Cursor) (before after : List ℕ) : Type 0 where
+pub record SumTo (s : Sort) (bs : List ℕ) (from size nodes opened : ℕ) (r : Result Cursor ℕ) (before after : List ℕ) : Type 0 where
   pub kept : length after ≡ length before
-  pub within : r.at ≤ length bs
-  pub so : SumSo r.failed s bs from size nodes opened r before after
+  pub within : place r ≤ length bs
+  pub so : SumSo s bs from size nodes opened r before after
 
 -- what begins a transaction
-abbrev pub OpeningTo : (bs : List ℕ) (from opened : ℕ) → Opening → Type 0
-OpeningTo bs from opened (Write next v) =
+abbrev pub OpeningTo : (bs : List ℕ) (from opened : ℕ) → Result Opening ℕ → Type 0
+OpeningTo bs from opened (Ok (Write next v)) =
     (from + 3 < next)
     × (next ≤ length bs)
     × (opened < 64)
     × (v < 64)
     × ((c : SumIn transaction) → opens_s c ≡ opened → read_from (want (first c)) (drop from bs) ≡ read_from (want (first (write v c))) (drop next bs))
-OpeningTo bs from opened (Fails place) =
-    (place ≤ length bs) × ((c : SumIn transaction) → opens_s c ≡ opened → read_from (want (first c)) (drop from bs) ≡ fails (length bs - place))
-OpeningTo bs from opened (Read next v) =
+OpeningTo bs from opened (Ok (Read next v)) =
     (from + 1 < next)
     × (next ≤ length bs)
     × (v < 64)
     × ((c : SumIn transaction) → read_from (want (first c)) (drop from bs) ≡ read_from (after (T.Read v) c) (drop next bs))
-OpeningTo bs from opened (Other next) = Skipped bs from next × NoRegister bs next
+OpeningTo bs from opened (Ok (Other next)) = Skipped bs from next × NoRegister bs next
+OpeningTo bs from opened (Err at) = (at ≤ length bs) × ((c : SumIn transaction) → opens_s c ≡ opened → read_from (want (first c)) (drop from bs) ≡ fails (length bs - at))
 
--- the letters of a word behind its first: those that are there are passed, the next one is not there
-pub record WordTo (bs : List ℕ) (at : ℕ) (letters : List ℕ) (next : ℕ) : Type 0 where
-  pub ahead : at < next
-  pub within : next ≤ length bs
-  pub most : next ≤ at + 1 + length letters
-  pub short : next < at + 1 + length letters → (x : State) → read_from (spelling letters x) (drop (at + 1) bs) ≡ fails (length bs - next)
-  pub whole : next ≡ at + 1 + length letters → (x : State) → read_from (spelling letters x) (drop (at + 1) bs) ≡ read_from x (drop next bs)
+-- the letters of a word behind its first: all stand there and are passed, or the first one that does not is named
+abbrev pub WordTo : (bs : List ℕ) (from : ℕ) (letters : List ℕ) → Result ℕ ℕ → Type 0
+WordTo bs from letters (Ok next) = (next ≡ from + length letters) × (next ≤ length bs) × ((x : State) → read_from (spelling letters x) (drop from bs) ≡ read_from x (drop next bs))
+WordTo bs from letters (Err at) = (from ≤ at) × (at ≤ length bs) × ((x : State) → read_from (spelling letters x) (drop from bs) ≡ fails (length bs - at))
 
--- a cursor with a `)` behind it
-unfoldable pub shut_to : List ℕ → Cursor → Cursor
-shut_to bs c =
-    cond
-    c.failed
-    c
-    (cond
-    (is_at bs c.at 41)
-    (record { at = c.at + 1; size = c.size; nodes = c.nodes; failed = false })
-    (record { at = c.at; size = 0; nodes = 0; failed = true }))
+-- behind a `)` that stands there
+unfoldable pub shut_to : List ℕ → ℕ → Result ℕ ℕ
+shut_to bs i = cond (is_at bs i 41) (Ok (i + 1)) (Err i)
 
 -- a sum's last cursor, with its sums' kind bytes counted
 abbrev pub joined_to : Cursor → (at adds : ℕ) → Cursor
-joined_to last at adds = record { at = at; size = last.size + adds; nodes = last.nodes + adds; failed = false }
+joined_to last at adds = record { at = at; size = last.size + adds; nodes = last.nodes + adds }
 
 -- what `terms` has read so far: a sum t, of whose bytes those behind its own first kind bytes are written
-abbrev pub JoiningSo : Bool → (inside : Bool) (bs : List ℕ) (from start nodes opened : ℕ) (last : Cursor) (adds : ℕ) (before out : List ℕ) → Type 0
-JoiningSo false inside bs from start nodes opened last adds before out =
-    (t : Tree (sort_of inside))
-    × (body : List ℕ)
-    × ((c : SumIn (sort_of inside)) → opens_s c ≡ opened → read_from (want (first c)) (drop from bs) ≡ read_from (after t c) (drop last.at bs))
-    × (from < last.at)
-    × (bytes (sort_of inside) t ≡ replicate adds (kind_in inside 2) ++ body)
-    × (last.size ≡ start + length body)
-    × (last.nodes + adds ≡ nodes + nodesOf (sort_of inside) t)
-    × (last.size + adds + 6 * from ≤ start + 6 * last.at)
-    × (last.nodes + adds + from ≤ nodes + last.at)
-    × (last.size ≤ length before → out ≡ placed_at start body before)
-JoiningSo true inside bs from start nodes opened last adds before out =
-    (c : SumIn (sort_of inside)) → opens_s c ≡ opened → read_from (want (first c)) (drop from bs) ≡ fails (length bs - last.at)
-
--- and what it leaves of the job
 pub record Joining (inside : Bool) (bs : List ℕ) (from start nodes opened : ℕ) (last : Cursor) (adds : ℕ) (before out : List ℕ) : Type 0 where
   pub kept : length out ≡ length before
   pub within : last.at ≤ length bs
-  pub so : JoiningSo last.failed inside bs from start nodes opened last adds before out
+  pub t : Tree (sort_of inside)
+  pub body : List ℕ
+  pub runs : (c : SumIn (sort_of inside)) → opens_s c ≡ opened → read_from (want (first c)) (drop from bs) ≡ read_from (after t c) (drop last.at bs)
+  pub ahead : from < last.at
+  pub adding : bytes (sort_of inside) t ≡ replicate adds (kind_in inside 2) ++ body
+  pub sized : last.size ≡ start + length body
+  pub counted : last.nodes + adds ≡ nodes + nodesOf (sort_of inside) t
+  pub small : last.size + adds + 6 * from ≤ start + 6 * last.at
+  pub few : last.nodes + adds + from ≤ nodes + last.at
+  pub written : last.size ≤ length before → out ≡ placed_at start body before
 
 -- what `terms` asks of its first term
 pub record TermsReady (bs : List ℕ) (start opened : ℕ) (head : Cursor) : Type 0 where
   pub short : length bs ≤ 32768
   pub flat : opened ≤ 64
   pub within : head.at ≤ length bs
-  pub ok : head.failed ≡ false → (start ≤ head.size) × (head.size ≤ 7 + 6 * head.at) × (head.nodes ≤ head.at)
+  pub behind : start ≤ head.size
+  pub small : head.size ≤ 7 + 6 * head.at
+  pub few : head.nodes ≤ head.at

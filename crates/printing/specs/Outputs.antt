@@ -3,7 +3,7 @@ use Rattle.std.specs.Prelude.{ℕ, List, ◌≡◌, length, drop}
 use Rattle.compiler.specs.CompileTo.{compile_to}
 use Rattle.decompiler.specs.ReadBackTo.{read_back_to}
 use Rattle.delivery.specs.Delivered.{Delivered, delivered}
-use Rattle.delivery.specs.declared.Answer.TheVariants.{Done, Refused}
+use Rattle.script.specs.Outcome as answer
 use Rattle.formula.specs.FormulaTo.{formula_to}
 use Rattle.listing.specs.Listed.{listed}
 use Rattle.machine.specs.Answers.{fresh_call, step_call, run_call}
@@ -14,8 +14,8 @@ use Rattle.script.specs.Outcome.{done}
 
 -- What a call comes to for each output that is lent to it: a result of n bytes leaves what is behind them as it was, and a refusal all of it.
 pub record KeepsBehind (call : (before : List ℕ) → Delivered) : Type 0 where
-  pub behind : (before : List ℕ) (n : ℕ) → (call before).answer ≡ Done n → drop n (call before).output ≡ drop n before
-  pub refused : (before : List ℕ) (number place : ℕ) → (call before).answer ≡ Refused number place → (call before).output ≡ before
+  pub behind : (before : List ℕ) (n : ℕ) → (call before).answer ≡ answer.done n → drop n (call before).output ≡ drop n before
+  pub refused : (before : List ℕ) (number place : ℕ) → (call before).answer ≡ answer.refused number place → (call before).output ≡ before
 
 -- 64 registers, 64 counts and 16 records are lent, no more: the whole of it is the result of the calls on states
 pub record NothingBehind (s : State) : Type 0 where

@@ -4,15 +4,13 @@ use mathlib.Core.Bool.{Bool, true, false, cond}
 use mathlib.Core.Path.{◌≡◌, refl, sym, ap, ap₂, subst, ◌∙◌}
 use mathlib.Core.List.{List, [], ◌∷◌}
 use native.Mathlib.Omega.{arith}
-use borrow.Author.Tests.{ne_eqb, le-ltb}
-use lib.Dec.{ltb}
-use Rattle.stm.specs.Counted.{Table}
+use borrow.Author.Tests.{le-ltb}
 use lib.ListN.{length}
 use Rattle.code.specs.Bytes.{IsCode}
 use Rattle.code.specs.Reader.{read_code}
 use Rattle.code.proofs.Foreign.{only_foreign}
 use Rattle.code.proofs.ReadBack.{read_is_code}
-use Rattle.progress.specs.InnerProgress.{beginning, refusal_of, shown, Driven, driven, Room, answering, admitting, ran_by, stepped_by, step_reply_of, Low, settled_by, which_of, Given, picked_of, picked_by, advanced_to, driven_by}
+use Rattle.progress.specs.InnerProgress.{unless_refused, beginning, refusal_of, shown, Driven, driven, Room, admitting, going_on, undergone, run_told, step_told, ran_by, stepped_by, step_reply_of, Low, settled_by, which_of, Given, picked_by}
 use Rattle.progress.specs.declared.Progress.{Progress}
 use Rattle.progress.proofs.Turns.{Tells, perform_turns, perform_tells}
 use Rattle.progress.proofs.Drives.{drive_runs, run_refuses, admits}
@@ -36,30 +34,12 @@ use Rattle.survey.specs.InnerWalk.{survey_fits}
 use Rattle.survey.proofs.Judging.{survey_parts}
 use Rattle.survey.proofs.Exact.{survey-fits, survey_count}
 use Rattle.thread.specs.declared.Thread.{Thread}
-use Rattle.thread.specs.InnerStep.{handed, unacted, stepped}
 use Rattle.thread.specs.Threads.{exists}
 use Rattle.word.specs.Sum.{wrapping}
 
--- the refusal is carried
-kept_refusal : (bytes : List ℕ) (table : Table) (i : ℕ) (t : Thread) (p : Progress) → (picked_by bytes table i t p).picked.progress.refusal ≡ p.refusal
-unfolding picked_by advanced_to
-kept_refusal bytes table i t p = go (ltb i 16)
-  where
-    go : (b : Bool) → (cond b (picked_of (stepped wrapping bytes table t) p) (picked_of (handed (unacted t) table) p)).picked.progress.refusal ≡ p.refusal
-    go true = refl
-    go false = refl
-
-driven_refusal : (bytes : List ℕ) (left : ℕ) (is : List ℕ) (d : Driven) → (driven bytes left is d).progress.refusal ≡ d.progress.refusal
-unfolding driven
-driven_refusal bytes zero is d = refl
-driven_refusal bytes (suc left) [] d = refl
-driven_refusal bytes (suc left) (i ∷ is) d =
-    driven_refusal bytes left is (driven_by d.state (which_of i) (picked_by bytes (table_in d.state) i (thread_at d.state (which_of i)) d.progress))
-    ∙ kept_refusal bytes (table_in d.state) i (thread_at d.state (which_of i)) d.progress
-
 -- the answer by the state and the counts
-answers : (d : Driven) (r : Ran) (n : ℕ) → d.progress.refusal ≡ 0 → ◌≡◌ {A = tally.Tallied} (record { state = d.state; progress = shown d.progress }) (record { state = r.state; progress = record { threads = n; counts = counts_of r.events } }) → answering d ≡ record { state = r.state; reply = run_reply (done r) }
-answers d r n z e = ap₂ (λ (k : ℕ) (x : tally.Tallied). record { state = x.state; reply = record { refusal = k; place = 0; steps = x.progress.counts.steps; idle = x.progress.counts.idle; commits = x.progress.counts.commits; back = x.progress.counts.back; over = x.progress.counts.over } }) z e
+answers : (d : Driven) (r : Ran) (n : ℕ) → ◌≡◌ {A = tally.Tallied} (record { state = d.state; progress = shown d.progress }) (record { state = r.state; progress = record { threads = n; counts = counts_of r.events } }) → run_told (record { state = d.state; progress = done d.progress }) ≡ record { state = r.state; reply = run_reply (done r) }
+answers d r n e = ap (λ (x : tally.Tallied). record { state = x.state; reply = record { refusal = 0; place = 0; steps = x.progress.counts.steps; idle = x.progress.counts.idle; commits = x.progress.counts.commits; back = x.progress.counts.back; over = x.progress.counts.over } }) e
 
 number_low : (ts : List Thread) → number_of ts ≤ length ts
 unfolding number_of
@@ -84,23 +64,19 @@ same_refusal code s n b = go (read_code code) refl
     go (done j) e = ap (λ (x : Bool). refusal_of (done j) x n) (survey-of (read_is_code code j b e) s)
 
 module _ (code : List ℕ) (s : State) (is : List ℕ) (b : Bytes code) (y : Typed s) where
-  refusal : ℕ
-  refusal = refusal_of (read_code code) (fits code s) (length is)
-
-  admitted : admitting code s (length is) ≡ beginning (refusal_of (read_code code) (fits code s) (length is)) (survey_of s.counts s.threads).count (length is)
+  admitted : admitting code s (length is) ≡ unless_refused (refusal_of (read_code code) (fits code s) (length is)) (beginning (survey_of s.counts s.threads).count)
   unfolding admitting
-  admitted = ap (λ (r : ℕ). beginning r (survey_of s.counts s.threads).count (length is)) (same_refusal code s (length is) b)
+  admitted = ap (λ (r : ℕ). unless_refused r (beginning (survey_of s.counts s.threads).count)) (same_refusal code s (length is) b)
 
-  -- what a run by value comes to, by the progress with which it begins
-  abbrev from : Progress → Returned RunReply
-  from p = answering (driven code p.limit is (record { state = s; progress = p }))
+  -- what a run by value comes to, by its refusal
+  abbrev from : ℕ → Returned RunReply
+  from r = run_told (going_on code s is (unless_refused r (beginning (survey_of s.counts s.threads).count)))
 
-  refused_run : (n : ℕ) → refusal_of (read_code code) (fits code s) (length is) ≡ suc n → from (beginning (suc n) (survey_of s.counts s.threads).count (length is)) ≡ run_call code s is
-  unfolding beginning driven
-  refused_run n e = rw (ne_eqb (suc n) 0 (λ e. absurd (omega arith))) (sym (run_refused code s is (suc n) 0 (run_refuses code s is n e)))
+  refused_run : (n : ℕ) → refusal_of (read_code code) (fits code s) (length is) ≡ suc n → from (suc n) ≡ run_call code s is
+  refused_run n e = sym (run_refused code s is (suc n) 0 (run_refuses code s is n e))
 
-  taken_run : refusal_of (read_code code) (fits code s) (length is) ≡ 0 → from (beginning 0 (survey_of s.counts s.threads).count (length is)) ≡ run_call code s is
-  unfolding beginning run_of
+  taken_run : refusal_of (read_code code) (fits code s) (length is) ≡ 0 → from 0 ≡ run_call code s is
+  unfolding run_of
   taken_run e =
       let k = admits code s (length is) e in
       let c = read_is_code code k.job b k.read in
@@ -108,23 +84,24 @@ module _ (code : List ℕ) (s : State) (is : List ℕ) (b : Bytes code) (y : Typ
       let n = survey_count s.counts s.threads (survey_parts (survey_of s.counts s.threads) code (length s.registers) s.counts 0 (survey-of c s ∙ k.fit)).good in
       let few : (survey_of s.counts s.threads).count ≤ 16 = let a = number_low s.threads in let r = f.records in omega arith in
       let short = k.short in
-      let p : Progress = beginning 0 (survey_of s.counts s.threads).count (length is) in
+      let p : Progress = beginning (survey_of s.counts s.threads).count in
       let room : Room (length is) p = record { threads = omega arith; steps = omega arith; idle = omega arith; commits = omega arith; back = omega arith; over = omega arith } in
       let ran : run_of code s is ≡ done (run wrapping code s is) = rw (k.read, k.fit, le-ltb 32768 (length is) k.short) in
-      answers (driven code (length is) is (record { state = s; progress = p })) (run wrapping code s is) (number_of (run wrapping code s is).state.threads) (driven_refusal code (length is) is (record { state = s; progress = p })) (drive_runs c is s f y p (ap (λ (m : ℕ). record { threads = m; counts = uncounted }) n) room)
+      answers (driven code is (record { state = s; progress = p })) (run wrapping code s is) (number_of (run wrapping code s is).state.threads) (drive_runs c is s f y p (ap (λ (m : ℕ). record { threads = m; counts = uncounted }) n) room)
       ∙ sym (run_taken code s is (run wrapping code s is) ran)
 
   pub run_by_value : ran_by code s is ≡ run_call code s is
-  unfolding ran_by
-  run_by_value = ap from admitted ∙ go (refusal_of (read_code code) (fits code s) (length is)) refl
+  unfolding ran_by undergone
+  run_by_value =
+      ap (λ (o : Outcome Progress). run_told (going_on code s is o)) admitted ∙ go (refusal_of (read_code code) (fits code s) (length is)) refl
     where
-      go : (r : ℕ) → refusal_of (read_code code) (fits code s) (length is) ≡ r → from (beginning (refusal_of (read_code code) (fits code s) (length is)) (survey_of s.counts s.threads).count (length is)) ≡ run_call code s is
-      go zero e = ap (λ (r : ℕ). from (beginning r (survey_of s.counts s.threads).count (length is))) e ∙ taken_run e
-      go (suc n) e = ap (λ (r : ℕ). from (beginning r (survey_of s.counts s.threads).count (length is))) e ∙ refused_run n e
+      go : (r : ℕ) → refusal_of (read_code code) (fits code s) (length is) ≡ r → from (refusal_of (read_code code) (fits code s) (length is)) ≡ run_call code s is
+      go zero e = ap from e ∙ taken_run e
+      go (suc n) e = ap from e ∙ refused_run n e
 
 -- ---- a step
-answers_step : (s : State) (who : ℕ) (g : Given) (r : Stepped) → (settled_by s who g).state ≡ r.state → g.picked.progress.refusal ≡ 0 → Tells r.event g.picked.progress → g.picked.progress.over ≡ r.over → ◌≡◌ {A = Returned StepReply} (record { state = (settled_by s who g).state; reply = step_reply_of g.picked.progress }) (record { state = r.state; reply = step_reply (done r) })
-answers_step s who g r a z w o = λ i. record { state = a i; reply = record { refusal = z i; place = 0; event = w.event i; register = w.register i; turn = w.turn i; over = o i } }
+answers_step : (s : State) (who : ℕ) (g : Given) (r : Stepped) → (settled_by s who g).state ≡ r.state → Tells r.event g.picked.progress → g.picked.progress.over ≡ r.over → ◌≡◌ {A = Returned StepReply} (record { state = (settled_by s who g).state; reply = step_reply_of (done g.picked.progress) }) (record { state = r.state; reply = step_reply (done r) })
+answers_step s who g r a w o = λ i. record { state = a i; reply = record { refusal = 0; place = 0; event = w.event i; register = w.register i; turn = w.turn i; over = o i } }
 
 pub step_refuses : (code : List ℕ) (s : State) (i n : ℕ) → refusal_of (read_code code) (fits code s) 1 ≡ suc n → step_of code s i ≡ refused (suc n) 0
 unfolding step_of refusal_of
@@ -138,28 +115,25 @@ step_refuses code s i n e = go (read_code code) refl (fits code s) refl e
     go (done k) x true z e = absurd (omega arith)
 
 module _ (code : List ℕ) (s : State) (i : ℕ) (b : Bytes code) (y : Typed s) where
-  admitted_one : admitting code s 1 ≡ beginning (refusal_of (read_code code) (fits code s) 1) (survey_of s.counts s.threads).count 1
+  admitted_one : admitting code s 1 ≡ unless_refused (refusal_of (read_code code) (fits code s) 1) (beginning (survey_of s.counts s.threads).count)
   unfolding admitting
-  admitted_one = ap (λ (r : ℕ). beginning r (survey_of s.counts s.threads).count 1) (same_refusal code s 1 b)
+  admitted_one = ap (λ (r : ℕ). unless_refused r (beginning (survey_of s.counts s.threads).count)) (same_refusal code s 1 b)
 
-  abbrev one_from : Progress → Returned StepReply
-  one_from p =
-      let d = driven code p.limit (i ∷ []) (record { state = s; progress = p }) in
-      record { state = d.state; reply = step_reply_of d.progress }
+  abbrev one_from : ℕ → Returned StepReply
+  one_from r = step_told (going_on code s (i ∷ []) (unless_refused r (beginning (survey_of s.counts s.threads).count)))
 
-  refused_step : (n : ℕ) → refusal_of (read_code code) (fits code s) 1 ≡ suc n → one_from (beginning (suc n) (survey_of s.counts s.threads).count 1) ≡ step_call code s i
-  unfolding beginning driven
-  refused_step n e = rw (ne_eqb (suc n) 0 (λ e. absurd (omega arith))) (sym (step_refused code s i (suc n) 0 (step_refuses code s i n e)))
+  refused_step : (n : ℕ) → refusal_of (read_code code) (fits code s) 1 ≡ suc n → one_from (suc n) ≡ step_call code s i
+  refused_step n e = sym (step_refused code s i (suc n) 0 (step_refuses code s i n e))
 
-  taken_step : refusal_of (read_code code) (fits code s) 1 ≡ 0 → one_from (beginning 0 (survey_of s.counts s.threads).count 1) ≡ step_call code s i
-  unfolding beginning step_of driven tally.turned events.tally
+  taken_step : refusal_of (read_code code) (fits code s) 1 ≡ 0 → one_from 0 ≡ step_call code s i
+  unfolding step_of driven tally.turned events.tally
   taken_step e =
       let k = admits code s 1 e in
       let c = read_is_code code k.job b k.read in
       let f = (fits_exactly code s y).0 k.fit in
       let n : (survey_of s.counts s.threads).count ≡ number_of s.threads = survey_count s.counts s.threads (survey_parts (survey_of s.counts s.threads) code (length s.registers) s.counts 0 (survey-of c s ∙ k.fit)).good in
       let few : (survey_of s.counts s.threads).count ≤ 16 = let a = number_low s.threads in let r = f.records in omega arith in
-      let p : Progress = beginning 0 (survey_of s.counts s.threads).count 1 in
+      let p : Progress = beginning (survey_of s.counts s.threads).count in
       let low : Low p = record { threads = omega arith; steps = omega arith; idle = omega arith; commits = omega arith; back = omega arith; over = omega arith } in
       let t = perform_turns c s f y i p low in
       let w = perform_tells c s f y i p in
@@ -168,13 +142,14 @@ module _ (code : List ℕ) (s : State) (i : ℕ) (b : Bytes code) (y : Typed s) 
       let state = ap (λ (x : tally.Tallied). x.state) t ∙ ap (λ (x : Stepped). x.state) same in
       let one : 0 + (pick_among wrapping code p.threads s i).over ≡ (pick_among wrapping code p.threads s i).over = omega arith in
       let over = ap (λ (x : tally.Tallied). x.progress.counts.over) t ∙ (one ∙ ap (λ (x : Stepped). x.over) same) in
-      answers_step s (which_of i) (picked_by code (table_in s) i (thread_at s (which_of i)) p) (pick wrapping code s i) state (kept_refusal code (table_in s) i (thread_at s (which_of i)) p) (subst (λ (x : Stepped). Tells x.event (picked_by code (table_in s) i (thread_at s (which_of i)) p).picked.progress) same w) over
+      answers_step s (which_of i) (picked_by code (table_in s) i (thread_at s (which_of i)) p) (pick wrapping code s i) state (subst (λ (x : Stepped). Tells x.event (picked_by code (table_in s) i (thread_at s (which_of i)) p).picked.progress) same w) over
       ∙ sym (step_taken code s i (pick wrapping code s i) ran)
 
   pub step_by_value : stepped_by code s i ≡ step_call code s i
-  unfolding stepped_by
-  step_by_value = ap one_from admitted_one ∙ go (refusal_of (read_code code) (fits code s) 1) refl
+  unfolding stepped_by undergone
+  step_by_value =
+      ap (λ (o : Outcome Progress). step_told (going_on code s (i ∷ []) o)) admitted_one ∙ go (refusal_of (read_code code) (fits code s) 1) refl
     where
-      go : (r : ℕ) → refusal_of (read_code code) (fits code s) 1 ≡ r → one_from (beginning (refusal_of (read_code code) (fits code s) 1) (survey_of s.counts s.threads).count 1) ≡ step_call code s i
-      go zero e = ap (λ (r : ℕ). one_from (beginning r (survey_of s.counts s.threads).count 1)) e ∙ taken_step e
-      go (suc n) e = ap (λ (r : ℕ). one_from (beginning r (survey_of s.counts s.threads).count 1)) e ∙ refused_step n e
+      go : (r : ℕ) → refusal_of (read_code code) (fits code s) 1 ≡ r → one_from (refusal_of (read_code code) (fits code s) 1) ≡ step_call code s i
+      go zero e = ap one_from e ∙ taken_step e
+      go (suc n) e = ap one_from e ∙ refused_step n e

@@ -79,7 +79,7 @@ turned_pick bytes s i p n = ap (λ (m : ℕ). record { state = (pick_among wrapp
 
 module _ {bytes : List ℕ} {j : Job} (c : IsCode bytes j) where
   -- the picks of a list, all of them, the number of threads being carried
-  pub drive_tallies : (is : List ℕ) (s : State) → Fits bytes s → Typed s → (p : Progress) → p.threads ≡ number_of s.threads → Room (length is) p → told (driven bytes (length is) is (record { state = s; progress = p })) ≡ tally.tallied wrapping bytes s (shown p) is
+  pub drive_tallies : (is : List ℕ) (s : State) → Fits bytes s → Typed s → (p : Progress) → p.threads ≡ number_of s.threads → Room (length is) p → told (driven bytes is (record { state = s; progress = p })) ≡ tally.tallied wrapping bytes s (shown p) is
   unfolding driven tally.tallied
   drive_tallies [] s f y p n r = refl
   drive_tallies (i ∷ is) s f y p n r =
@@ -106,7 +106,7 @@ module _ {bytes : List ℕ} {j : Job} (c : IsCode bytes j) where
           ∙ ap (λ (x : tally.Tallied). number_of x.state.threads) (sym (t ∙ same))))
 
   -- from no counts: the run, and its counts
-  pub drive_runs : (is : List ℕ) (s : State) → Fits bytes s → Typed s → (p : Progress) → shown p ≡ record { threads = number_of s.threads; counts = uncounted } → Room (length is) p → told (driven bytes (length is) is (record { state = s; progress = p })) ≡ record {
+  pub drive_runs : (is : List ℕ) (s : State) → Fits bytes s → Typed s → (p : Progress) → shown p ≡ record { threads = number_of s.threads; counts = uncounted } → Room (length is) p → told (driven bytes is (record { state = s; progress = p })) ≡ record {
     state = (run wrapping bytes s is).state;
     progress = record { threads = number_of (run wrapping bytes s is).state.threads; counts = counts_of (run wrapping bytes s is).events };
   }

@@ -10,11 +10,10 @@ use lib.ListN.{length, drop, take}
 use lib.Seq.{length-take-le, take-length}
 use Rattle.code.specs.Ops.{op_at}
 use Rattle.ops.specs.Shown.{shown_op}
-use Rattle.progress.specs.InnerProgress.{seat_of, advanced_to, given, picked_of, picked_by, plain_pick, plained_by, reach_of}
+use Rattle.progress.specs.InnerProgress.{left_by, given, picked_of, picked_by, plain_pick, plained_by, reach_of}
 use Rattle.progress.specs.declared.Progress.{Progress}
-use Rattle.thread.specs.declared.Action.{Action}
 use Rattle.thread.specs.declared.Thread.{Thread}
-use Rattle.thread.specs.InnerStep.{Handed, handed, unacted, takes_op, performed, attempted, stepped, plain_in, plain_op}
+use Rattle.thread.specs.InnerStep.{Numbered, Handed, handed, unacted, takes_op, performed, attempted, stepped, plain_in, plain_op}
 use Rattle.thread.proofs.Attempts.{plain_taken}
 use Rattle.word.specs.Sum.{wrapping}
 
@@ -52,10 +51,8 @@ reached bytes table pick reach t p e = go (ltb pick 16) e
     go true e = ap (λ (l : List ℕ). picked_of (stepped wrapping l table t) p) (ap (λ (k : ℕ). take k bytes) e ∙ take-length bytes)
     go false e = ap (λ (l : List ℕ). picked_of (stepped wrapping l table t) p) (ap (λ (k : ℕ). take k bytes) e) ∙ ap (λ (h : Handed). picked_of h p) (no_code table t)
 
-pub a_pick : (bytes : List ℕ) (table : Table) (pick reach : ℕ) (t : Thread) (p : Progress) → reach ≡ reach_of pick (length bytes) → (a : Action) (after : Table) → handed a after ≡ stepped wrapping (take reach bytes) table t → (seat : ℕ) → seat ≡ seat_of a.event p.threads → (q : Progress) → q ≡ advanced_to a.event a.register a.turn a.over p → given (record { thread = a.thread; seat = seat; start = a.start; end = a.end; progress = q }) after ≡ picked_by bytes table pick t p
-a_pick bytes table pick reach t p k a after h seat s q e =
-    let x : given (record { thread = a.thread; seat = seat; start = a.start; end = a.end; progress = q }) after ≡ picked_of (handed a after) p = rw (s, e) in
-    x ∙ (ap (λ (i : Handed). picked_of i p) h ∙ reached bytes table pick reach t p k)
+pub a_pick : (bytes : List ℕ) (table : Table) (pick reach : ℕ) (t : Thread) (p : Progress) → reach ≡ reach_of pick (length bytes) → (a : Numbered) (after : Table) → handed a after ≡ stepped wrapping (take reach bytes) table t → given (left_by a p) after ≡ picked_by bytes table pick t p
+a_pick bytes table pick reach t p k a after h = ap (λ (i : Handed). picked_of i p) h ∙ reached bytes table pick reach t p k
 
 -- whether a pick is plain, by the code that it has before it
 pub plain_reach : (bytes : List ℕ) (pick reach : ℕ) (t : Thread) → reach ≡ reach_of pick (length bytes) → plain_in (take reach bytes) t ≡ plain_pick bytes pick t
@@ -63,11 +60,10 @@ unfolding plain_pick
 plain_reach bytes pick reach t e = ap (λ (k : ℕ). plain_in (take k bytes) t) e
 
 -- a pick by what does not change the logs
-pub a_plain : (bytes : List ℕ) (table : Table) (pick reach : ℕ) (t : Thread) (p : Progress) → reach ≡ reach_of pick (length bytes) → (a : Action) → handed a table ≡ performed wrapping table t (plain_op (take reach bytes) t) → (seat : ℕ) → seat ≡ seat_of a.event p.threads → (q : Progress) → q ≡ advanced_to a.event a.register a.turn a.over p → given (record { thread = a.thread; seat = seat; start = a.start; end = a.end; progress = q }) table ≡ plained_by bytes table pick t p
+pub a_plain : (bytes : List ℕ) (table : Table) (pick reach : ℕ) (t : Thread) (p : Progress) → reach ≡ reach_of pick (length bytes) → (a : Numbered) → handed a table ≡ performed wrapping table t (plain_op (take reach bytes) t) → given (left_by a p) table ≡ plained_by bytes table pick t p
 unfolding plained_by
-a_plain bytes table pick reach t p k a h seat s q e =
-    let x : given (record { thread = a.thread; seat = seat; start = a.start; end = a.end; progress = q }) table ≡ picked_of (handed a table) p = rw (s, e) in
-    x ∙ (ap (λ (i : Handed). picked_of i p) h ∙ ap (λ (i : ℕ). picked_of (performed wrapping table t (plain_op (take i bytes) t)) p) k)
+a_plain bytes table pick reach t p k a h =
+    ap (λ (i : Handed). picked_of i p) h ∙ ap (λ (i : ℕ). picked_of (performed wrapping table t (plain_op (take i bytes) t)) p) k
 
 -- which is the pick where it is plain
 pub plained : (bytes : List ℕ) (table : Table) (pick : ℕ) (t : Thread) (p : Progress) → plain_pick bytes pick t ≡ true → plained_by bytes table pick t p ≡ picked_by bytes table pick t p

@@ -1,61 +1,81 @@
--- Which refusal a call has, by what the scan of its code says. Assumes nothing.
-use Prim.Native.Nat.{ℕ}
+-- What a call comes to, by whether an accepted job compiles to its code. Assumes nothing.
+use Prim.Native.Nat.{ℕ, ◌<◌, ◌≤◌}
 use mathlib.Core.Bool.{Bool, true, false, cond}
-use mathlib.Core.Path.{◌≡◌, refl, sym}
-use lib.Dec.{ltb, eqb}
-use Rattle.progress.specs.InnerProgress.{refusal_of, fresh_refusal_of, unless_of, beginning}
+use mathlib.Core.Path.{◌≡◌, refl}
+use borrow.Author.Tests.{eqb-true, eq-eqb, ne_eqb, lt-ltb, le-ltb}
+use lib.Dec.{eqb}
+use Rattle.progress.specs.InnerProgress.{unless_refused, refusal_of, fresh_refusal_of, accepted_to, admitted_to, fresh_admitted_to, beginning}
 use Rattle.progress.specs.declared.Progress.{Progress}
-use Rattle.scan.specs.Answer.{told}
-use Rattle.scan.specs.declared.Scanned.{Scanned}
-use Rattle.scan.specs.declared.Scanned.TheVariants as scanned
 use Rattle.script.specs.Jobs.{Job}
 use Rattle.script.specs.Outcome.{Outcome, refused, done}
-use native.Mathlib.Omega.{arith}
 
-pub foreign : (o : Outcome Job) (fit : Bool) (picks n p : ℕ) (s : Scanned) → s ≡ told o → s ≡ scanned.Refused n p → 11 ≡ refusal_of o fit picks
-unfolding refusal_of
-foreign (refused n' p') fit picks n p s a b = refl
-foreign (done j) fit picks n p s a b = absurd (let z : ◌≡◌ {A = ℕ} 0 1 = cc in omega arith)
-
-pub fresh_foreign : (o : Outcome Job) (registers counts records n p : ℕ) (s : Scanned) → s ≡ told o → s ≡ scanned.Refused n p → 11 ≡ fresh_refusal_of o registers counts records
-unfolding fresh_refusal_of
-fresh_foreign (refused n' p') registers counts records n p s a b = refl
-fresh_foreign (done j) registers counts records n p s a b = absurd (let z : ◌≡◌ {A = ℕ} 0 1 = cc in omega arith)
-
-module _ (o : Outcome Job) (v n l : ℕ) (s : Scanned) (a : s ≡ told o) (b : s ≡ scanned.Job v n l) where
-  job_first : (x : Outcome Job) → s ≡ told x → (fit : Bool) (picks : ℕ) → fit ≡ false → 12 ≡ refusal_of x fit picks
+-- foreign code
+module _ (n p : ℕ) where
+  pub foreign : (o : Outcome Job) → ◌≡◌ {A = Outcome (Unit {0})} (refused n p) (accepted_to o) → (fit : Bool) (threads picks : ℕ) → ◌≡◌ {A = Outcome Progress} (refused n p) (admitted_to o fit threads picks)
   unfolding refusal_of
-  job_first (refused n' p') a fit picks e = absurd (let z : ◌≡◌ {A = ℕ} 0 1 = cc in omega arith)
-  job_first (done j) a fit picks e = rw e
+  foreign (refused m q) e fit threads picks =
+      let a : n ≡ 11 = cc in
+      let b : p ≡ 0 = cc in
+      λ i. refused (a i) (b i)
+  foreign (done j) e fit threads picks = absurd (cc)
 
-  job_list : (x : Outcome Job) → s ≡ told x → (fit : Bool) (picks : ℕ) → fit ≡ true → ltb 32768 picks ≡ true → 13 ≡ refusal_of x fit picks
-  unfolding refusal_of
-  job_list (refused n' p') a fit picks e f = absurd (let z : ◌≡◌ {A = ℕ} 0 1 = cc in omega arith)
-  job_list (done j) a fit picks e f = rw (e, f)
-
-  job_none : (x : Outcome Job) → s ≡ told x → (fit : Bool) (picks : ℕ) → fit ≡ true → ltb 32768 picks ≡ false → 0 ≡ refusal_of x fit picks
-  unfolding refusal_of
-  job_none (refused n' p') a fit picks e f = absurd (let z : ◌≡◌ {A = ℕ} 0 1 = cc in omega arith)
-  job_none (done j) a fit picks e f = rw (e, f)
-
-  pub unfit : (fit : Bool) (picks : ℕ) → fit ≡ false → 12 ≡ refusal_of o fit picks
-  unfit fit picks e = job_first o a fit picks e
-
-  pub long : (fit : Bool) (picks : ℕ) → fit ≡ true → ltb 32768 picks ≡ true → 13 ≡ refusal_of o fit picks
-  long fit picks e f = job_list o a fit picks e f
-
-  pub none : (fit : Bool) (picks : ℕ) → fit ≡ true → ltb 32768 picks ≡ false → 0 ≡ refusal_of o fit picks
-  none fit picks e f = job_none o a fit picks e f
-
-  job_fresh : (x : Outcome Job) → s ≡ told x → (registers counts records k : ℕ) → cond (eqb records 16) (cond (eqb registers 64) (cond (eqb counts 64) 0 12) 12) 12 ≡ k → k ≡ fresh_refusal_of x registers counts records
+  pub fresh_foreign : (o : Outcome Job) → ◌≡◌ {A = Outcome (Unit {0})} (refused n p) (accepted_to o) → (registers counts records : ℕ) → ◌≡◌ {A = Outcome (Unit {0})} (refused n p) (fresh_admitted_to o registers counts records)
   unfolding fresh_refusal_of
-  job_fresh (refused n' p') a registers counts records k e = absurd (let z : ◌≡◌ {A = ℕ} 0 1 = cc in omega arith)
-  job_fresh (done j) a registers counts records k e = sym e
+  fresh_foreign (refused m q) e registers counts records =
+      let a : n ≡ 11 = cc in
+      let b : p ≡ 0 = cc in
+      λ i. refused (a i) (b i)
+  fresh_foreign (done j) e registers counts records = absurd (cc)
 
-  pub fresh_job : (registers counts records k : ℕ) → cond (eqb records 16) (cond (eqb registers 64) (cond (eqb counts 64) 0 12) 12) 12 ≡ k → k ≡ fresh_refusal_of o registers counts records
-  fresh_job registers counts records k e = job_fresh o a registers counts records k e
+module _ {u : Unit {0}} where
+  -- an accepted job's code, with a state and picks
+  module _ (fit : Bool) (threads picks : ℕ) where
+    pub unfit : (o : Outcome Job) → done u ≡ accepted_to o → fit ≡ false → ◌≡◌ {A = Outcome Progress} (refused 12 0) (admitted_to o fit threads picks)
+    unfolding refusal_of
+    unfit (refused m q) e f = absurd (cc)
+    unfit (done j) e f = rw f
 
--- the progress with which a call begins
-pub begins : (refusal threads picks x limit : ℕ) → refusal ≡ x → limit ≡ unless_of refusal picks → ◌≡◌ {A = Progress} (record { threads = threads; limit = limit; refusal = refusal; steps = 0; idle = 0; commits = 0; back = 0; over = 0; event = 0; register = 0; turn = 0 }) (beginning x threads picks)
-unfolding beginning unless_of
-begins refusal threads picks x limit e f = rw (f, e)
+    pub long : (o : Outcome Job) → done u ≡ accepted_to o → fit ≡ true → 32768 < picks → ◌≡◌ {A = Outcome Progress} (refused 13 0) (admitted_to o fit threads picks)
+    unfolding refusal_of
+    long (refused m q) e f l = absurd (cc)
+    long (done j) e f l = rw (f, lt-ltb 32768 picks l)
+
+    pub begins : (o : Outcome Job) → done u ≡ accepted_to o → fit ≡ true → picks ≤ 32768 → ◌≡◌ {A = Outcome Progress} (done (beginning threads)) (admitted_to o fit threads picks)
+    unfolding refusal_of
+    begins (refused m q) e f l = absurd (cc)
+    begins (done j) e f l = rw (f, le-ltb 32768 picks l)
+
+  -- and where a fresh state is to be laid down
+  pub laid : (registers counts records : ℕ) (o : Outcome Job) → done u ≡ accepted_to o → records ≡ 16 → registers ≡ 64 → counts ≡ 64 → done tt ≡ fresh_admitted_to o registers counts records
+  unfolding fresh_refusal_of
+  laid registers counts records (refused m q) e a b c = absurd (cc)
+  laid registers counts records (done j) e a b c = rw (eq-eqb records 16 a, eq-eqb registers 64 b, eq-eqb counts 64 c)
+
+  pub laid_lengths : (registers counts records : ℕ) (o : Outcome Job) → done u ≡ fresh_admitted_to o registers counts records → (records ≡ 16) × (registers ≡ 64) × (counts ≡ 64)
+  unfolding fresh_refusal_of
+  laid_lengths registers counts records (refused m q) e = absurd (cc)
+  laid_lengths registers counts records (done j) e = go (eqb records 16) refl (eqb registers 64) refl (eqb counts 64) refl e
+    where
+      go : (a : Bool) → eqb records 16 ≡ a → (b : Bool) → eqb registers 64 ≡ b → (c : Bool) → eqb counts 64 ≡ c → done u ≡ unless_refused (cond a (cond b (cond c 0 12) 12) 12) tt → (records ≡ 16) × (registers ≡ 64) × (counts ≡ 64)
+      go true x true y true z e = (eqb-true records 16 x, eqb-true registers 64 y, eqb-true counts 64 z)
+      go true x true y false z e = absurd (cc)
+      go true x false y c z e = absurd (cc)
+      go false x b y c z e = absurd (cc)
+
+  pub not_laid : (registers counts records : ℕ) (o : Outcome Job) → done u ≡ accepted_to o → ◌≡◌ {A = ℕ} (cond (eqb records 16) (cond (eqb registers 64) (cond (eqb counts 64) 0 12) 12) 12) 12 → refused 12 0 ≡ fresh_admitted_to o registers counts records
+  unfolding fresh_refusal_of
+  not_laid registers counts records (refused m q) e f = absurd (cc)
+  not_laid registers counts records (done j) e f = rw f
+
+module _ (registers counts records : ℕ) where
+  abbrev lengths : ℕ
+  lengths = cond (eqb records 16) (cond (eqb registers 64) (cond (eqb counts 64) 0 12) 12) 12
+
+  pub other_records : (records ≡ 16 → ⊥) → lengths ≡ 12
+  other_records n = rw (ne_eqb records 16 n)
+
+  pub other_registers : records ≡ 16 → (registers ≡ 64 → ⊥) → lengths ≡ 12
+  other_registers a n = rw (eq-eqb records 16 a, ne_eqb registers 64 n)
+
+  pub other_counts : records ≡ 16 → registers ≡ 64 → (counts ≡ 64 → ⊥) → lengths ≡ 12
+  other_counts a b n = rw (eq-eqb records 16 a, eq-eqb registers 64 b, ne_eqb counts 64 n)

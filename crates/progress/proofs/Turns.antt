@@ -7,10 +7,11 @@ use mathlib.Core.List.{List, [], ◌∷◌}
 use native.Mathlib.Omega.{arith}
 use borrow.Author.Tests.{le-ltb, eqb-true, eqb-false, ltb-true, ltb-false}
 use lib.Dec.{eqb, ltb}
-use lib.ListN.{length, set, length-set}
-use lib.Seq.{set-get_or, set_out}
+use lib.ListN.{length, set}
+use lib.Seq.{set-get_or}
 use Rattle.code.specs.Bytes.{IsCode}
-use Rattle.progress.specs.InnerProgress.{more_to, seat_of, advanced_to, which_of, picked_of, picked_by, Low, shown, settled_by}
+use Rattle.progress.specs.InnerProgress.{more_to, child_of, seated_in, advanced_to, which_of, picked_of, picked_by, Low, shown, settled_by}
+use Rattle.std.specs.Prelude as std
 use Rattle.progress.specs.declared.Progress.{Progress}
 use Rattle.machine.specs.Steps.{State, table_in, Stepped, Acted, seated, settle, thread_at, pick_among}
 use Rattle.machine.specs.Fits.{Fits, Typed}
@@ -25,7 +26,7 @@ use Rattle.stm.specs.Events as events
 use Rattle.stm.proofs.Counts.{event-of}
 use Rattle.thread.specs.declared.Thread.{Thread}
 use Rattle.thread.specs.InnerStep.{Handed, handed, unacted, stepped}
-use Rattle.thread.specs.Threads.{exists, blank, spawned}
+use Rattle.thread.specs.Threads.{exists, blank}
 use Rattle.word.specs.Sum.{wrapping}
 use Rattle.word.proofs.Counting.{saturated_exact}
 
@@ -129,13 +130,13 @@ unfolding event_number event_register turn_number
 nothing p l = advances idle 0 p l (omega arith)
 
 -- the child at its seat
-seats : (ts : List Thread) (count event start end : ℕ) → length ts ≡ 16 → set ts (seat_of event count) (spawned start end) ≡ seated count (children_as event start end) ts
-unfolding seat_of
-seats ts count event start end l = go (eqb event 3)
+seats : (ts : List Thread) (count event start end : ℕ) → seated_in (child_of event count start end) ts ≡ seated count (children_as event start end) ts
+unfolding child_of
+seats ts count event start end = go (eqb event 3)
   where
-    go : (b : Bool) → set ts (cond b count 16) (spawned start end) ≡ seated count (cond b (record { start = start; end = end } ∷ []) []) ts
+    go : (b : Bool) → seated_in (cond b (std.Some (record { seat = count; start = start; end = end })) std.None) ts ≡ seated count (cond b (record { start = start; end = end } ∷ []) []) ts
     go true = refl
-    go false = set_out ts 16 (spawned start end) (omega arith)
+    go false = refl
 
 -- a progress that tells an event
 pub record Tells (e : Event) (p : Progress) : Type 0 where
@@ -173,19 +174,17 @@ module _ {bytes : List ℕ} {j : Job} (c : IsCode bytes j) where
       let h : Handed = stepped wrapping bytes (table_in s) (thread_at s i) in
       let n = numbered s f y i in
       let k = step_picks c wrapping s f y p.threads i (subst (λ (m : ℕ). i < m) (sym f.records) q) in
-      let long : length (set s.threads i h.acted.thread) ≡ 16 = length-set s.threads i h.acted.thread ∙ f.records in
-      let a = seats (set s.threads i h.acted.thread) p.threads h.acted.event h.acted.start h.acted.end long in
+      let a = seats (set s.threads i h.acted.thread) p.threads h.acted.event h.acted.start h.acted.end in
       let b = tells h.acted.event h.acted.register h.acted.turn h.acted.over n.what n.event n.register n.turn n.few p l in
       ap₂ (λ (ts : List Thread) (r : tally.Progress). record { state = record { registers = h.table.registers; counts = h.table.counts; threads = ts }; progress = r }) a b
       ∙ ap (λ (x : Stepped). record { state = x.state; progress = tally.advanced x.event x.over (shown p) }) (sym k)
 
   -- none
   stays : (s : State) → Fits bytes s → (i : ℕ) (p : Progress) → Low p → 16 ≤ i → settled_by s 0 (picked_of (handed (unacted (thread_at s 0)) (table_in s)) p) ≡ tally.turned wrapping bytes s (shown p) i
-  unfolding tally.turned pick_among seat_of
+  unfolding tally.turned pick_among child_of
   stays s f i p l q =
       let k : pick_among wrapping bytes p.threads s i ≡ record { state = s; event = idle; over = 0 } = rw (pick_among, le-ltb i (length s.threads) (subst (λ (m : ℕ). m ≤ i) (sym f.records) q)) in
-      let long : length (set s.threads 0 (thread_at s 0)) ≤ 16 = let z = length-set s.threads 0 (thread_at s 0) in let r = f.records in omega arith in
-      let a : set (set s.threads 0 (thread_at s 0)) 16 (spawned 0 0) ≡ s.threads = set_out (set s.threads 0 (thread_at s 0)) 16 (spawned 0 0) long ∙ set-get_or s.threads 0 blank in
+      let a : set s.threads 0 (thread_at s 0) ≡ s.threads = set-get_or s.threads 0 blank in
       ap₂ (λ (ts : List Thread) (r : tally.Progress). record { state = record { registers = s.registers; counts = s.counts; threads = ts }; progress = r }) a (nothing p l)
       ∙ ap (λ (x : Stepped). record { state = x.state; progress = tally.advanced x.event x.over (shown p) }) (sym k)
 

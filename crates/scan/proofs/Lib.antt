@@ -1,8 +1,6 @@
--- Why the scan's functions do what their mirrors say, and why these follow code/specs/InnerScan.antt.
-pub mod Branches
-pub mod Steps
-pub mod Views
-pub mod Fits
+-- Why the scan and its steps follow code/specs/InnerScan.antt.
+pub mod Greater
+pub mod Stack
 pub mod Loops
-pub mod Whole
 pub mod Long
+pub mod Whole

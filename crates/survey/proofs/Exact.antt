@@ -6,8 +6,7 @@ use mathlib.Core.Path.{◌≡◌, refl, sym, ap, subst, ◌∙◌}
 use mathlib.Core.List.{List, [], ◌∷◌, ◌++◌}
 use mathlib.Core.Option.{Option, none, some}
 use native.Mathlib.Omega.{arith}
-use native.Mathlib.Numerals.{add-one}
-use borrow.Author.Tests.{eqb-true, eq-eqb, ltb-true, lt-leb}
+use borrow.Author.Tests.{eqb-true, eq-eqb, ltb-true, ltb-false, lt-leb}
 use lib.Dec.{eqb, leb, ltb}
 use Rattle.stm.specs.Counted.{Table}
 use lib.ListN.{length, drop, get_or, take, drop_of_length-le}
@@ -20,12 +19,12 @@ use Rattle.machine.specs.Steps.{State, table_in, thread_at, Child, number_of}
 use Rattle.machine.specs.Fits.{Walked, own_code}
 use Rattle.machine.specs.FitTest.{walk_to, free, within_from, at_most_from, agrees_with, placed, all_zero, none_behind, in_front, same, passed_by, among, all_among, one_each, commits_passed, needs, all_tallied, fits_beside}
 use Rattle.survey.specs.declared.Survey.{Survey}
-use Rattle.survey.specs.InnerRecords.{empty_survey, zero_from, tidy, needed_in, need_in, with_to, survey_from, survey_of}
+use Rattle.survey.specs.InnerRecords.{starts_of, ends_of, needs_of, empty_survey, zero_from, tidy, needed_in, need_in, with_to, survey_from, survey_of}
 use Rattle.survey.specs.InnerWalk.{own_at, first_verdict, row_at, judge_all, all_asked, all_met, survey_fits}
 use Rattle.survey.proofs.Yes.{never, alike, first, second, both, and_yes, and_no}
 use Rattle.survey.proofs.Records.{zeros_of, shut, tidy_of, is_tidy}
 use Rattle.survey.proofs.Judging.{survey_parts, survey_whole}
-use Rattle.survey.proofs.Shows.{tidy_front, at, Shows, survey_shows, survey_good}
+use Rattle.survey.proofs.Shows.{tidy_front, at, Shows, shows_start, shows_end, shows_need, survey_shows, survey_good}
 use Rattle.survey.proofs.Asking.{asked_among}
 use Rattle.survey.proofs.Judges.{agrees, agree_all, AllJudged, all-judged, judged_all}
 use Rattle.machine.proofs.Passing.{found_low}
@@ -113,7 +112,7 @@ parts_front bytes (t ∷ ts) e a = go (exists t) e a (λ f g. parts_front bytes 
 
 -- ---- what a record needs
 need_same : (table : Table) (t : Thread) (n : ℕ) → length table.counts ≡ 64 → n < 18446744073709551615 → leb (need_in table.counts t) n ≡ (leb (needs table t) n && within_from 64 0 t.readcounts table.counts)
-unfolding need_in needed_in needs stale_read saturated
+unfolding need_in needed_in needs stale_read
 need_same table t n wide small =
     ap (λ (b : Bool). leb (cond b (cond within (cond (cond b sought false) (saturated t.backs 1) t.backs) 18446744073709551615) t.backs) n) (eq-eqb (length table.counts) 64 wide)
     ∙ (ap (λ (k : ℕ). leb (cond within (cond (ltb k 64) (saturated t.backs 1) t.backs) 18446744073709551615) n) (first_in 64 0 t table) ∙ all within)
@@ -127,11 +126,14 @@ need_same table t n wide small =
     found : Bool
     found = ltb (first_stale 64 0 t table) 64
 
-    one : (c : Bool) → ltb 18446744073709551615 (t.backs + 1) ≡ c → leb (cond c 18446744073709551615 (t.backs + 1)) n ≡ leb (suc t.backs) n
+    one : (c : Bool) → ltb 18446744073709551615 (t.backs + 1) ≡ c → leb (saturated t.backs 1) n ≡ leb (suc t.backs) n
     one true e =
         let l = ltb-true 18446744073709551615 (t.backs + 1) e in
-        lt-leb 18446744073709551615 n small ∙ sym (lt-leb (suc t.backs) n (omega arith))
-    one false e = ap (λ (k : ℕ). leb k n) (add-one t.backs)
+        lt-leb (saturated t.backs 1) n (omega arith) ∙ sym (lt-leb (suc t.backs) n (omega arith))
+    one false e =
+        let l = ltb-false 18446744073709551615 (t.backs + 1) e in
+        let s : saturated t.backs 1 ≡ suc t.backs = omega arith in
+        ap (λ (k : ℕ). leb k n) s
 
     go : (b : Bool) → leb (cond b (saturated t.backs 1) t.backs) n ≡ leb (cond b (suc t.backs) t.backs) n
     go true = one (ltb 18446744073709551615 (t.backs + 1)) refl
@@ -206,19 +208,19 @@ module _ (others : ℕ) (bytes : List ℕ) (ts : List Thread) (table : Table) wh
   s = survey_of table.counts ts
 
   module _ (sh : Shows table.counts ts s) (long : length ts ≡ 16) where
-    owns : (i : ℕ) → own_at s.starts s.ends i ≡ own_code (at ts i)
-    owns i j = record { start = sh.starts i j; end = sh.ends i j }
+    owns : (i : ℕ) → own_at (starts_of s.rows) (ends_of s.rows) i ≡ own_code (at ts i)
+    owns i j = record { start = shows_start sh i j; end = shows_end sh i j }
 
-    judged : (judge_all bytes s).good ≡ true → AllJudged bytes ts long s.starts s.ends owns ts first_verdict (judge_all bytes s)
+    judged : (judge_all bytes s).good ≡ true → AllJudged bytes ts long (starts_of s.rows) (ends_of s.rows) owns ts first_verdict (judge_all bytes s)
     unfolding judge_all
-    judged g = all-judged bytes ts long s.starts s.ends owns (row_at s) sh.rows 16 0 first_verdict refl g
+    judged g = all-judged bytes ts long (starts_of s.rows) (ends_of s.rows) owns (need_in table.counts) (row_at s) sh.rows 16 0 first_verdict refl g
 
-    members : (judge_all bytes s).good ≡ true → (j : ℕ) → j < 16 → member (judge_all bytes s).asked j ≡ among (own_at s.starts s.ends j) (passed_by bytes ts)
+    members : (judge_all bytes s).good ≡ true → (j : ℕ) → j < 16 → member (judge_all bytes s).asked j ≡ among (own_at (starts_of s.rows) (ends_of s.rows) j) (passed_by bytes ts)
     unfolding first_verdict registers.none
-    members g j h = (judged g).all j h ∙ ap (λ (b : Bool). b || among (own_at s.starts s.ends j) (passed_by bytes ts)) (member_none j)
+    members g j h = (judged g).all j h ∙ ap (λ (b : Bool). b || among (own_at (starts_of s.rows) (ends_of s.rows) j) (passed_by bytes ts)) (member_none j)
 
-    asked_is : (judge_all bytes s).good ≡ true → all_asked 15 1 s.starts (judge_all bytes s).asked ≡ all_among (passed_by bytes ts) (drop 1 ts)
-    asked_is g = asked_among ts long s.starts s.ends owns (passed_by bytes ts) (judge_all bytes s).asked (members g) 15 1 refl
+    asked_is : (judge_all bytes s).good ≡ true → all_asked 15 1 (starts_of s.rows) (judge_all bytes s).asked ≡ all_among (passed_by bytes ts) (drop 1 ts)
+    asked_is g = asked_among ts long (starts_of s.rows) (ends_of s.rows) owns (passed_by bytes ts) (judge_all bytes s).asked (members g) 15 1 refl
 
     -- the COMMITs passed, and the records for which they are enough
     commits_are : others + 16 * length bytes < 18446744073709551615 → (judge_all bytes s).good ≡ true → (judge_all bytes s).commits ≡ commits_passed bytes ts
@@ -232,15 +234,15 @@ module _ (others : ℕ) (bytes : List ℕ) (ts : List Thread) (table : Table) wh
         let a : commits_passed bytes ts ≤ 16 * length bytes = subst (λ (n : ℕ). commits_passed bytes ts ≤ n * length bytes) long (found_low bytes ts) in
         ap (saturated others) (commits_are short g) ∙ saturated_exact others (commits_passed bytes ts) (omega arith)
 
-    met_is : others + 16 * length bytes < 18446744073709551615 → length table.counts ≡ 64 → (judge_all bytes s).good ≡ true → all_met 16 0 s.needs (saturated others (judge_all bytes s).commits) ≡ all_tallied passed table ts
+    met_is : others + 16 * length bytes < 18446744073709551615 → length table.counts ≡ 64 → (judge_all bytes s).good ≡ true → all_met 16 0 (needs_of s.rows) (saturated others (judge_all bytes s).commits) ≡ all_tallied passed table ts
     met_is short wide g =
         let a : commits_passed bytes ts ≤ 16 * length bytes = subst (λ (n : ℕ). commits_passed bytes ts ≤ n * length bytes) long (found_low bytes ts) in
-        ap (all_met 16 0 s.needs) (passed_are short g) ∙ met_tallied table wide ts long s.needs sh.needs passed (omega arith) 16 0 refl
+        ap (all_met 16 0 (needs_of s.rows)) (passed_are short g) ∙ met_tallied table wide ts long (needs_of s.rows) (shows_need sh) passed (omega arith) 16 0 refl
 
     most_is : others + 16 * length bytes < 18446744073709551615 → (judge_all bytes s).good ≡ true → at_most_from 64 0 table.counts (saturated others (judge_all bytes s).commits) ≡ at_most_from 64 0 table.counts passed
     most_is short g = ap (at_most_from 64 0 table.counts) (passed_are short g)
 
-    root_is : same (own_at s.starts s.ends 0) whole ≡ same (own_code (thread_at state 0)) whole
+    root_is : same (own_at (starts_of s.rows) (ends_of s.rows) 0) whole ≡ same (own_code (thread_at state 0)) whole
     root_is = ap (λ (c : Child). same c whole) (owns 0)
 
   there : others + 16 * length bytes < 18446744073709551615 → survey_fits s bytes (length table.registers) table.counts others ≡ true → fits_beside others bytes state ≡ true
@@ -269,7 +271,7 @@ module _ (others : ℕ) (bytes : List ℕ) (ts : List Thread) (table : Table) wh
       let f = front_parts bytes ts p.front in
       let long = p.records in
       let sh = survey_shows table.counts ts (survey_good table.counts ts (omega arith) f.0) in
-      let g : (judge_all bytes s).good ≡ true = judged_all bytes ts long s.starts s.ends (owns sh long) (row_at s) sh.rows 16 0 first_verdict refl refl f.1 p.one in
+      let g : (judge_all bytes s).good ≡ true = judged_all bytes ts long (starts_of s.rows) (ends_of s.rows) (owns sh long) (need_in table.counts) (row_at s) sh.rows 16 0 first_verdict refl refl f.1 p.one in
       survey_whole s bytes (length table.registers) table.counts others
       (record {
         good = sh.good;

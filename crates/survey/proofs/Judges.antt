@@ -18,10 +18,8 @@ use Rattle.machine.specs.Steps.{Child}
 use Rattle.machine.specs.Fits.{Walked, unmoved, walk_op, next_place, own_code}
 use Rattle.machine.specs.FitTest.{going_on, walk, walk_to, children_of, commits_of, commits_passed, passed_by, same, among, threads_of, one_each}
 use Rattle.survey.specs.declared.Row.{Row}
-use Rattle.survey.specs.declared.Walk.{Walk}
-use Rattle.survey.specs.declared.Verdict.{Verdict}
 use Rattle.survey.specs.InnerRecords.{row_of}
-use Rattle.survey.specs.InnerWalk.{own_at, lost_walk, marks, ones, walk_of, told, walk_from, agreeing, unfit, judged_by, judge_to, judge_from}
+use Rattle.survey.specs.InnerWalk.{Trail, Finding, own_at, lost_walk, marks, ones, walk_of, told, walk_from, agreeing, unfit, judged_by, judge_to, judge_from}
 use Rattle.survey.proofs.Yes.{never, first, second, both}
 use Rattle.survey.proofs.Shows.{at}
 use Rattle.survey.proofs.Asking.{or_left, Behind, no_more, one_more, marked, ones_each}
@@ -122,22 +120,22 @@ module _ (bytes : List ℕ) (ts : List Thread) (long : length ts ≡ 16) (starts
   Own j = own_at starts ends j
 
   -- what it means that a walk agrees with its record
-  record Agreed (t : Thread) (asked : ℕ) (o : Option Walked) (w : Walk) : Type 0 where
+  record Agreed (t : Thread) (asked : ℕ) (o : Option Walked) (w : Trail) : Type 0 where
     agree : agrees t o ≡ true
     one : one_each (children_of o) ts ≡ true
     all : w.asked ≡ marks starts ends (children_of o) asked
     passed : w.commits ≡ commits_of o
 
-  told_agrees : (t : Thread) (asked : ℕ) (o : Option Walked) → Behind (children_of o) → agreeing (told starts ends asked t.place o) (row_of t) ≡ true → Agreed t asked o (told starts ends asked t.place o)
+  told_agrees : (t : Thread) (asked : ℕ) (o : Option Walked) → Behind (children_of o) → agreeing (told starts ends asked t.place o) (row_of t 0) ≡ true → Agreed t asked o (told starts ends asked t.place o)
   unfolding told agreeing walk_of lost_walk
   told_agrees t asked none b e = never (sym e)
   told_agrees t asked (some w) b e = go (ones starts ends w.children asked) refl e
     where
-      go : (x : Bool) → ones starts ends w.children asked ≡ x → agreeing (cond x (walk_of starts ends asked t.place w) lost_walk) (row_of t) ≡ true → Agreed t asked (some w) (cond x (walk_of starts ends asked t.place w) lost_walk)
+      go : (x : Bool) → ones starts ends w.children asked ≡ x → agreeing (cond x (walk_of starts ends asked t.place w) lost_walk) (row_of t 0) ≡ true → Agreed t asked (some w) (cond x (walk_of starts ends asked t.place w) lost_walk)
       go true k f = record { agree = f; one = sym (ones_each ts long starts ends owns w.children b asked) ∙ k; all = refl; passed = refl }
       go false k f = never (sym f)
 
-  agrees_told : (t : Thread) (asked : ℕ) (o : Option Walked) → Behind (children_of o) → agrees t o ≡ true → one_each (children_of o) ts ≡ true → agreeing (told starts ends asked t.place o) (row_of t) ≡ true
+  agrees_told : (t : Thread) (asked : ℕ) (o : Option Walked) → Behind (children_of o) → agrees t o ≡ true → one_each (children_of o) ts ≡ true → agreeing (told starts ends asked t.place o) (row_of t 0) ≡ true
   unfolding told agreeing walk_of
   agrees_told t asked none b e f = never (sym e)
   agrees_told t asked (some w) b e f =
@@ -145,27 +143,27 @@ module _ (bytes : List ℕ) (ts : List Thread) (long : length ts ≡ 16) (starts
       rw k e
 
   -- one record
-  record Judged (t : Thread) (v r : Verdict) : Type 0 where
+  record Judged (t : Thread) (v r : Finding) : Type 0 where
     good : v.good ≡ true
     agree : (not (exists t) || agrees t (walk_to bytes t)) ≡ true
     one : one_each (passed_of bytes t) ts ≡ true
     all : (j : ℕ) → j < 16 → member r.asked j ≡ (member v.asked j || among (Own j) (passed_of bytes t))
     counts : v.commits + commits_by bytes t ≤ 18446744073709551615 → r.commits ≡ v.commits + commits_by bytes t
 
-  abbrev judge : Thread → Verdict → Verdict
-  judge t v = judge_to bytes starts ends (row_of t) v
+  abbrev judge : Thread → Finding → Finding
+  judge t v = judge_to bytes starts ends (row_of t 0) v
 
-  one_judged : (t : Thread) (v : Verdict) → (judge t v).good ≡ true → Judged t v (judge t v)
+  one_judged : (t : Thread) (v : Finding) → (judge t v).good ≡ true → Judged t v (judge t v)
   unfolding judge_to judged_by walk_from walk_to unfit among one_each
   one_judged t v g = start v.good refl g
     where
       o : Option Walked
       o = walk_to bytes t
 
-      w : Walk
+      w : Trail
       w = told starts ends v.asked t.place o
 
-      walked : v.good ≡ true → exists t ≡ true → (x : Bool) → agreeing w (row_of t) ≡ x → (cond x (record { asked = w.asked; commits = saturated v.commits w.commits; good = true }) unfit).good ≡ true → Judged t v (cond x (record { asked = w.asked; commits = saturated v.commits w.commits; good = true }) unfit)
+      walked : v.good ≡ true → exists t ≡ true → (x : Bool) → agreeing w (row_of t 0) ≡ x → (cond x (record { asked = w.asked; commits = saturated v.commits w.commits; good = true }) unfit).good ≡ true → Judged t v (cond x (record { asked = w.asked; commits = saturated v.commits w.commits; good = true }) unfit)
       walked h e true a f =
           let y = told_agrees t v.asked o (thread_behind bytes t) a in
           record {
@@ -177,7 +175,7 @@ module _ (bytes : List ℕ) (ts : List Thread) (long : length ts ≡ 16) (starts
           }
       walked h e false a f = never (sym f)
 
-      kind : (x : Bool) → eqb t.start 0 ≡ x → v.good ≡ true → (cond x v (judged_by v.commits (row_of t) w)).good ≡ true → Judged t v (cond x v (judged_by v.commits (row_of t) w))
+      kind : (x : Bool) → eqb t.start 0 ≡ x → v.good ≡ true → (cond x v (judged_by v.commits (row_of t 0) w)).good ≡ true → Judged t v (cond x v (judged_by v.commits (row_of t 0) w))
       kind true e h f =
           let x : exists t ≡ false = ap not e in
           record {
@@ -187,48 +185,53 @@ module _ (bytes : List ℕ) (ts : List Thread) (long : length ts ≡ 16) (starts
             all = λ j l. or_left (member v.asked j) ∙ ap (λ (b : Bool). member v.asked j || among (Own j) (cond b (children_of o) [])) (sym x);
             counts = λ l. (let z : v.commits ≡ v.commits + 0 = omega arith in z) ∙ ap (λ (b : Bool). v.commits + cond b (commits_of o) 0) (sym x);
           }
-      kind false e h f = walked h (ap not e) (agreeing w (row_of t)) refl f
+      kind false e h f = walked h (ap not e) (agreeing w (row_of t 0)) refl f
 
-      start : (x : Bool) → v.good ≡ x → (cond x (cond (eqb t.start 0) v (judged_by v.commits (row_of t) w)) v).good ≡ true → Judged t v (cond x (cond (eqb t.start 0) v (judged_by v.commits (row_of t) w)) v)
+      start : (x : Bool) → v.good ≡ x → (cond x (cond (eqb t.start 0) v (judged_by v.commits (row_of t 0) w)) v).good ≡ true → Judged t v (cond x (cond (eqb t.start 0) v (judged_by v.commits (row_of t 0) w)) v)
       start true h f = kind (eqb t.start 0) refl h f
       start false h f = never (sym f ∙ h)
 
-  judged_one : (t : Thread) (v : Verdict) → v.good ≡ true → (not (exists t) || agrees t (walk_to bytes t)) ≡ true → one_each (passed_of bytes t) ts ≡ true → (judge t v).good ≡ true
+  judged_one : (t : Thread) (v : Finding) → v.good ≡ true → (not (exists t) || agrees t (walk_to bytes t)) ≡ true → one_each (passed_of bytes t) ts ≡ true → (judge t v).good ≡ true
   unfolding judge_to judged_by walk_from walk_to
   judged_one t v h a e = start v.good h
     where
       o : Option Walked
       o = walk_to bytes t
 
-      w : Walk
+      w : Trail
       w = told starts ends v.asked t.place o
 
-      kind : (x : Bool) → eqb t.start 0 ≡ x → (cond x v (judged_by v.commits (row_of t) w)).good ≡ true
+      kind : (x : Bool) → eqb t.start 0 ≡ x → (cond x v (judged_by v.commits (row_of t 0) w)).good ≡ true
       kind true s = h
       kind false s =
           let x : exists t ≡ true = ap not s in
           let a' : agrees t o ≡ true = subst (λ (b : Bool). (not b || agrees t o) ≡ true) x a in
           let e' : one_each (children_of o) ts ≡ true = subst (λ (b : Bool). one_each (cond b (children_of o) []) ts ≡ true) x e in
-          let y : agreeing w (row_of t) ≡ true = agrees_told t v.asked o (thread_behind bytes t) a' e' in
+          let y : agreeing w (row_of t 0) ≡ true = agrees_told t v.asked o (thread_behind bytes t) a' e' in
           rw y
 
-      start : (x : Bool) → x ≡ true → (cond x (cond (eqb t.start 0) v (judged_by v.commits (row_of t) w)) v).good ≡ true
+      start : (x : Bool) → x ≡ true → (cond x (cond (eqb t.start 0) v (judged_by v.commits (row_of t 0) w)) v).good ≡ true
       start true s = kind (eqb t.start 0) refl
       start false s = never (sym s)
 
   -- all records from i on
-  pub record AllJudged (ds : List Thread) (v r : Verdict) : Type 0 where
+  pub record AllJudged (ds : List Thread) (v r : Finding) : Type 0 where
     pub good : v.good ≡ true
     pub agree : agree_all bytes ds ≡ true
     pub one : one_each (passed_by bytes ds) ts ≡ true
     pub all : (j : ℕ) → j < 16 → member r.asked j ≡ (member v.asked j || among (Own j) (passed_by bytes ds))
     pub counts : v.commits + commits_passed bytes ds ≤ 18446744073709551615 → r.commits ≡ v.commits + commits_passed bytes ds
 
-  module _ (rows : ℕ → Row) (are : (i : ℕ) → rows i ≡ row_of (at ts i)) where
-    abbrev judge_by : ℕ → ℕ → Verdict → Verdict
+  -- what a record needs is nothing to its walk
+  any_need : (n : ℕ) (t : Thread) (v : Finding) → judge_to bytes starts ends (row_of t n) v ≡ judge t v
+  unfolding judge_to judged_by agreeing
+  any_need n t v = refl
+
+  module _ (need : Thread → ℕ) (rows : ℕ → Row) (are : (i : ℕ) → rows i ≡ row_of (at ts i) (need (at ts i))) where
+    abbrev judge_by : ℕ → ℕ → Finding → Finding
     judge_by left i v = judge_from bytes starts ends rows left i v
 
-    pub all-judged : (left i : ℕ) (v : Verdict) → i + left ≡ 16 → (judge_by left i v).good ≡ true → AllJudged (drop i ts) v (judge_by left i v)
+    pub all-judged : (left i : ℕ) (v : Finding) → i + left ≡ 16 → (judge_by left i v).good ≡ true → AllJudged (drop i ts) v (judge_by left i v)
     unfolding judge_from agree_all passed_by among one_each commits_passed
     all-judged zero i v e g =
         subst (λ (ds : List Thread). AllJudged ds v v) (sym (drop_of_length-le ts {i = i} (omega arith)))
@@ -241,11 +244,11 @@ module _ (bytes : List ℕ) (ts : List Thread) (long : length ts ≡ 16) (starts
         ds : List Thread
         ds = drop (suc i) ts
 
-        r : Verdict
+        r : Finding
         r = judge_to bytes starts ends (rows i) v
 
         r_is : r ≡ judge t v
-        r_is = ap (λ (x : Row). judge_to bytes starts ends x v) (are i)
+        r_is = ap (λ (x : Row). judge_to bytes starts ends x v) (are i) ∙ any_need (need t) t v
 
         split : drop i ts ≡ t ∷ ds
         split = drop-cons ts i blank (omega arith)
@@ -256,7 +259,7 @@ module _ (bytes : List ℕ) (ts : List Thread) (long : length ts ≡ 16) (starts
 
         go : AllJudged ds r (judge_by left (suc i) r) → AllJudged (drop i ts) v (judge_by left (suc i) r)
         go a =
-            let y : Judged t v r = subst (Judged t v) (sym r_is) (one_judged t v (sym (ap (λ (x : Verdict). x.good) r_is) ∙ a.good)) in
+            let y : Judged t v r = subst (Judged t v) (sym r_is) (one_judged t v (sym (ap (λ (x : Finding). x.good) r_is) ∙ a.good)) in
             subst (λ (l : List Thread). AllJudged l v (judge_by left (suc i) r)) (sym split)
             (record {
               good = y.good;
@@ -268,12 +271,12 @@ module _ (bytes : List ℕ) (ts : List Thread) (long : length ts ≡ 16) (starts
           where
             more : v.commits + (commits_by bytes t + commits_passed bytes ds) ≤ 18446744073709551615 → (judge_by left (suc i) r).commits ≡ v.commits + (commits_by bytes t + commits_passed bytes ds)
             more l =
-                let y : Judged t v r = subst (Judged t v) (sym r_is) (one_judged t v (sym (ap (λ (x : Verdict). x.good) r_is) ∙ a.good)) in
+                let y : Judged t v r = subst (Judged t v) (sym r_is) (one_judged t v (sym (ap (λ (x : Finding). x.good) r_is) ∙ a.good)) in
                 let b : r.commits ≡ v.commits + commits_by bytes t = y.counts (omega arith) in
                 let d = a.counts (omega arith) in
                 omega arith
 
-    pub judged_all : (left i : ℕ) (v : Verdict) → i + left ≡ 16 → v.good ≡ true → agree_all bytes (drop i ts) ≡ true → one_each (passed_by bytes (drop i ts)) ts ≡ true → (judge_by left i v).good ≡ true
+    pub judged_all : (left i : ℕ) (v : Finding) → i + left ≡ 16 → v.good ≡ true → agree_all bytes (drop i ts) ≡ true → one_each (passed_by bytes (drop i ts)) ts ≡ true → (judge_by left i v).good ≡ true
     unfolding judge_from agree_all
     judged_all zero i v e h a o = h
     judged_all (suc left) i v e h a o =
@@ -284,6 +287,6 @@ module _ (bytes : List ℕ) (ts : List Thread) (long : length ts ≡ 16) (starts
         let o' : (one_each (passed_of bytes t) ts && one_each (passed_by bytes ds) ts) ≡ true = sym (ap (λ (l : List Thread). one_each (passed_by bytes l) ts) split ∙ (ap (λ (cs : List Child). one_each cs ts) (passed_more bytes t ds) ∙ one_each_more (passed_of bytes t) (passed_by bytes ds) ts)) ∙ o in
         let g : (judge t v).good ≡ true = judged_one t v h (first (not (exists t) || agrees t (walk_to bytes t)) _ a') (first (one_each (passed_of bytes t) ts) _ o') in
         judged_all left (suc i) (judge_to bytes starts ends (rows i) v) (omega arith)
-        (ap (λ (x : Row). (judge_to bytes starts ends x v).good) (are i) ∙ g)
+        (ap (λ (x : Row). (judge_to bytes starts ends x v).good) (are i) ∙ (ap (λ (x : Finding). x.good) (any_need (need t) t v) ∙ g))
         (second (not (exists t) || agrees t (walk_to bytes t)) _ a')
         (second (one_each (passed_of bytes t) ts) _ o')

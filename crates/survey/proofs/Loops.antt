@@ -5,16 +5,18 @@ use mathlib.Core.Path.{◌≡◌, refl, sym, ap, ◌∙◌}
 use mathlib.Core.List.{List}
 use native.Mathlib.Numerals.{add-one}
 use native.Mathlib.Omega.{arith}
-use borrow.Author.Tests.{le-leb, lt-leb}
+use borrow.Author.Tests.{le-leb, lt-leb, ne_eqb}
 use lib.Dec.{eqb, leb}
 use lib.IntN.{ℤ, pos}
 use lib.ListN.{get_or}
 use Rattle.machine.specs.Steps.{Child}
-use Rattle.machine.specs.FitTest.{free_from, is_zero, same, uncounted_from, within_from, at_most_from}
+use Rattle.std.proofs.Math.Bool.{and_assoc, and-true}
+use Rattle.machine.specs.FitTest.{free, free_from, is_zero, same, uncounted, uncounted_from, within_from, at_most_from}
+use Rattle.survey.specs.InnerRecords.{every}
 use Rattle.survey.specs.declared.Row.{Row}
 use Rattle.survey.specs.declared.Asked.{Asked}
-use Rattle.survey.specs.declared.Verdict.{Verdict}
-use Rattle.survey.specs.InnerWalk.{own_at, noted, asks, judge_to, judge_from, all_asked, all_met}
+use Rattle.survey.specs.InnerWalk.{Finding, own_at, noted, asks, judge_to, judge_from, all_asked, all_met}
+use Rattle.survey.proofs.Judging.{judge_bad}
 use Rattle.word.specs.Registers.{member}
 
 -- how many are left
@@ -24,100 +26,54 @@ fewer n i h = omega arith
 none_left : (n i : ℕ) → n ≤ i → n - i ≡ 0
 none_left n i h = omega arith
 
--- ---- numbers that are 0 where they are not in use
-module _ (used : ℕ → Bool) (ns : List ℤ) where
-  abbrev pub kept : ℕ → Bool
-  kept v = used v || is_zero (get_or ns v (pos 0))
+-- ---- a test at each of 64 places
+module _ (good : ℕ → Bool) where
+  every_next : (v : ℕ) → v < 64 → every (64 - v) v good ≡ (good v && every (64 - (v + 1)) (v + 1) good)
+  unfolding every
+  every_next v h =
+      ap (λ (k : ℕ). every k v good) (fewer 64 v h) ∙ ap (λ (i : ℕ). good v && every (64 - (v + 1)) i good) (sym (add-one v))
 
-  abbrev pub free_at : ℕ → Bool
-  free_at v = free_from (64 - v) v used ns
+  pub every_more : (v : ℕ) (held b : Bool) → v < 64 → b ≡ good v → ((held && b) && every (64 - (v + 1)) (v + 1) good) ≡ (held && every (64 - v) v good)
+  every_more v held b h e = rw (e, and_assoc) (sym (ap (held &&◌) (every_next v h)))
 
-  free_step : (v : ℕ) → v < 64 → free_at v ≡ (kept v && free_at (v + 1))
-  unfolding free_from
-  free_step v h =
-      ap (λ (k : ℕ). free_from k v used ns) (fewer 64 v h) ∙ ap (λ (i : ℕ). kept v && free_from (64 - (v + 1)) i used ns) (sym (add-one v))
+  pub every_done : (v : ℕ) (held : Bool) → 64 ≤ v → held ≡ (held && every (64 - v) v good)
+  unfolding every
+  every_done v held h = sym (ap (λ (k : ℕ). held && every k v good) (none_left 64 v h) ∙ and-true held)
 
-  pub free_again : (v : ℕ) (so far : Bool) → v < 64 → (so && free_at v) ≡ free_at 0 → far ≡ (so && kept v) → (far && free_at (v + 1)) ≡ free_at 0
-  free_again v so far h inv e = ap (◌&& free_at (v + 1)) e ∙ both_and so (kept v) (free_at (v + 1)) ∙ sym (ap (so &&◌) (free_step v h)) ∙ inv
-    where
-      both_and : (a b c : Bool) → ((a && b) && c) ≡ (a && (b && c))
-      both_and true b c = refl
-      both_and false b c = refl
+  -- a definition that goes on in the same way is the same test
+  every_as : (all : (left v : ℕ) → Bool) → ((v : ℕ) → all zero v ≡ true) → ((left v : ℕ) → all (suc left) v ≡ (good v && all left (suc v))) → (left v : ℕ) → every left v good ≡ all left v
+  unfolding every
+  every_as all last next zero v = sym (last v)
+  every_as all last next (suc left) v = ap (good v &&◌) (every_as all last next left (suc v)) ∙ sym (next left v)
 
-  pub free_done : (v : ℕ) (so : Bool) → 64 ≤ v → (so && free_at v) ≡ free_at 0 → so ≡ free_at 0
-  unfolding free_from
-  free_done v so h inv = sym (all so) ∙ sym (ap (λ (k : ℕ). so && free_from k v used ns) (none_left 64 v h)) ∙ inv
-    where
-      all : (a : Bool) → (a && true) ≡ a
-      all true = refl
-      all false = refl
+-- numbers that are 0 where they are not in use
+abbrev pub kept : (ℕ → Bool) → List ℤ → ℕ → Bool
+kept used ns v = used v || is_zero (get_or ns v (pos 0))
 
--- ---- a test of all 64
-module _ (good : ℕ → Bool) (all : (left v : ℕ) → Bool) (last : (v : ℕ) → all zero v ≡ true) (next : (left v : ℕ) → all (suc left) v ≡ (good v && all left (suc v))) where
-  abbrev all_at : ℕ → Bool
-  all_at v = all (64 - v) v
+pub every_kept : (used : ℕ → Bool) (ns : List ℤ) → every 64 0 (kept used ns) ≡ free used ns
+unfolding free_from
+every_kept used ns = every_as (kept used ns) (λ left v. free_from left v used ns) (λ v. refl) (λ left v. refl) 64 0
 
-  all_step : (v : ℕ) → v < 64 → all_at v ≡ (good v && all_at (v + 1))
-  all_step v h = ap (λ (k : ℕ). all k v) (fewer 64 v h) ∙ (next (64 - (v + 1)) v ∙ ap (λ (i : ℕ). good v && all (64 - (v + 1)) i) (sym (add-one v)))
+abbrev pub count_kept : (ℕ → Bool) → List ℕ → ℕ → Bool
+count_kept used ns v = used v || eqb (get_or ns v 0) 0
 
-  all_again : (v : ℕ) (so far : Bool) → v < 64 → (so && all_at v) ≡ all_at 0 → far ≡ (so && good v) → (far && all_at (v + 1)) ≡ all_at 0
-  all_again v so far h inv e = ap (◌&& all_at (v + 1)) e ∙ (both_and so (good v) (all_at (v + 1)) ∙ (sym (ap (so &&◌) (all_step v h)) ∙ inv))
-    where
-      both_and : (a b c : Bool) → ((a && b) && c) ≡ (a && (b && c))
-      both_and true b c = refl
-      both_and false b c = refl
+pub every_counted : (used : ℕ → Bool) (ns : List ℕ) → every 64 0 (count_kept used ns) ≡ uncounted used ns
+unfolding uncounted_from
+every_counted used ns = every_as (count_kept used ns) (λ left v. uncounted_from left v used ns) (λ v. refl) (λ left v. refl) 64 0
 
-  all_done : (v : ℕ) (so : Bool) → 64 ≤ v → (so && all_at v) ≡ all_at 0 → so ≡ all_at 0
-  all_done v so h inv = sym (whole so) ∙ (sym (ap (so &&◌) (ap (λ (k : ℕ). all k v) (none_left 64 v h) ∙ last v)) ∙ inv)
-    where
-      whole : (a : Bool) → (a && true) ≡ a
-      whole true = refl
-      whole false = refl
+abbrev pub not_ahead : (ns ms : List ℕ) → ℕ → Bool
+not_ahead ns ms v = leb (get_or ns v 0) (get_or ms v 0)
 
-module _ (used : ℕ → Bool) (ns : List ℕ) where
-  abbrev pub count_kept : ℕ → Bool
-  count_kept v = used v || eqb (get_or ns v 0) 0
+pub every_within : (ns ms : List ℕ) → every 64 0 (not_ahead ns ms) ≡ within_from 64 0 ns ms
+unfolding within_from
+every_within ns ms = every_as (not_ahead ns ms) (λ left v. within_from left v ns ms) (λ v. refl) (λ left v. refl) 64 0
 
-  abbrev pub uncounted_at : ℕ → Bool
-  uncounted_at v = uncounted_from (64 - v) v used ns
+abbrev pub not_above : List ℕ → (most : ℕ) → ℕ → Bool
+not_above ns most v = leb (get_or ns v 0) most
 
-  pub uncounted_again : (v : ℕ) (so far : Bool) → v < 64 → (so && uncounted_at v) ≡ uncounted_at 0 → far ≡ (so && count_kept v) → (far && uncounted_at (v + 1)) ≡ uncounted_at 0
-  unfolding uncounted_from
-  uncounted_again = all_again count_kept (λ left v. uncounted_from left v used ns) (λ v. refl) (λ left v. refl)
-
-  pub uncounted_done : (v : ℕ) (so : Bool) → 64 ≤ v → (so && uncounted_at v) ≡ uncounted_at 0 → so ≡ uncounted_at 0
-  unfolding uncounted_from
-  uncounted_done = all_done count_kept (λ left v. uncounted_from left v used ns) (λ v. refl) (λ left v. refl)
-
-module _ (ns ms : List ℕ) where
-  abbrev pub not_ahead : ℕ → Bool
-  not_ahead v = leb (get_or ns v 0) (get_or ms v 0)
-
-  abbrev pub within_at : ℕ → Bool
-  within_at v = within_from (64 - v) v ns ms
-
-  pub within_again : (v : ℕ) (so far : Bool) → v < 64 → (so && within_at v) ≡ within_at 0 → far ≡ (so && not_ahead v) → (far && within_at (v + 1)) ≡ within_at 0
-  unfolding within_from
-  within_again = all_again not_ahead (λ left v. within_from left v ns ms) (λ v. refl) (λ left v. refl)
-
-  pub within_done : (v : ℕ) (so : Bool) → 64 ≤ v → (so && within_at v) ≡ within_at 0 → so ≡ within_at 0
-  unfolding within_from
-  within_done = all_done not_ahead (λ left v. within_from left v ns ms) (λ v. refl) (λ left v. refl)
-
-module _ (ns : List ℕ) (most : ℕ) where
-  abbrev pub not_above : ℕ → Bool
-  not_above v = leb (get_or ns v 0) most
-
-  abbrev pub most_at : ℕ → Bool
-  most_at v = at_most_from (64 - v) v ns most
-
-  pub most_again : (v : ℕ) (so far : Bool) → v < 64 → (so && most_at v) ≡ most_at 0 → far ≡ (so && not_above v) → (far && most_at (v + 1)) ≡ most_at 0
-  unfolding at_most_from
-  most_again = all_again not_above (λ left v. at_most_from left v ns most) (λ v. refl) (λ left v. refl)
-
-  pub most_done : (v : ℕ) (so : Bool) → 64 ≤ v → (so && most_at v) ≡ most_at 0 → so ≡ most_at 0
-  unfolding at_most_from
-  most_done = all_done not_above (λ left v. at_most_from left v ns most) (λ v. refl) (λ left v. refl)
+pub every_most : (ns : List ℕ) (most : ℕ) → every 64 0 (not_above ns most) ≡ at_most_from 64 0 ns most
+unfolding at_most_from
+every_most ns most = every_as (not_above ns most) (λ left v. at_most_from left v ns most) (λ v. refl) (λ left v. refl) 64 0
 
 -- ---- threads that were asked for
 module _ (starts : List ℕ) (asked : ℕ) where
@@ -132,8 +88,10 @@ module _ (starts : List ℕ) (asked : ℕ) where
   asked_step i h =
       ap (λ (k : ℕ). all_asked k i starts asked) (fewer 16 i h) ∙ ap (λ (j : ℕ). wanted i && all_asked (16 - (i + 1)) j starts asked) (sym (add-one i))
 
-  pub asked_fails : (i : ℕ) → i < 16 → asked_at i ≡ asked_at 1 → wanted i ≡ false → false ≡ asked_at 1
-  asked_fails i h inv k = sym (asked_step i h ∙ ap (λ (b : Bool). b && asked_at (i + 1)) k) ∙ inv
+  pub asked_fails : (i : ℕ) → i < 16 → asked_at i ≡ asked_at 1 → (get_or starts i 0 ≡ 0 → ⊥) → member asked i ≡ false → false ≡ asked_at 1
+  asked_fails i h inv n k =
+      let e : wanted i ≡ false = rw (ne_eqb (get_or starts i 0) 0 n, k) in
+      sym (asked_step i h ∙ ap (λ (b : Bool). b && asked_at (i + 1)) e) ∙ inv
 
   pub asked_again : (i : ℕ) → i < 16 → asked_at i ≡ asked_at 1 → wanted i ≡ true → asked_at (i + 1) ≡ asked_at 1
   asked_again i h inv k = sym (asked_step i h ∙ ap (λ (b : Bool). b && asked_at (i + 1)) k) ∙ inv
@@ -189,16 +147,26 @@ module _ (starts ends : List ℕ) (c : Child) where
 
 -- ---- the threads
 module _ (bytes starts ends : List ℕ) (rows : ℕ → Row) where
-  abbrev pub judge_at : ℕ → Verdict → Verdict
+  abbrev pub judge_at : ℕ → Finding → Finding
   judge_at i v = judge_from bytes starts ends rows (16 - i) i v
 
-  pub judge_again : (i : ℕ) (v r : Verdict) → i < 16 → r ≡ judge_to bytes starts ends (rows i) v → judge_at (i + 1) r ≡ judge_at i v
+  pub judge_again : (i : ℕ) (v r : Finding) → i < 16 → r ≡ judge_to bytes starts ends (rows i) v → judge_at (i + 1) r ≡ judge_at i v
   unfolding judge_from
   judge_again i v r h e =
       ap (judge_at (i + 1)) e
       ∙ (ap (λ (j : ℕ). judge_from bytes starts ends rows (16 - (i + 1)) j (judge_to bytes starts ends (rows i) v)) (add-one i)
       ∙ sym (ap (λ (k : ℕ). judge_from bytes starts ends rows k i v) (fewer 16 i h)))
 
-  pub judge_done : (i : ℕ) (v : Verdict) → 16 ≤ i → judge_at i v ≡ v
+  pub judge_done : (i : ℕ) (v : Finding) → 16 ≤ i → judge_at i v ≡ v
   unfolding judge_from
   judge_done i v h = ap (λ (k : ℕ). judge_from bytes starts ends rows k i v) (none_left 16 i h)
+
+  judge_fixed : (left i : ℕ) (v : Finding) → v.good ≡ false → judge_from bytes starts ends rows left i v ≡ v
+  unfolding judge_from
+  judge_fixed zero i v g = refl
+  judge_fixed (suc left) i v g =
+      ap (judge_from bytes starts ends rows left (suc i)) (sym (judge_bad bytes starts ends (rows i) v g)) ∙ judge_fixed left (suc i) v g
+
+  -- behind a thread that does not fit nothing changes
+  pub judge_stays : (i : ℕ) (v : Finding) → v.good ≡ false → v ≡ judge_at i v
+  judge_stays i v g = sym (judge_fixed (16 - i) i v g)

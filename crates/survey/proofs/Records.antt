@@ -1,22 +1,19 @@
 -- The tests of one record, part by part, and what `with_to` is in each branch. Assumes nothing.
 use Prim.Native.Nat.{ℕ, ◌≤◌, ◌<◌}
-use mathlib.Core.Bool.{Bool, true, false, cond, not, ◌&&◌, ◌||◌}
-use mathlib.Core.Path.{◌≡◌, refl, sym, ap, fun_ext, ◌∙◌}
+use mathlib.Core.Bool.{Bool, true, false, not, ◌&&◌, ◌||◌}
+use mathlib.Core.Path.{◌≡◌, ap, fun_ext, ◌∙◌}
 use mathlib.Core.List.{List}
 use native.Mathlib.Omega.{arith}
-use borrow.Author.Tests.{eqb-true, eq-eqb, ne_eqb, lt-ltb, le-ltb, ltb-false, le-leb}
-use lib.Dec.{eqb, ltb, leb}
+use borrow.Author.Tests.{eqb-true, eq-eqb, ne_eqb, lt-ltb, le-ltb}
+use lib.Dec.{eqb}
 use lib.IntN.{ℤ}
-use lib.ListN.{length}
 use Rattle.thread.specs.declared.Thread.{Thread}
-use Rattle.machine.specs.FitTest.{free, uncounted, within_from, all_zero}
-use Rattle.word.specs.InnerCount.{saturated}
+use Rattle.machine.specs.FitTest.{free, uncounted, all_zero}
 use Rattle.word.specs.Registers.{member}
 use Rattle.word.specs.Registers as registers
 use Rattle.word.proofs.Sets.{member_none}
-use Rattle.thread.specs.InnerStep.{stale_read}
 use Rattle.survey.specs.declared.Survey.{Survey}
-use Rattle.survey.specs.InnerRecords.{capped_to, unfit_to, pass_to, put_to, needed_in, need_in, zero_from, tidy, with_to}
+use Rattle.survey.specs.InnerRecords.{unfit_to, pass_to, put_to, need_in, zero_from, tidy, with_to}
 use Rattle.survey.proofs.Yes.{first, second, both, when_true, when_false}
 
 -- ---- a record of no thread
@@ -81,22 +78,6 @@ zeros_of t e =
       writelog = none_below t.writelog ∙ first _ _ ez;
     }
 
-pub all-zero : (t : Thread) → Zeros t → all_zero t ≡ true
-unfolding all_zero
-all-zero t z =
-    both (eq-eqb t.start 0 z.start)
-    (both (eq-eqb t.end 0 z.end)
-    (both (eq-eqb t.place 0 z.place)
-    (both (eq-eqb t.height 0 z.height)
-    (both (eq-eqb t.begin 0 z.begin)
-    (both (eq-eqb t.base 0 z.base)
-    (both (eq-eqb t.over 0 z.over)
-    (both (eq-eqb t.reads 0 z.reads)
-    (both (eq-eqb t.writes 0 z.writes)
-    (both (eq-eqb t.rule 0 z.rule)
-    (both (eq-eqb t.backs 0 z.backs)
-    (both (sym (none_below t.cells) ∙ z.cells) (both (sym (none_below t.readlog) ∙ z.readlog) (both (sym (none_below t.writelog) ∙ z.writelog) z.readcounts)))))))))))))
-
 -- ---- a thread's record
 abbrev pub shut : Thread → Bool
 shut t = not (eqb t.begin 0) || (eqb t.reads 0 && eqb t.writes 0)
@@ -119,47 +100,6 @@ tidy_of t e =
 pub is_tidy : (t : Thread) → Tidy t → tidy t ≡ true
 unfolding tidy
 is_tidy t y = both y.shut (both y.readlog (both y.writelog (both y.cells y.readcounts)))
-
--- ---- a number as a count
-pub cap_below : (n : ℕ) → n < 4294967295 → n ≡ capped_to n
-unfolding capped_to
-cap_below n l = when_true _ _ 4294967295 (lt-ltb n 4294967295 l)
-
-pub cap_above : (n : ℕ) → 4294967295 ≤ n → 4294967295 ≡ capped_to n
-unfolding capped_to
-cap_above n l = when_false _ _ 4294967295 (le-ltb n 4294967295 l)
-
--- a count is not above it exactly if it is not above the number
-pub cap_leb : (n m : ℕ) → n < 4294967296 → leb n (capped_to m) ≡ leb n m
-unfolding capped_to
-cap_leb n m l = go (ltb m 4294967295) refl
-  where
-    go : (b : Bool) → ltb m 4294967295 ≡ b → leb n (cond b m 4294967295) ≡ leb n m
-    go true e = refl
-    go false e = let k = ltb-false m 4294967295 e in le-leb n 4294967295 (omega arith) ∙ sym (le-leb n m (omega arith))
-
--- ---- what it needs
-module _ (counts : List ℕ) (t : Thread) where
-  pub need_short : (length counts ≡ 64 → ⊥) → t.backs ≡ need_in counts t
-  unfolding need_in
-  need_short n = when_false _ _ t.backs (ne_eqb (length counts) 64 n)
-
-  pub need_by : length counts ≡ 64 → (low stale : Bool) → low ≡ within_from 64 0 t.readcounts counts → stale ≡ stale_read counts t → needed_in low stale t.backs ≡ need_in counts t
-  unfolding need_in
-  need_by e low stale f g = (λ i. needed_in (f i) (g i) t.backs) ∙ when_true _ _ t.backs (eq-eqb (length counts) 64 e)
-
-module _ (low stale : Bool) (backs : ℕ) where
-  pub needed_ahead : low ≡ false → 18446744073709551615 ≡ needed_in low stale backs
-  unfolding needed_in
-  needed_ahead f = when_false _ _ 18446744073709551615 f
-
-  pub needed_stale : low ≡ true → stale ≡ true → saturated backs 1 ≡ needed_in low stale backs
-  unfolding needed_in
-  needed_stale f g = when_true _ _ backs g ∙ when_true _ _ 18446744073709551615 f
-
-  pub needed_calm : low ≡ true → stale ≡ false → backs ≡ needed_in low stale backs
-  unfolding needed_in
-  needed_calm f g = when_false _ _ backs g ∙ when_true _ _ 18446744073709551615 f
 
 -- ---- the branches of `with_to`
 module _ (s : Survey) (table : List ℕ) (t : Thread) where

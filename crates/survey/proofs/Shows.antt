@@ -8,7 +8,7 @@ use native.Mathlib.Decide.{dec_lt, ℕ_discrete}
 use native.Mathlib.Omega.{arith}
 use borrow.Author.Tests.{eqb-false, eqb-true, eq-eqb, ne_eqb, ltb-true, le-leb, not-true}
 use lib.Dec.{eqb, ltb}
-use lib.ListN.{length, get_or, set, replicate, get_or-replicate, length-append, length-set, get_or-append, get_or-eq_default}
+use lib.ListN.{length, get_or, set, replicate, get_or-replicate, length-append, length-set, get_or-append, get_or-eq_default, get_or-map}
 use lib.Seq.{get_or-append_seam, get_or-set_same, get_or-set_other}
 use Rattle.thread.specs.declared.Thread.{Thread}
 use Rattle.stm.specs.Counted.{Table}
@@ -19,7 +19,7 @@ use Rattle.machine.specs.Steps.{number_of}
 use Rattle.machine.specs.FitTest.{uncounted_from, uncounted, within_from, all_zero, none_behind}
 use Rattle.survey.specs.declared.Survey.{Survey}
 use Rattle.survey.specs.declared.Row.{Row}
-use Rattle.survey.specs.InnerRecords.{row_of, no_row, empty_survey, unfit_to, pass_to, put_to, tidy, needed_in, need_in, with_to, survey_from, survey_of}
+use Rattle.survey.specs.InnerRecords.{starts_of, ends_of, needs_of, row_of, no_row, empty_survey, unfit_to, pass_to, put_to, tidy, needed_in, need_in, with_to, survey_from, survey_of}
 use Rattle.survey.specs.InnerWalk.{row_at}
 use Rattle.machine.proofs.Stale.{found_stale, stale_none}
 use Rattle.word.specs.InnerCount.{saturated}
@@ -90,23 +90,24 @@ at_other ts t i n = go (dec_lt i (length ts))
         ∙ sym (get_or-eq_default ts blank {n = i} (omega arith))
 
 -- ---- what a good survey shows
-pub record Long (s : Survey) : Type 0 where
-  starts : length s.starts ≡ 16
-  ends : length s.ends ≡ 16
-  rows : length s.rows ≡ 16
-  needs : length s.needs ≡ 16
-
 pub record Shows (table : List ℕ) (ts : List Thread) (s : Survey) : Type 0 where
   pub good : s.good ≡ true
   pub seen : s.seen ≡ length ts
   pub few : length ts ≤ 16
   pub count : s.count ≡ number_of ts
   pub front : tidy_front ts ≡ true
-  pub rows : (i : ℕ) → row_at s i ≡ row_of (at ts i)
-  pub starts : (i : ℕ) → get_or s.starts i 0 ≡ (at ts i).start
-  pub ends : (i : ℕ) → get_or s.ends i 0 ≡ (at ts i).end
-  pub needs : (i : ℕ) → get_or s.needs i 0 ≡ need_in table (at ts i)
-  pub long : Long s
+  pub rows : (i : ℕ) → row_at s i ≡ row_of (at ts i) (need_in table (at ts i))
+  pub long : length s.rows ≡ 16
+
+module _ {table : List ℕ} {ts : List Thread} {s : Survey} (sh : Shows table ts s) (i : ℕ) where
+  pub shows_start : get_or (starts_of s.rows) i 0 ≡ (at ts i).start
+  shows_start = get_or-map (λ (r : Row). r.start) s.rows i no_row ∙ ap (λ (r : Row). r.start) (sh.rows i)
+
+  pub shows_end : get_or (ends_of s.rows) i 0 ≡ (at ts i).end
+  shows_end = get_or-map (λ (r : Row). r.end) s.rows i no_row ∙ ap (λ (r : Row). r.end) (sh.rows i)
+
+  pub shows_need : get_or (needs_of s.rows) i 0 ≡ need_in table (at ts i)
+  shows_need = get_or-map (λ (r : Row). r.need) s.rows i no_row ∙ ap (λ (r : Row). r.need) (sh.rows i)
 
 stored : {A : Type 0} (d : A) (xs : List A) (k : ℕ) (v : A) (i : ℕ) → length xs ≡ 16 → k < 16 → i ≡ k → get_or (set xs k v) i d ≡ v
 stored d xs k v i n h e = rw e (get_or-set_same xs k v d (omega arith))
@@ -166,7 +167,6 @@ module _ (table : List ℕ) (ts : List Thread) (s : Survey) (sh : Shows table ts
     put_shows : exists t ≡ true → s.count ≡ s.seen → tidy t ≡ true → Shows table (ts ++ last t) put
     unfolding put_to
     put_shows x c y =
-        let l : Long s = sh.long in
         let all : number_of ts ≡ length ts = sym sh.count ∙ (c ∙ sh.seen) in
         record {
           good = sh.good;
@@ -174,16 +174,8 @@ module _ (table : List ℕ) (ts : List Thread) (s : Survey) (sh : Shows table ts
           few = omega (arith, more, room);
           count = omega (arith, sh.count, all, number_more ts t all x);
           front = tidy_more ts t sh.front all x y;
-          rows = put_each no_row row_of s.rows l.rows sh.rows;
-          starts = put_each 0 (λ (u : Thread). u.start) s.starts l.starts sh.starts;
-          ends = put_each 0 (λ (u : Thread). u.end) s.ends l.ends sh.ends;
-          needs = put_each 0 (need_in table) s.needs l.needs sh.needs;
-          long = record {
-            starts = set_long s.starts s.seen t.start l.starts;
-            ends = set_long s.ends s.seen t.end l.ends;
-            rows = set_long s.rows s.seen (row_of t) l.rows;
-            needs = set_long s.needs s.seen (need_in table t) l.needs;
-          };
+          rows = put_each no_row (λ (u : Thread). row_of u (need_in table u)) s.rows sh.long sh.rows;
+          long = set_long s.rows s.seen (row_of t (need_in table t)) sh.long;
         }
 
     -- a record of no thread changes nothing of it
@@ -196,29 +188,25 @@ module _ (table : List ℕ) (ts : List Thread) (s : Survey) (sh : Shows table ts
             was i ∙ (ap g f ∙ (z ∙ ap g (sym (ap (at (ts ++ last t)) e ∙ at_last ts t))))
         go (no n) = was i ∙ ap g (sym (at_other ts t i n))
 
-    blank_row : Zeros t → row_of blank ≡ row_of t
-    unfolding blank
-    blank_row z = λ j. record { start = sym z.start j; end = sym z.end j; place = sym z.place j; height = sym z.height j; begin = sym z.begin j; base = sym z.base j; over = sym z.over j }
-
     blank_need : Zeros t → need_in table blank ≡ need_in table t
     unfolding blank registers.none
     blank_need z = no_need table blank refl refl blank_uncounted ∙ sym (no_need table t z.reads z.backs z.readcounts)
 
+    blank_row : Zeros t → row_of blank (need_in table blank) ≡ row_of t (need_in table t)
+    unfolding blank
+    blank_row z = λ j. record { start = sym z.start j; end = sym z.end j; place = sym z.place j; height = sym z.height j; begin = sym z.begin j; base = sym z.base j; over = sym z.over j; need = blank_need z j }
+
     pass_shows : exists t ≡ false → all_zero t ≡ true → Shows table (ts ++ last t) (pass_to s)
     unfolding pass_to
     pass_shows x z =
-        let l : Long s = sh.long in
         record {
           good = sh.good;
           seen = omega (arith, sh.seen, more);
           few = omega (arith, more, room);
           count = sh.count ∙ sym (number_none ts t x);
           front = tidy_none ts t sh.front x z;
-          rows = pass_each row_of (row_at s) (blank_row (zeros_of t z)) sh.rows;
-          starts = pass_each (λ (u : Thread). u.start) (λ (i : ℕ). get_or s.starts i 0) (ap (λ (r : Row). r.start) (blank_row (zeros_of t z))) sh.starts;
-          ends = pass_each (λ (u : Thread). u.end) (λ (i : ℕ). get_or s.ends i 0) (ap (λ (r : Row). r.end) (blank_row (zeros_of t z))) sh.ends;
-          needs = pass_each (need_in table) (λ (i : ℕ). get_or s.needs i 0) (blank_need (zeros_of t z)) sh.needs;
-          long = record { starts = l.starts; ends = l.ends; rows = l.rows; needs = l.needs };
+          rows = pass_each (λ (u : Thread). row_of u (need_in table u)) (row_at s) (blank_row (zeros_of t z)) sh.rows;
+          long = sh.long;
         }
 
   unfit_bad : {A : Type 0} → unfit_to s ≡ with_to s table t → (with_to s table t).good ≡ true → A
@@ -275,11 +263,8 @@ empty_shows table =
       few = omega arith;
       count = refl;
       front = refl;
-      rows = none no_row;
-      starts = none 0;
-      ends = none 0;
-      needs = λ i. none 0 i ∙ sym (no_need table blank refl refl blank_uncounted);
-      long = record { starts = refl; ends = refl; rows = refl; needs = refl };
+      rows = λ i. none no_row i ∙ (λ j. record { start = 0; end = 0; place = 0; height = 0; begin = 0; base = 0; over = 0; need = sym (no_need table blank refl refl blank_uncounted) j });
+      long = refl;
     }
   where
     none : {A : Type 0} (d : A) (i : ℕ) → get_or (replicate 16 d) i d ≡ d

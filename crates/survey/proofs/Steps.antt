@@ -1,55 +1,38 @@
--- One instruction of a walk: what `step_to` is for each. Assumes nothing.
-use Prim.Native.Nat.{ℕ, ◌+◌, ◌≤◌, ◌<◌}
-use mathlib.Core.Path.{◌≡◌}
-use mathlib.Core.List.{List}
+-- A walk that goes on up to its target, and one that has not come so far. Assumes nothing.
+use Prim.Native.Nat.{ℕ, ◌≤◌, ◌<◌}
+use mathlib.Core.Bool.{Bool, true, false}
+use mathlib.Core.Path.{◌≡◌, refl, ap, ◌∙◌}
+use Rattle.std.specs.Prelude as std
+use Rattle.survey.specs.declared.Walk.{Walk}
 use borrow.Author.Tests.{lt-ltb, le-ltb}
 use lib.Dec.{ltb}
-use lib.IntN.{ℤ}
-use Rattle.ops.specs.declared.Op.{Op}
-use Rattle.ops.specs.declared.Op.TheVariants as op
-use Rattle.survey.specs.declared.Walk.{Walk}
-use Rattle.survey.specs.InnerWalk.{lost_walk, up_to, rise_to, fall_to, stay_to, note_to, fork_to, step_to}
+use Rattle.survey.specs.InnerWalk.{Trail, going, walk_in, lost_walk, up_to}
 use Rattle.survey.proofs.Yes.{when_true, when_false}
 
 -- a place behind the target, and one that is not
-pub far : (target place : ℕ) (w : Walk) → target < place → lost_walk ≡ up_to target place w
+pub far : (target place : ℕ) (w : Trail) → target < place → lost_walk ≡ up_to target place w
 far target place w h = when_true (ltb target place) lost_walk w (lt-ltb target place h)
 
-pub near : (target place : ℕ) (w : Walk) → place ≤ target → w ≡ up_to target place w
+pub near : (target place : ℕ) (w : Trail) → place ≤ target → w ≡ up_to target place w
 near target place w h = when_false (ltb target place) lost_walk w (le-ltb target place h)
 
-module _ (starts ends : List ℕ) (target : ℕ) (w : Walk) (o : Op) where
-  abbrev stepped : Walk
-  stepped = step_to starts ends target w o
+-- a walk that has not come so far, and one that has
+pub none_good : (t : Trail) → walk_in t ≡ std.None → t.good ≡ false
+none_good t e = go t.good refl
+  where
+    go : (b : Bool) → t.good ≡ b → t.good ≡ false
+    go true g = absurd (let f = rw g at e in cc)
+    go false g = g
 
-  pub a_push : (n : ℤ) → o ≡ op.Push n → rise_to w target 5 ≡ stepped
-  unfolding step_to
-  a_push n e = rw e
+pub some_going : (t : Trail) (w : Walk) → walk_in t ≡ std.Some w → t ≡ going w
+some_going t w e = go t.good refl
+  where
+    kept : Walk
+    kept = record { place = t.place; height = t.height; begin = t.begin; base = t.base; adds = t.adds; commits = t.commits; asked = t.asked }
 
-  pub an_add : o ≡ op.Add → fall_to w ≡ stepped
-  unfolding step_to
-  an_add e = rw e
-
-  pub a_read : (v : ℕ) → o ≡ op.Read v → rise_to w target 2 ≡ stepped
-  unfolding step_to
-  a_read v e = rw e
-
-  pub a_write : (v : ℕ) → o ≡ op.Write v → stay_to w target ≡ stepped
-  unfolding step_to
-  a_write v e = rw e
-
-  pub a_begin : o ≡ op.Begin → note_to w w.place w.height w.commits ≡ stepped
-  unfolding step_to
-  a_begin e = rw e
-
-  pub a_commit : o ≡ op.Commit → note_to w 0 0 (w.commits + 1) ≡ stepped
-  unfolding step_to
-  a_commit e = rw e
-
-  pub a_fork : (size : ℕ) → o ≡ op.Fork size → fork_to starts ends w target size ≡ stepped
-  unfolding step_to
-  a_fork size e = rw e
-
-  pub a_foreign : o ≡ op.Foreign → lost_walk ≡ stepped
-  unfolding step_to
-  a_foreign e = rw e
+    go : (b : Bool) → t.good ≡ b → t ≡ going w
+    go true g =
+        let f : std.Some kept ≡ std.Some w = rw g at e in
+        let k : kept ≡ w = cc in
+        (λ i. record { place = t.place; height = t.height; begin = t.begin; base = t.base; adds = t.adds; commits = t.commits; asked = t.asked; good = g i }) ∙ ap going k
+    go false g = absurd (let f = rw g at e in cc)

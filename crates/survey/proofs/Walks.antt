@@ -18,8 +18,7 @@ use Rattle.machine.specs.Fits.{Walked, unmoved, risen, walk_op, next_place}
 use Rattle.machine.specs.FitTest.{going_on, walk}
 use Rattle.machine.proofs.Walking.{next_after}
 use Rattle.survey.specs.declared.Asked.{Asked}
-use Rattle.survey.specs.declared.Walk.{Walk}
-use Rattle.survey.specs.InnerWalk.{asked_for, lost_walk, rose, rise_to, fall_to, adds_after, stay_to, note_to, forked, fork_to, step_to, marks, ones, walk_of, told, walk_from}
+use Rattle.survey.specs.InnerWalk.{Trail, asked_for, lost_walk, rose, rise_to, fall_to, adds_after, stay_to, note_to, forked, fork_to, step_to, marks, ones, walk_of, told, walk_from}
 use Rattle.survey.proofs.Steps.{near}
 use Rattle.survey.proofs.Yes.{never, clash, when_true, when_false, and_no, and_yes}
 
@@ -32,10 +31,10 @@ alone starts ends place size asked = eqb (asking starts ends place size asked).n
 
 module _ (bytes starts ends : List ℕ) (end target asked : ℕ) where
   -- where the walk stands, if each FORK passed has its thread
-  abbrev told_at : ℕ → Walked → Walk
+  abbrev told_at : ℕ → Walked → Trail
   told_at place v = cond (ones starts ends v.children asked) (walk_of starts ends asked place v) lost_walk
 
-  abbrev finds : Option Walked → Walk
+  abbrev finds : Option Walked → Trail
   finds o = told starts ends asked target o
 
   -- a walk past its target does not come to it
@@ -102,10 +101,10 @@ module _ (bytes starts ends : List ℕ) (end target asked : ℕ) where
       ap (λ (h : ℕ). record { place = place + size; height = h; begin = v.begin; base = v.base; adds = v.adds; commits = v.commits; asked = marks starts ends v.children asked; good = true }) (add-one v.height)
 
   module _ (place : ℕ) (v : Walked) (all : ones starts ends v.children asked ≡ true) (l : place < target) where
-    abbrev here : Walk
+    abbrev here : Trail
     here = walk_of starts ends asked place v
 
-    abbrev behind : (size height : ℕ) → Walk
+    abbrev behind : (size height : ℕ) → Trail
     behind size height =
         record { place = place + 3 + size; height = height; begin = v.begin; base = v.base; adds = v.adds; commits = v.commits; asked = (asking starts ends place size (marks starts ends v.children asked)).asked; good = true }
 
@@ -132,7 +131,7 @@ module _ (bytes starts ends : List ℕ) (end target asked : ℕ) where
         ∙ ap (λ (h : ℕ). cond (n && ones starts ends v.children asked) (behind size h) lost_walk) (add-one v.height))
 
 -- what holds at the loop's head
-pub record Loop (bytes starts ends : List ℕ) (start end target asked : ℕ) (w : Walk) : Type 0 where
+pub record Loop (bytes starts ends : List ℕ) (start end target asked : ℕ) (w : Trail) : Type 0 where
   pub walked : Walked
   pub fuel : ℕ
   pub is : w ≡ walk_of starts ends asked w.place walked
@@ -144,30 +143,30 @@ pub record Loop (bytes starts ends : List ℕ) (start end target asked : ℕ) (w
   pub same : told starts ends asked target (walk fuel bytes end target w.place walked) ≡ walk_from bytes starts ends start end target asked
 
 module _ (bytes starts ends : List ℕ) (start end target asked : ℕ) where
-  abbrev final : Walk
+  abbrev final : Trail
   final = walk_from bytes starts ends start end target asked
 
-  abbrev At : Walk → Type 0
+  abbrev At : Trail → Type 0
   At w = Loop bytes starts ends start end target asked w
 
   pub begins : At (record { place = start; height = 0; begin = 0; base = 0; adds = 0; commits = 0; asked = asked; good = true })
   unfolding walk_of marks ones walk_from
   begins = record { walked = unmoved; fuel = suc target; is = refl; all = refl; low = omega arith; few = omega arith; rare = omega arith; enough = omega arith; same = refl }
 
-  module _ (w : Walk) (a : At w) where
+  module _ (w : Trail) (a : At w) where
     pub low_height : w.height ≤ w.place
     unfolding walk_of
-    low_height = rw (ap (λ (x : Walk). x.height) a.is) a.low
+    low_height = rw (ap (λ (x : Trail). x.height) a.is) a.low
 
     pub few_adds : w.adds ≤ w.place
     unfolding walk_of
-    few_adds = rw (ap (λ (x : Walk). x.adds) a.is) a.few
+    few_adds = rw (ap (λ (x : Trail). x.adds) a.is) a.few
 
     pub few_commits : w.commits ≤ w.place
     unfolding walk_of
-    few_commits = rw (ap (λ (x : Walk). x.commits) a.is) a.rare
+    few_commits = rw (ap (λ (x : Trail). x.commits) a.is) a.rare
 
-    abbrev from : ℕ → Walk
+    abbrev from : ℕ → Trail
     from fuel = told starts ends asked target (walk fuel bytes end target w.place a.walked)
 
     -- the target
@@ -205,9 +204,9 @@ module _ (bytes starts ends : List ℕ) (start end target asked : ℕ) where
 
       -- one instruction further: the walk is lost, or it goes on
       module _ (l : w.place < target) (h : w.place < end) where
-        data Next : Walk → Type 0 where
+        data Next : Trail → Type 0 where
           stops : lost_walk ≡ final → Next lost_walk
-          goes : {r : Walk} → At r → w.place < r.place → Next r
+          goes : {r : Trail} → At r → w.place < r.place → Next r
 
         -- the instruction that is there, the rest of the walk being told by this much fuel
         abbrev Rest : ℕ → code.Op → Type 0
@@ -278,10 +277,10 @@ module _ (bytes starts ends : List ℕ) (start end target asked : ℕ) where
                 stops (sym x ∙ s)
             go (suc fuel) f s (done op) e =
                 let x : from (suc fuel) ≡ told starts ends asked target (walk fuel bytes end target (next_place op w.place) (walk_op op w.place a.walked)) = rw (walk, ne_eqb w.place target n, lt-ltb w.place end h, e) in
-                let y : step_to starts ends target w (show_op op) ≡ cond (ltb target (next_place op w.place)) lost_walk (told_at bytes starts ends end target asked (next_place op w.place) (walk_op op w.place a.walked)) = ap (λ (z : Walk). step_to starts ends target z (show_op op)) a.is ∙ one_op bytes starts ends end target asked w.place a.walked a.all l op in
+                let y : step_to starts ends target w (show_op op) ≡ cond (ltb target (next_place op w.place)) lost_walk (told_at bytes starts ends end target asked (next_place op w.place) (walk_op op w.place a.walked)) = ap (λ (z : Trail). step_to starts ends target z (show_op op)) a.is ∙ one_op bytes starts ends end target asked w.place a.walked a.all l op in
                 subst Next (sym y) (has_op op fuel f (sym x ∙ s))
 
-        module _ (o : Op) (r : Walk) (eo : o ≡ shown_op (op_at (drop w.place bytes))) (er : r ≡ step_to starts ends target w o) where
+        module _ (o : Op) (r : Trail) (eo : o ≡ shown_op (op_at (drop w.place bytes))) (er : r ≡ step_to starts ends target w o) where
           nexts : Next r
           nexts = subst Next (sym (er ∙ ap (step_to starts ends target w) eo)) next
 
@@ -289,15 +288,15 @@ module _ (bytes starts ends : List ℕ) (start end target asked : ℕ) where
           unfolding walk_of
           step_stops g = go nexts g
             where
-              go : {x : Walk} → Next x → x.good ≡ false → x ≡ final
+              go : {x : Trail} → Next x → x.good ≡ false → x ≡ final
               go (stops e) g = e
-              go (goes b m) g = absurd (clash g (ap (λ (z : Walk). z.good) b.is))
+              go (goes b m) g = absurd (clash g (ap (λ (z : Trail). z.good) b.is))
 
           pub step_goes : r.good ≡ true → At r
           unfolding lost_walk
           step_goes g = go nexts g
             where
-              go : {x : Walk} → Next x → x.good ≡ true → At x
+              go : {x : Trail} → Next x → x.good ≡ true → At x
               go (stops e) g = never (sym g)
               go (goes b m) g = b
 
@@ -305,6 +304,6 @@ module _ (bytes starts ends : List ℕ) (start end target asked : ℕ) where
           unfolding lost_walk
           step_further g = go nexts g
             where
-              go : {x : Walk} → Next x → x.good ≡ true → w.place < x.place
+              go : {x : Trail} → Next x → x.good ≡ true → w.place < x.place
               go (stops e) g = never (sym g)
               go (goes b m) g = m

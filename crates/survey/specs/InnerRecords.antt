@@ -1,5 +1,5 @@
 -- For the proof of `Survey::with` only: what a survey keeps of each record. Nobody has to believe it: `survey-fits` (proofs/Exact) ties it to `fits`.
-use Rattle.std.specs.Prelude.{ℕ, ◌+◌, Bool, true, false, cond, not, ◌&&◌, ◌||◌, List, [], ◌∷◌, eqb, ltb, ℤ, length, set, replicate}
+use Rattle.std.specs.Prelude.{ℕ, zero, suc, ◌+◌, Bool, true, false, cond, not, ◌&&◌, ◌||◌, List, [], ◌∷◌, eqb, ltb, ℤ, length, set, replicate, map}
 use Rattle.survey.specs.declared.Row.{Row}
 use Rattle.survey.specs.declared.Survey.{Survey}
 use Rattle.thread.specs.declared.Thread.{Thread}
@@ -8,65 +8,44 @@ use Rattle.machine.specs.FitTest.{free, uncounted, within_from, all_zero}
 use Rattle.word.specs.InnerCount.{saturated}
 use Rattle.word.specs.Registers.{member}
 
--- the numbers of a thread's record
-abbrev pub row_of : Thread → Row
-row_of t = record { start = t.start; end = t.end; place = t.place; height = t.height; begin = t.begin; base = t.base; over = t.over }
+-- the numbers of a thread's record, which needs so many COMMITs passed
+abbrev pub row_of : Thread → (need : ℕ) → Row
+row_of t need = record { start = t.start; end = t.end; place = t.place; height = t.height; begin = t.begin; base = t.base; over = t.over; need = need }
 
 -- no record's
 abbrev pub no_row : Row
-no_row = record { start = 0; end = 0; place = 0; height = 0; begin = 0; base = 0; over = 0 }
+no_row = record { start = 0; end = 0; place = 0; height = 0; begin = 0; base = 0; over = 0; need = 0 }
+
+-- where each thread's own code starts and ends, and how many COMMITs each record needs
+abbrev pub starts_of : List Row → List ℕ
+starts_of rows = map (λ (r : Row). r.start) rows
+
+abbrev pub ends_of : List Row → List ℕ
+ends_of rows = map (λ (r : Row). r.end) rows
+
+abbrev pub needs_of : List Row → List ℕ
+needs_of rows = map (λ (r : Row). r.need) rows
 
 -- no record came yet
 unfoldable pub empty_survey : Survey
-empty_survey =
-    record {
-      starts = replicate 16 0;
-      ends = replicate 16 0;
-      rows = replicate 16 no_row;
-      needs = replicate 16 0;
-      count = 0;
-      seen = 0;
-      good = true;
-    }
+empty_survey = record { rows = replicate 16 no_row; count = 0; seen = 0; good = true }
 
 -- no state with these records fits any code
 unfoldable pub unfit_to : Survey → Survey
-unfit_to s =
-    record {
-      starts = s.starts;
-      ends = s.ends;
-      rows = s.rows;
-      needs = s.needs;
-      count = s.count;
-      seen = s.seen;
-      good = false;
-    }
+unfit_to s = record { rows = s.rows; count = s.count; seen = s.seen; good = false }
 
 -- a record of no thread came
 unfoldable pub pass_to : Survey → Survey
-pass_to s =
-    record {
-      starts = s.starts;
-      ends = s.ends;
-      rows = s.rows;
-      needs = s.needs;
-      count = s.count;
-      seen = s.seen + 1;
-      good = s.good;
-    }
+pass_to s = record { rows = s.rows; count = s.count; seen = s.seen + 1; good = s.good }
 
 -- a thread's record came, which needs so many COMMITs passed
 unfoldable pub put_to : Survey → Thread → (need : ℕ) → Survey
-put_to s t need =
-    record {
-      starts = set s.starts s.seen t.start;
-      ends = set s.ends s.seen t.end;
-      rows = set s.rows s.seen (row_of t);
-      needs = set s.needs s.seen need;
-      count = s.count + 1;
-      seen = s.seen + 1;
-      good = s.good;
-    }
+put_to s t need = record { rows = set s.rows s.seen (row_of t need); count = s.count + 1; seen = s.seen + 1; good = s.good }
+
+-- a test holds at each place from v on, `left` of them being left
+unfoldable pub every : (left v : ℕ) → (ℕ → Bool) → Bool
+every zero v good = true
+every (suc left) v good = good v && every left (suc v) good
 
 -- the numbers from a height on are 0
 unfoldable pub zero_from : (height : ℕ) → List ℤ → Bool
@@ -79,10 +58,6 @@ tidy t =
     && (free (member t.reads) t.readlog
     && (free (member t.writes) t.writelog
     && (zero_from t.height t.cells && uncounted (member t.reads) t.readcounts)))
-
--- a number as one of 32 bits, the greatest for a greater one
-unfoldable pub capped_to : ℕ → ℕ
-capped_to n = cond (ltb n 4294967295) n 4294967295
 
 -- the greatest number of 64 bits
 abbrev pub greatest : ℕ

@@ -1,23 +1,19 @@
 // The state test: what has to be known of the thread records, taken one after the other, and whether they fit the code.
 #![tactic(auto)]
 
-ghost use Rattle.std.specs.Prelude.{◌+◌, ◌-◌, ◌<◌, ◌≤◌, ◌^◌, eqb, leb, length, ◌&&◌, ◌||◌, not, ◌≡◌};
-ghost use Rattle.machine.specs.FitTest.{all_zero, at_most_from, free, is_zero, uncounted, within_from};
-ghost use Rattle.survey.specs.InnerRecords.{capped_to, zero_from, needed_in, need_in, empty_survey, unfit_to, pass_to, put_to, tidy, with_to};
-ghost use Rattle.survey.specs.InnerWalk.{adds_after, agreeing, all_asked, all_met, asked_for, fall_to, fork_to, judge_all, judge_to, lost_walk, note_to, noted, rise_to, stay_to, step_to, survey_fits, walk_from};
-ghost use Rattle.word.specs.Registers.{member};
+ghost use Rattle.std.specs.Prelude.{ℕ, Bool, ◌+◌, ◌-◌, ◌<◌, ◌≤◌, ◌^◌, eqb, length, ◌&&◌, ◌≡◌};
+ghost use Rattle.machine.specs.FitTest.{all_zero, at_most_from, within_from};
+ghost use Rattle.survey.specs.InnerRecords.{empty_survey, ends_of, every, need_in, needed_in, needs_of, pass_to, put_to, starts_of, tidy, unfit_to, with_to};
+ghost use Rattle.survey.specs.InnerWalk.{adds_after, agreeing, all_asked, all_met, asked_for, fall_to, fork_to, going, judge_all, judge_to, known, note_to, noted, rise_to, stay_to, step_to, survey_fits, verdict_in, walk_from, walk_in};
 
 // What the records that came so far leave: the numbers of each thread, how many threads there are, how many records came, and whether
 // each of them passed the tests that need no code.
 #[derive(Clone, Copy)]
 pub struct Survey {
-    pub starts: [usize; 16],
-    pub ends: [usize; 16],
     pub rows: [Row; 16],
-    // the fewest COMMITs passed by all threads with which each fits
-    pub needs: [usize; 16],
     pub count: usize,
     pub seen: usize,
+    // a flag and no Option: `with` may not fail, so that a survey that is refused is still one
     pub good: bool,
 }
 
@@ -31,6 +27,8 @@ pub struct Row {
     pub begin: usize,
     pub base: usize,
     pub over: usize,
+    // the fewest COMMITs passed by all threads with which the record fits
+    pub need: usize,
 }
 
 // How many records have a FORK's child code as their own, and the set of the records that were asked for.
@@ -41,7 +39,7 @@ struct Asked {
 }
 
 // How far the walk along a thread's own code has come: what the instructions before a place leave there, and the records that the
-// FORKs passed ask for. A walk that is not `good` does not come to the thread's place, or a FORK passed has not exactly one thread.
+// FORKs passed ask for, each of which has exactly one thread.
 #[derive(Clone, Copy)]
 struct Walk {
     place: usize,
@@ -53,85 +51,27 @@ struct Walk {
     // COMMITs passed
     commits: usize,
     asked: u64,
-    good: bool,
 }
 
-// Whether the threads so far fit the code, the records that they ask for, and the COMMITs that they have passed.
+// What threads that fit the code come to: the records that they ask for, and the COMMITs that they have passed.
 #[derive(Drop)]
 struct Verdict {
     asked: u64,
     commits: usize,
-    good: bool,
 }
 
 // ---- one record
 
-// Whether a number is 0.
-fn is_zero(n: i32) -> bool
-    ensures { result ≡ is_zero n }
+// Whether a test holds at each of 64 places. All of them are looked at, so that several are tested at once.
+fn holds_everywhere<F: Fn(usize) -> bool>(test: F) -> bool
+    requires { (v : ℕ) → v < 64 → F.pre test v }
+    ensures { (good : ℕ → Bool) → ((v : ℕ) (b : Bool) → v < 64 → F.post test v b → b ≡ good v) → result ≡ every 64 0 good }
 {
-    if n < 0 {
-        return false;
+    let mut held = true;
+    for v in 0..64 {
+        held &= test(v);
     }
-    !(0 < n)
-}
-
-// Whether a number is in use or 0.
-fn is_kept(used: bool, n: i32) -> bool
-    ensures { result ≡ (used || is_zero n) }
-{
-    if used {
-        return true;
-    }
-    is_zero(n)
-}
-
-// Whether both hold.
-fn both(a: bool, b: bool) -> bool
-    ensures { result ≡ (a && b) }
-{
-    if a {
-        return b;
-    }
-    false
-}
-
-// Whether the log values that are not marked are 0. All of them are looked at, so that several are tested at once.
-fn is_log_free(set: u64, values: &[i32; 64]) -> bool
-    ensures { result ≡ free (member set) values.now }
-{
-    let mut kept = true;
-    let mut v: usize = 0;
-    while v < 64 {
-        let register = v as u8;
-        kept = both(kept, is_kept(word::has(set, register), values[v]));
-        v += 1;
-    }
-    kept
-}
-
-// Whether a count is in use or 0.
-fn is_counted(used: bool, n: u32) -> bool
-    ensures { result ≡ (used || eqb n 0) }
-{
-    if used {
-        return true;
-    }
-    n == 0
-}
-
-// Whether the counts of registers that are not marked are 0.
-fn is_uncounted(set: u64, counts: &[u32; 64]) -> bool
-    ensures { result ≡ uncounted (member set) counts.now }
-{
-    let mut kept = true;
-    let mut v: usize = 0;
-    while v < 64 {
-        let register = v as u8;
-        kept = both(kept, is_counted(word::has(set, register), counts[v]));
-        v += 1;
-    }
-    kept
+    held
 }
 
 // Whether no count of a read log is above the table's, which has 64.
@@ -139,178 +79,88 @@ fn is_within(logged: &[u32; 64], counts: &[u32]) -> bool
     requires { length counts.now ≡ 64 }
     ensures { result ≡ within_from 64 0 logged.now counts.now }
 {
-    let mut kept = true;
-    let mut v: usize = 0;
-    while v < 64 {
-        kept = both(kept, logged[v] <= counts[v]);
-        v += 1;
-    }
-    kept
+    holds_everywhere(|v| logged[v] <= counts[v])
 }
 
-// A number as a count, the greatest count for a greater number.
-fn capped(n: usize) -> u32
-    ensures { result ≡ capped_to n }
-{
-    if n < 4294967295 {
-        return n as u32;
-    }
-    4294967295
-}
-
-// Whether a count is at most so many: both are compared as counts, so that several are tested at once.
-fn is_few(n: u32, most: usize) -> bool
-    ensures { result ≡ leb n most }
-{
-    n <= capped(most)
-}
-
-// Whether no count of the table is above so many.
+// Whether no count of the table is above so many: they are compared as counts, so that several are tested at once.
 fn is_at_most(counts: &[u32], most: usize) -> bool
     requires { length counts.now ≡ 64 }
     ensures { result ≡ at_most_from 64 0 counts.now most }
 {
-    let mut kept = true;
-    let mut v: usize = 0;
-    while v < 64 {
-        kept = both(kept, is_few(counts[v], most));
-        v += 1;
-    }
-    kept
-}
-
-// Whether the numbers from a height on are 0. All of them are looked at, too.
-fn is_zero_from(height: usize, numbers: &[i32; 64]) -> bool
-    ensures { result ≡ zero_from height numbers.now }
-{
-    let mut kept = true;
-    let mut n: usize = 0;
-    while n < 64 {
-        kept = both(kept, is_kept(n < height, numbers[n]));
-        n += 1;
-    }
-    kept
+    let most = most.min(u32::MAX as usize) as u32;
+    holds_everywhere(|v| counts[v] <= most)
 }
 
 // Whether a record is of no thread: it holds 0 only.
 fn is_blank(t: thread::Thread) -> bool
     ensures { result ≡ all_zero t }
 {
-    if t.start != 0 {
-        return false;
-    }
-    if t.end != 0 {
-        return false;
-    }
-    if t.place != 0 {
-        return false;
-    }
-    if t.height != 0 {
-        return false;
-    }
-    if t.begin != 0 {
-        return false;
-    }
-    if t.base != 0 {
-        return false;
-    }
-    if t.over != 0 {
-        return false;
-    }
-    if t.reads != 0 {
-        return false;
-    }
-    if t.writes != 0 {
-        return false;
-    }
-    if t.rule != 0 {
-        return false;
-    }
-    if t.backs != 0 {
-        return false;
-    }
-    let cells = t.cells;
-    if !is_zero_from(0, &cells) {
-        return false;
-    }
-    let readlog = t.readlog;
-    if !is_zero_from(0, &readlog) {
-        return false;
-    }
-    let writelog = t.writelog;
-    if !is_zero_from(0, &writelog) {
-        return false;
-    }
-    let readcounts = t.readcounts;
-    is_uncounted(0, &readcounts)
-}
-
-// Whether a transaction is open or no register is marked.
-fn is_shut(begin: usize, reads: u64, writes: u64) -> bool
-    ensures { result ≡ (not (eqb begin 0) || (eqb reads 0 && eqb writes 0)) }
-{
-    if begin != 0 {
-        return true;
-    }
-    if reads != 0 {
-        return false;
-    }
-    writes == 0
+    let cells = holds_everywhere(|n| t.cells[n] == 0);
+    let readlog = holds_everywhere(|v| t.readlog[v] == 0);
+    let writelog = holds_everywhere(|v| t.writelog[v] == 0);
+    let readcounts = holds_everywhere(|v| t.readcounts[v] == 0);
+    (t.start == 0)
+        & (t.end == 0)
+        & (t.place == 0)
+        & (t.height == 0)
+        & (t.begin == 0)
+        & (t.base == 0)
+        & (t.over == 0)
+        & (t.reads == 0)
+        & (t.writes == 0)
+        & (t.rule == 0)
+        & (t.backs == 0)
+        & cells
+        & readlog
+        & writelog
+        & readcounts
 }
 
 // Whether what a thread's record does not use is 0, and its logs are empty outside a transaction.
 fn is_tidy(t: thread::Thread) -> bool
     ensures { result ≡ tidy t }
 {
-    if !is_shut(t.begin, t.reads, t.writes) {
-        return false;
-    }
-    let readlog = t.readlog;
-    if !is_log_free(t.reads, &readlog) {
-        return false;
-    }
-    let writelog = t.writelog;
-    if !is_log_free(t.writes, &writelog) {
-        return false;
-    }
-    let cells = t.cells;
-    if !is_zero_from(t.height, &cells) {
-        return false;
-    }
-    let readcounts = t.readcounts;
-    is_uncounted(t.reads, &readcounts)
+    let readlog = holds_everywhere(|v| word::has(t.reads, v as u8) | (t.readlog[v] == 0));
+    let writelog = holds_everywhere(|v| word::has(t.writes, v as u8) | (t.writelog[v] == 0));
+    let cells = holds_everywhere(|n| (n < t.height) | (t.cells[n] == 0));
+    let counts = holds_everywhere(|v| word::has(t.reads, v as u8) | (t.readcounts[v] == 0));
+    let shut = (t.begin != 0) | ((t.reads == 0) & (t.writes == 0));
+    shut & readlog & writelog & cells & counts
 }
 
 // The fewest COMMITs passed by all threads with which a record fits: its number of send-backs, and one more if it has a stale read. Where a count of
 // its read log is above the table's no number is enough: the greatest.
+#[tactic(auto, unfolding(crate::specs::InnerRecords::needed_in))]
 fn needed(low: bool, stale: bool, backs: usize) -> usize
     ensures { result ≡ needed_in low stale backs }
 {
     if !low {
-        return 18446744073709551615;
+        usize::MAX
+    } else if stale {
+        word::saturating_add(backs, 1)
+    } else {
+        backs
     }
-    if stale {
-        return word::saturating_add(backs, 1);
-    }
-    backs
 }
 
 // The same of a record.
+#[tactic(auto, unfolding(crate::specs::InnerRecords::need_in))]
 fn need(t: thread::Thread, counts: &[u32]) -> usize
     ensures { result ≡ need_in counts.now t }
 {
-    let backs = t.backs;
     if counts.len() != 64 {
-        return backs;
+        return t.backs;
     }
-    let readcounts = t.readcounts;
-    let low = is_within(&readcounts, counts);
-    let stale = t.has_stale(counts);
-    needed(low, stale, backs)
+    needed(
+        is_within(&t.readcounts, counts),
+        t.has_stale(counts),
+        t.backs,
+    )
 }
 
 impl Survey {
     // No record came yet.
+    #[tactic(auto, unfolding(crate::specs::InnerRecords::empty_survey))]
     pub fn start() -> Survey
         ensures { result ≡ empty_survey }
     {
@@ -322,12 +172,10 @@ impl Survey {
             begin: 0,
             base: 0,
             over: 0,
+            need: 0,
         };
         Survey {
-            starts: [0; 16],
-            ends: [0; 16],
             rows: [row; 16],
-            needs: [0; 16],
             count: 0,
             seen: 0,
             good: true,
@@ -335,31 +183,35 @@ impl Survey {
     }
 
     // No state with these records fits any code.
-    fn refuse(mut self) -> Survey
+    #[tactic(auto, unfolding(crate::specs::InnerRecords::unfit_to))]
+    fn refuse(self) -> Survey
         ensures { result ≡ unfit_to self }
     {
-        self.good = false;
-        self
+        Survey {
+            good: false,
+            ..self
+        }
     }
 
     // A record of no thread came.
-    fn pass(mut self) -> Survey
+    #[tactic(auto, unfolding(crate::specs::InnerRecords::pass_to))]
+    fn pass(self) -> Survey
         requires { self.seen < 16 }
         ensures { result ≡ pass_to self }
     {
-        let seen = self.seen;
-        self.seen = seen + 1;
-        self
+        Survey {
+            seen: self.seen + 1,
+            ..self
+        }
     }
 
     // A thread's record came, which needs so many COMMITs passed.
+    #[tactic(auto, unfolding(crate::specs::InnerRecords::put_to))]
     fn put(mut self, t: thread::Thread, need: usize) -> Survey
         requires { (self.seen < 16) × (self.count < 16) }
         ensures { result ≡ put_to self t need }
     {
-        let seen = self.seen;
-        let count = self.count;
-        let row = Row {
+        self.rows[self.seen] = Row {
             start: t.start,
             end: t.end,
             place: t.place,
@@ -367,17 +219,15 @@ impl Survey {
             begin: t.begin,
             base: t.base,
             over: t.over,
+            need,
         };
-        self.starts[seen] = t.start;
-        self.ends[seen] = t.end;
-        self.rows[seen] = row;
-        self.needs[seen] = need;
-        self.count = count + 1;
-        self.seen = seen + 1;
+        self.count += 1;
+        self.seen += 1;
         self
     }
 
-    // The next record, with every test that needs no code; the counts say whether it has a stale read.
+    // The next record, with every test that needs no code; the counts say whether it has a stale read. (Early returns: as one chain the survey is copied
+    // where the ways meet, and a step on one node takes 1,317 ns against 576.)
     pub fn with(self, t: thread::Thread, counts: &[u32]) -> Survey
         ensures { result ≡ with_to self counts.now t }
     {
@@ -399,8 +249,7 @@ impl Survey {
         if !is_tidy(t) {
             return self.refuse();
         }
-        let n = need(t, counts);
-        self.put(t, n)
+        self.put(t, need(t, counts))
     }
 }
 
@@ -410,14 +259,12 @@ impl Survey {
 fn is_same(start: usize, end: usize, other_start: usize, other_end: usize) -> bool
     ensures { result ≡ (eqb start other_start && eqb end other_end) }
 {
-    if start != other_start {
-        return false;
-    }
-    end == other_end
+    start == other_start && end == other_end
 }
 
 impl Asked {
     // Record i, if it is one that is asked for.
+    #[tactic(auto, unfolding(crate::specs::InnerWalk::noted))]
     fn note(self, i: usize, hit: bool) -> Asked
         requires { (i < 16) × (self.number ≤ i) }
         ensures { result ≡ noted self i hit }
@@ -435,343 +282,224 @@ impl Asked {
 }
 
 // The records whose own code is this one.
-fn ask(starts: &[usize; 16], ends: &[usize; 16], start: usize, end: usize, asked: u64) -> Asked
-    ensures { result ≡ asked_for starts.now ends.now (record { start = start; end = end }) asked }
+fn ask(rows: &[Row; 16], start: usize, end: usize, asked: u64) -> Asked
+    ensures { result ≡ asked_for (starts_of rows.now) (ends_of rows.now) (record { start = start; end = end }) asked }
 {
     let mut a = Asked { number: 0, asked };
-    let mut i: usize = 0;
-    while i < 16 {
-        a = a.note(i, is_same(starts[i], ends[i], start, end));
-        i += 1;
+    for (i, row) in rows.iter().enumerate() {
+        a = a.note(i, is_same(row.start, row.end, start, end));
     }
     a
 }
 
 // ---- the walk along a thread's own code
 
-// One less, and 0 of 0.
-fn less(n: usize) -> usize
-    ensures { result ≡ n - 1 }
-{
-    if n == 0 {
-        return 0;
-    }
-    n - 1
-}
-
 // The ADDs since the BEGIN of an open transaction, one more; 0 if none is open.
+#[tactic(auto, unfolding(crate::specs::InnerWalk::adds_after))]
 fn adds_after(begin: usize, adds: usize) -> usize
     requires { adds < 2 ^ 64 - 1 }
     ensures { result ≡ adds_after begin adds }
 {
-    if begin == 0 {
-        return 0;
-    }
-    adds + 1
-}
-
-// A walk that does not come to the thread's place.
-fn lost() -> Walk
-    ensures { result ≡ lost_walk }
-{
-    Walk {
-        place: 0,
-        height: 0,
-        begin: 0,
-        base: 0,
-        adds: 0,
-        commits: 0,
-        asked: 0,
-        good: false,
-    }
+    if begin == 0 { 0 } else { adds + 1 }
 }
 
 impl Walk {
-    // PUSH or READ: so many bytes further, and one number more on the stack.
-    fn rise(self, target: usize, size: usize) -> Walk
+    // PUSH or READ: so many bytes further, and one number more on the stack. None if that is behind the target.
+    #[tactic(auto, unfolding(crate::specs::InnerWalk::rise_to, crate::specs::InnerWalk::rose, crate::specs::InnerWalk::lost_walk))]
+    fn rise(self, target: usize, size: usize) -> Option<Walk>
         requires { (self.place < target) × (self.height ≤ self.place) }
-        ensures { result ≡ rise_to self target size }
+        ensures { result ≡ walk_in (rise_to (going self) target size) }
     {
         if target - self.place < size {
-            return lost();
+            return None;
         }
-        let place = self.place + size;
-        let height = self.height + 1;
-        Walk {
-            place,
-            height,
-            begin: self.begin,
-            base: self.base,
-            adds: self.adds,
-            commits: self.commits,
-            asked: self.asked,
-            good: true,
-        }
+        Some(Walk {
+            place: self.place + size,
+            height: self.height + 1,
+            ..self
+        })
     }
 
     // ADD.
+    #[tactic(auto, unfolding(crate::specs::InnerWalk::fall_to))]
     fn fall(self) -> Walk
         requires { (self.place < 2 ^ 64 - 1) × (self.adds ≤ self.place) }
-        ensures { result ≡ fall_to self }
+        ensures { going result ≡ fall_to (going self) }
     {
         Walk {
             place: self.place + 1,
-            height: less(self.height),
-            begin: self.begin,
-            base: self.base,
+            height: self.height.saturating_sub(1),
             adds: adds_after(self.begin, self.adds),
-            commits: self.commits,
-            asked: self.asked,
-            good: true,
+            ..self
         }
     }
 
     // WRITE.
-    fn stay(self, target: usize) -> Walk
+    #[tactic(auto, unfolding(crate::specs::InnerWalk::stay_to, crate::specs::InnerWalk::lost_walk))]
+    fn stay(self, target: usize) -> Option<Walk>
         requires { self.place < target }
-        ensures { result ≡ stay_to self target }
+        ensures { result ≡ walk_in (stay_to (going self) target) }
     {
         if target - self.place < 2 {
-            return lost();
+            return None;
         }
-        let place = self.place + 2;
-        Walk {
-            place,
-            height: self.height,
-            begin: self.begin,
-            base: self.base,
-            adds: self.adds,
-            commits: self.commits,
-            asked: self.asked,
-            good: true,
-        }
+        Some(Walk {
+            place: self.place + 2,
+            ..self
+        })
     }
 
     // BEGIN and COMMIT: other notes, and so many COMMITs passed.
+    #[tactic(auto, unfolding(crate::specs::InnerWalk::note_to))]
     fn note(self, begin: usize, base: usize, commits: usize) -> Walk
         requires { self.place < 2 ^ 64 - 1 }
-        ensures { result ≡ note_to self begin base commits }
+        ensures { going result ≡ note_to (going self) begin base commits }
     {
         Walk {
             place: self.place + 1,
-            height: self.height,
             begin,
             base,
             adds: 0,
             commits,
-            asked: self.asked,
-            good: true,
+            ..self
         }
     }
 
     // FORK: exactly one record has its child code as its own.
-    fn fork(self, starts: &[usize; 16], ends: &[usize; 16], target: usize, size: usize) -> Walk
+    fn fork(self, rows: &[Row; 16], target: usize, size: usize) -> Option<Walk>
         requires { (self.place < target) × (self.height ≤ self.place) }
-        ensures { result ≡ fork_to starts.now ends.now self target size }
+        ensures { result ≡ walk_in (fork_to (starts_of rows.now) (ends_of rows.now) (going self) target size) }
     {
         let left = target - self.place;
-        if left < 3 {
-            return lost();
-        }
-        if left - 3 < size {
-            return lost();
+        if left < 3 || left - 3 < size {
+            return None;
         }
         let start = self.place + 3;
         let end = start + size;
-        let a = ask(starts, ends, start, end, self.asked);
+        let a = ask(rows, start, end, self.asked);
         if a.number != 1 {
-            return lost();
+            return None;
         }
-        let height = self.height + 1;
-        Walk {
+        Some(Walk {
             place: end,
-            height,
-            begin: self.begin,
-            base: self.base,
-            adds: self.adds,
-            commits: self.commits,
+            height: self.height + 1,
             asked: a.asked,
-            good: true,
-        }
+            ..self
+        })
     }
 
-    // One instruction. The walk is lost if the next one is behind the target.
-    fn step(self, starts: &[usize; 16], ends: &[usize; 16], target: usize, op: ops::Op) -> Walk
+    // One instruction. None if the next one is behind the target, or a FORK has not exactly one thread.
+    #[tactic(auto, unfolding(crate::specs::InnerWalk::step_to, crate::specs::InnerWalk::lost_walk))]
+    fn step(self, rows: &[Row; 16], target: usize, op: ops::Op) -> Option<Walk>
         requires { (self.place < target) × (self.height ≤ self.place) × (self.adds ≤ self.place) × (self.commits ≤ self.place) }
-        ensures { result ≡ step_to starts.now ends.now target self op }
+        ensures { result ≡ walk_in (step_to (starts_of rows.now) (ends_of rows.now) target (going self) op) }
     {
         match op {
             ops::Op::Push(_) => self.rise(target, 5),
-            ops::Op::Add => self.fall(),
+            ops::Op::Add => Some(self.fall()),
             ops::Op::Read(_) => self.rise(target, 2),
             ops::Op::Write(_) => self.stay(target),
-            ops::Op::Begin => {
-                let place = self.place;
-                let height = self.height;
-                let commits = self.commits;
-                self.note(place, height, commits)
-            }
-            ops::Op::Commit => {
-                let commits = self.commits + 1;
-                self.note(0, 0, commits)
-            }
-            ops::Op::Fork(size) => self.fork(starts, ends, target, size),
-            ops::Op::Foreign => lost(),
+            ops::Op::Begin => Some(self.note(self.place, self.height, self.commits)),
+            ops::Op::Commit => Some(self.note(0, 0, self.commits + 1)),
+            ops::Op::Fork(size) => self.fork(rows, target, size),
+            ops::Op::Foreign => None,
         }
     }
 }
 
 // From a thread's start to its place.
-fn walk_to(
-    code: &[u8],
-    starts: &[usize; 16],
-    ends: &[usize; 16],
-    start: usize,
-    end: usize,
-    target: usize,
-    asked: u64,
-) -> Walk
-    ensures { result ≡ walk_from code.now starts.now ends.now start end target asked }
+fn walk_to(code: &[u8], rows: &[Row; 16], row: Row, asked: u64) -> Option<Walk>
+    ensures { result ≡ walk_in (walk_from code.now (starts_of rows.now) (ends_of rows.now) row.start row.end row.place asked) }
 {
-    let mut w = Walk {
-        place: start,
+    let mut walk = Walk {
+        place: row.start,
         height: 0,
         begin: 0,
         base: 0,
         adds: 0,
         commits: 0,
         asked,
-        good: true,
     };
-    loop {
-        let place = w.place;
-        if place == target {
-            return w;
+    while walk.place < row.place {
+        if walk.place >= row.end {
+            return None;
         }
-        if place > target {
-            return lost();
-        }
-        if place >= end {
-            return lost();
-        }
-        let op = ops::op_at(code, place);
-        w = w.step(starts, ends, target, op);
-        if !w.good {
-            return w;
-        }
+        let op = ops::op_at(code, walk.place);
+        walk = walk.step(rows, row.place, op)?;
     }
+    if walk.place > row.place {
+        return None;
+    }
+    Some(walk)
 }
 
 // ---- the threads
 
 // Whether the record has what the walk comes to.
+#[tactic(auto, unfolding(crate::specs::InnerWalk::agreeing))]
 fn is_agreeing(w: Walk, row: Row) -> bool
-    ensures { result ≡ agreeing w row }
+    ensures { result ≡ agreeing (going w) row }
 {
-    if !w.good {
-        return false;
-    }
-    if w.height != row.height {
-        return false;
-    }
-    if w.begin != row.begin {
-        return false;
-    }
-    if w.base != row.base {
-        return false;
-    }
-    row.over <= w.adds
+    w.height == row.height && w.begin == row.begin && w.base == row.base && row.over <= w.adds
 }
 
 impl Verdict {
     // One thread more; a record of no thread changes nothing.
-    fn judge(self, code: &[u8], starts: &[usize; 16], ends: &[usize; 16], row: Row) -> Verdict
-        ensures { result ≡ judge_to code.now starts.now ends.now row self }
+    fn judge(self, code: &[u8], rows: &[Row; 16], row: Row) -> Option<Verdict>
+        ensures { result ≡ verdict_in (judge_to code.now (starts_of rows.now) (ends_of rows.now) row (known self)) }
     {
-        if !self.good {
-            return self;
-        }
         if row.start == 0 {
-            return self;
+            return Some(self);
         }
-        let w = walk_to(
-            code, starts, ends, row.start, row.end, row.place, self.asked,
-        );
+        let w = walk_to(code, rows, row, self.asked)?;
         if !is_agreeing(w, row) {
-            return Verdict {
-                asked: 0,
-                commits: 0,
-                good: false,
-            };
+            return None;
         }
         let commits = word::saturating_add(self.commits, w.commits);
-        Verdict {
+        Some(Verdict {
             asked: w.asked,
             commits,
-            good: true,
-        }
+        })
     }
 }
 
 // Whether each thread but the first was asked for.
-fn is_all_asked(starts: &[usize; 16], asked: u64) -> bool
-    ensures { result ≡ all_asked 15 1 starts.now asked }
+fn is_all_asked(rows: &[Row; 16], asked: u64) -> bool
+    ensures { result ≡ all_asked 15 1 (starts_of rows.now) asked }
 {
-    let mut i: usize = 1;
-    while i < 16 {
-        let record = i as u8;
-        if !is_wanted(starts[i], word::has(asked, record)) {
+    for i in 1..16 {
+        if rows[i].start != 0 && !word::has(asked, i as u8) {
             return false;
         }
-        i += 1;
     }
     true
 }
 
-// Whether a record is of no thread or was asked for.
-fn is_wanted(start: usize, asked: bool) -> bool
-    ensures { result ≡ (eqb start 0 || asked) }
-{
-    if start == 0 {
-        return true;
-    }
-    asked
-}
-
 // Whether so many COMMITs passed are enough for each record.
-fn is_all_met(needs: &[usize; 16], commits: usize) -> bool
-    ensures { result ≡ all_met 16 0 needs.now commits }
+fn is_all_met(rows: &[Row; 16], commits: usize) -> bool
+    ensures { result ≡ all_met 16 0 (needs_of rows.now) commits }
 {
-    let mut i: usize = 0;
-    while i < 16 {
-        if needs[i] > commits {
+    for row in rows {
+        if row.need > commits {
             return false;
         }
-        i += 1;
     }
     true
 }
 
 impl Survey {
     // Every thread's walk.
-    fn judged(self, code: &[u8]) -> Verdict
-        ensures { result ≡ judge_all code.now self }
+    fn judged(&self, code: &[u8]) -> Option<Verdict>
+        ensures { result ≡ verdict_in (judge_all code.now self.now) }
     {
-        let starts = self.starts;
-        let ends = self.ends;
-        let rows = self.rows;
-        let mut v = Verdict {
+        let mut verdict = Verdict {
             asked: 0,
             commits: 0,
-            good: true,
         };
-        let mut i: usize = 0;
-        while i < 16 {
-            let row = rows[i];
-            v = v.judge(code, &starts, &ends, row);
-            i += 1;
+        for row in &self.rows {
+            verdict = verdict.judge(code, &self.rows, *row)?;
         }
-        v
+        Some(verdict)
     }
 
     // Whether the records that came, with so many registers and these counts, are a state that fits the code, beside so many COMMITs that another job's
@@ -779,35 +507,22 @@ impl Survey {
     pub fn fits(self, code: &[u8], registers: usize, counts: &[u32], others: usize) -> bool
         ensures { result ≡ survey_fits self code.now registers counts.now others }
     {
-        if !self.good {
+        let records = self.rows.len();
+        if !self.good
+            || self.seen != records
+            || registers != 64
+            || counts.len() != 64
+            || self.rows[0].start != 5
+            || self.rows[0].end != code.len()
+        {
             return false;
         }
-        if self.seen != 16 {
+        let Some(v) = self.judged(code) else {
             return false;
-        }
-        if registers != 64 {
-            return false;
-        }
-        if counts.len() != 64 {
-            return false;
-        }
-        let starts = self.starts;
-        let ends = self.ends;
-        if !is_same(starts[0], ends[0], 5, code.len()) {
-            return false;
-        }
-        let v = self.judged(code);
-        if !v.good {
-            return false;
-        }
-        if !is_all_asked(&starts, v.asked) {
-            return false;
-        }
-        let needs = self.needs;
+        };
         let commits = word::saturating_add(others, v.commits);
-        if !is_all_met(&needs, commits) {
-            return false;
-        }
-        is_at_most(counts, commits)
+        is_all_asked(&self.rows, v.asked)
+            && is_all_met(&self.rows, commits)
+            && is_at_most(counts, commits)
     }
 }

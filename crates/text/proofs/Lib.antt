@@ -1,3 +1,0 @@
-mod Rooms
-mod Places
-mod Numbers

@@ -1,7 +1,7 @@
 // Text for the test programs: lines, words, numbers and bytes in hex are taken apart, and what a case comes to is written.
 #![tactic(auto)]
 
-ghost use Rattle.std.specs.Prelude.{◌≡◌, ◌+◌, ◌-◌, ◌*◌, ◌%◌, ◌<◌, ◌≤◌, min, false, ◌&&◌, length, take, drop, nat_lt, slice_index};
+ghost use Rattle.std.specs.Prelude.{◌≡◌, ◌+◌, ◌-◌, ◌*◌, ◌<◌, ◌≤◌, min, IfSome, Some, None, cond, length, take, drop, nat_lt};
 ghost use Rattle.io.specs.Counts.{IsPrefixLen};
 ghost use Rattle.text.specs.Texts.{
   zeros,
@@ -10,81 +10,55 @@ ghost use Rattle.text.specs.Texts.{
   after,
   piece,
   said,
-  onward,
+  decimal,
+  digits_of,
   spelled,
   size_of,
   nearest,
   nearest_up,
-  from_zero,
-  is_letter,
-  lettered,
+  is_word,
 };
 
-// What a text in hex comes to: how many bytes were put, and whether they are all.
-#[derive(Clone, Copy)]
-pub struct Hex {
-    pub count: usize,
-    pub whole: bool,
-}
-
-// What a text in decimal comes to: whether a minus stands in front, and the digits' number; `good` if it is one, below 2^64.
-#[derive(Clone, Copy)]
+// A number with its sign.
+#[derive(Clone, Copy, Debug, PartialEq, Eq)]
 pub struct Number {
-    pub good: bool,
     pub minus: bool,
     pub value: u64,
 }
 
-// ---- room for bytes. The contracts have the length, so that no caller's proof computes it
-
-// Room for the bytes or picks of a line.
-pub fn buffer() -> [u8; 70000]
-    ensures { (result ≡ zeros 70000) × (70000 ≡ length result) }
+// Room for so many bytes. The contract has the length, so that no caller's proof computes it.
+pub fn room<const N: usize>() -> [u8; N]
+    ensures zero { result ≡ zeros N }
+    ensures len { N ≡ length result }
 {
-    [0; 70000]
-}
-
-// Room for a program's input.
-pub fn input() -> [u8; 1350001]
-    ensures { (result ≡ zeros 1350001) × (1350001 ≡ length result) }
-{
-    [0; 1350001]
+    [0; N]
 }
 
 // ---- parts of a text
 
 // The first place of the byte in the text, or the text's length.
 fn find(text: &[u8], byte: u8) -> usize
-    ensures { (result ≡ place byte text.now) × IsPrefixLen result text.now }
+    ensures place { result ≡ place byte text.now }
+    ensures within { IsPrefixLen result text.now }
 {
-    let mut at = 0;
-    while at < text.len() {
-        if text[at] == byte {
-            return at;
-        }
-        at += 1;
-    }
-    at
+    text.iter()
+        .position(|other| *other == byte)
+        .unwrap_or(text.len())
 }
 
 // What stands before the first such byte, or all of the text.
 pub fn before<'a>(text: &'a [u8], byte: u8) -> &'a [u8]
     ensures { result.now ≡ ahead byte text.now }
 {
-    let at = find(text, byte);
-    &text[..at]
+    &text[..find(text, byte)]
 }
 
 // What stands behind the first such byte, or nothing.
 pub fn behind<'a>(text: &'a [u8], byte: u8) -> &'a [u8]
-    ensures { (result.now ≡ after byte text.now) × (length result.now ≤ length text.now - 1) }
+    ensures after { result.now ≡ after byte text.now }
+    ensures shorter { length result.now ≤ length text.now - 1 }
 {
-    let at = find(text, byte);
-    if at == text.len() {
-        return &text[at..];
-    }
-    let next = at + 1;
-    &text[next..]
+    rest(text, find(text, byte).saturating_add(1))
 }
 
 // Part k, counted from 0, of a text whose parts stand between such bytes; nothing where there are fewer.
@@ -92,11 +66,8 @@ pub fn part<'a>(text: &'a [u8], byte: u8, k: u8) -> &'a [u8]
     ensures { result.now ≡ piece byte k text.now }
 {
     let mut left = text;
-    let mut n = k;
-    while n > 0 {
-        let next = behind(left, byte);
-        left = next;
-        n -= 1;
+    for _step in 0..k {
+        left = behind(left, byte);
     }
     before(left, byte)
 }
@@ -112,245 +83,137 @@ pub fn holds(text: &[u8], byte: u8) -> bool
 pub fn front<'a>(bytes: &'a [u8], n: usize) -> &'a [u8]
     ensures { result.now ≡ take n bytes.now }
 {
-    let n = within(n, bytes);
-    &bytes[..n]
+    &bytes[..within(n, bytes)]
 }
 
 // What stands behind the first n bytes.
 pub fn rest<'a>(bytes: &'a [u8], n: usize) -> &'a [u8]
     ensures { result.now ≡ drop n bytes.now }
 {
-    let n = within(n, bytes);
-    &bytes[n..]
+    &bytes[within(n, bytes)..]
 }
 
 // The number n, but at most how many bytes there are. With its contract `&mut bytes[..n]` needs no proof file.
 pub fn within(n: usize, bytes: &[u8]) -> usize
-    ensures { (result ≡ min n (length bytes.now)) × IsPrefixLen result bytes.now }
+    ensures least { result ≡ min n (length bytes.now) }
+    ensures within { IsPrefixLen result bytes.now }
 {
-    if n > bytes.len() {
-        return bytes.len();
-    }
-    n
-}
-
-// The first byte of the text, or 0.
-pub fn first(text: &[u8]) -> u8
-    ensures { result ≡ slice_index text.now 0 }
-{
-    if text.len() == 0 {
-        return 0;
-    }
-    text[0]
+    n.min(bytes.len())
 }
 
 // Whether a line is to be run: not an empty one, and not one that starts with '#'.
 pub fn says(line: &[u8]) -> bool
     ensures { result ≡ said line.now }
 {
-    if line.len() == 0 {
+    !matches!(line, [] | [b'#', ..])
+}
+
+// Whether the text is a word: 1 to 12 small letters.
+pub fn is_word(text: &[u8]) -> bool
+    ensures { result ≡ is_word text.now }
+{
+    if text.is_empty() || text.len() > 12 {
         return false;
     }
-    line[0] != b'#'
+    text.iter().all(|byte| byte.is_ascii_lowercase())
 }
 
 // ---- numbers and bytes
 
-// A digit's value, or 16 where the byte is no hex digit.
-fn digit(byte: u8) -> u8
-    ensures { (48 ≤ byte → byte < 58 → result ≡ byte - 48) × (result < 10 → (48 ≤ byte) × (byte < 58)) }
+// The number with a digit behind it, if the byte is a decimal digit and there is room for it in 64 bits.
+fn longer(value: u64, byte: u8) -> Option<u64>
+    ensures { result ≡ cond (decimal value byte) (Some (value * 10 + (byte - 48))) None }
 {
-    match byte {
-        b'0'..=b'9' => byte - b'0',
-        b'a'..=b'f' => byte - b'a' + 10,
-        b'A'..=b'F' => byte - b'A' + 10,
-        _ => 16,
-    }
+    let digit = char::from(byte).to_digit(10)?;
+    value.checked_mul(10)?.checked_add(u64::from(digit))
 }
 
-fn wide(byte: u8) -> u64
-    ensures { result ≡ byte }
+// The number that the text spells in digits, one at least.
+fn digits(text: &[u8]) -> Option<u64>
+    ensures { result ≡ digits_of text.now }
 {
-    byte as u64
-}
-
-// Whether the number of 64 bits has room for a digit behind it.
-fn room(value: u64, n: u64) -> bool
-    ensures { result ≡ (nat_lt n 10 && nat_lt (value * 10 + n) 18446744073709551616) }
-{
-    if n > 9 {
-        return false;
+    if text.is_empty() {
+        return None;
     }
-    if value > 1844674407370955161 {
-        return false;
-    }
-    n <= 18446744073709551615 - value * 10
-}
-
-// The number with a digit behind it, where there is room.
-fn longer(value: u64, n: u64) -> u64
-    ensures { value * 10 + n < 18446744073709551616 → result ≡ value * 10 + n }
-{
-    if value > 1844674407370955161 {
-        return value;
-    }
-    std::num::wrapping_add_u64(value * 10, n)
-}
-
-// The number that the text spells in digits.
-fn digits(text: &[u8], minus: bool) -> Number
-    ensures { result ≡ onward minus false 0 text.now }
-{
     let mut value: u64 = 0;
-    let mut at = 0;
-    while at < text.len() {
-        let n = wide(digit(text[at]));
-        if !room(value, n) {
-            return Number {
-                good: false,
-                minus,
-                value,
-            };
-        }
-        value = longer(value, n);
-        at += 1;
+    for byte in text {
+        value = longer(value, *byte)?;
     }
-    Number {
-        good: at > 0,
-        minus,
-        value,
-    }
+    Some(value)
 }
 
 // The number that the text spells in decimal digits, maybe with a minus in front.
-pub fn parse_number(text: &[u8]) -> Number
+pub fn parse_number(text: &[u8]) -> Option<Number>
     ensures { result ≡ spelled text.now }
 {
-    if first(text) == b'-' {
-        return digits(behind(text, b'-'), true);
-    }
-    digits(text, false)
+    let (minus, magnitude) = match text {
+        [b'-', magnitude @ ..] => (true, magnitude),
+        _ => (false, text),
+    };
+    digits(magnitude).map(|value| Number { minus, value })
 }
 
-// The number as a size, or `most` + 1 where it is none up to `most`.
-pub fn size(text: &[u8], most: u32) -> usize
-    ensures { result ≡ size_of (spelled text.now) most }
+// The number that the text spells, if it is one from 0 up to `most`.
+pub fn size(text: &[u8], most: u32) -> Option<usize>
+    ensures value { result ≡ size_of (spelled text.now) most }
+    ensures bound { IfSome result (λ n. n ≤ most) }
 {
-    let n = parse_number(text);
-    if !n.good || n.minus || n.value > most as u64 {
-        return most as usize + 1;
+    let number = parse_number(text)?;
+    if number.minus || number.value > u64::from(most) {
+        return None;
     }
-    n.value as usize
+    Some(number.value as usize)
 }
 
-// The number of 32 bits that a number with its sign is, the nearest one if it is outside.
-pub fn signed(n: Number) -> i32
-    ensures { result ≡ nearest n }
-{
-    if n.value > 2147483647 {
-        if n.minus {
-            return -2147483648;
+impl Number {
+    // The nearest number of 32 bits.
+    pub fn signed(self) -> i32
+        ensures { result ≡ nearest self }
+    {
+        match (i32::try_from(self.value), self.minus) {
+            (Ok(value), false) => value,
+            (Ok(value), true) => -value,
+            (Err(_), false) => i32::MAX,
+            (Err(_), true) => i32::MIN,
         }
-        return 2147483647;
     }
-    let value = n.value as i32;
-    if n.minus {
-        let less = word::add(!value, 1);
-        return less.value;
-    }
-    value
-}
 
-// The number of 32 bits from 0 up that a number with its sign is, the nearest one if it is outside.
-pub fn unsigned(n: Number) -> u32
-    ensures { result ≡ nearest_up n }
-{
-    if n.minus {
-        return 0;
-    }
-    if n.value > 4294967295 {
-        return 4294967295;
-    }
-    n.value as u32
-}
-
-// A word of at most 12 small letters as a number to the base of 32, a being 1; 0 for any other text.
-pub fn word_number(text: &[u8]) -> u64
-    ensures { result ≡ lettered 0 text.now }
-{
-    let mut n: u64 = 0;
-    let mut at = 0;
-    while at < text.len() {
-        let byte = text[at];
-        if !is_letter(byte, n) {
+    // The nearest number of 32 bits from 0 up.
+    pub fn unsigned(self) -> u32
+        ensures { result ≡ nearest_up self }
+    {
+        if self.minus {
             return 0;
         }
-        n = std::num::wrapping_add_u64((n % 36028797018963968) * 32, letter_number(byte));
-        at += 1;
+        u32::try_from(self.value).unwrap_or(u32::MAX)
     }
-    n
 }
 
-// Whether the byte is a small letter, and a word's number has room for it.
-fn is_letter(byte: u8, n: u64) -> bool
-    ensures { result ≡ is_letter byte n }
+// The byte that two hex digits spell.
+fn pair(high: u8, low: u8) -> Option<u8> {
+    let high = char::from(high).to_digit(16)?;
+    let low = char::from(low).to_digit(16)?;
+    Some((high * 16 + low) as u8)
+}
+
+// Puts the bytes that the text spells in hex at the start of out, and answers how many they are; none where the text is not well formed or they have no room.
+pub fn parse_hex(text: &[u8], out: &mut [u8]) -> Option<usize>
+    ensures { IfSome result (λ count. IsPrefixLen count out.new) }
 {
-    if n >= 36028797018963968 {
-        return false;
-    }
-    if byte < b'a' {
-        return false;
-    }
-    byte <= b'z'
-}
-
-fn letter_number(byte: u8) -> u64
-    ensures { result ≡ byte % 32 }
-{
-    wide(byte % 32)
-}
-
-// The byte that two hex digits spell, or 256 where one of them is none.
-fn pair(high: u8, low: u8) -> u16 {
-    let h = digit(high);
-    let l = digit(low);
-    if h > 15 {
-        return 256;
-    }
-    if l > 15 {
-        return 256;
-    }
-    (h * 16 + l) as u16
-}
-
-// Puts the bytes that the text spells at the start of out, up to the first that is not well formed or has no room.
-pub fn parse_hex(text: &[u8], out: &mut [u8]) -> Hex
-    ensures { IsPrefixLen result.count out.new }
-{
-    let mut at = 0;
-    let mut count = 0;
-    while at < text.len() {
-        if text[at] == b' ' {
-            at += 1;
-        } else {
-            if text.len() - at < 2 {
-                break;
+    let mut left = text;
+    let mut count: usize = 0;
+    loop {
+        match left {
+            [] => return Some(count),
+            [b' ', others @ ..] => left = others,
+            [high, low, others @ ..] => {
+                let byte = pair(*high, *low)?;
+                *out.get_mut(count)? = byte;
+                count += 1;
+                left = others;
             }
-            if count == out.len() {
-                break;
-            }
-            let byte = pair(text[at], text[at + 1]);
-            if byte > 255 {
-                break;
-            }
-            out[count] = byte as u8;
-            count += 1;
-            at += 2;
+            [_] => return None,
         }
-    }
-    Hex {
-        count: count,
-        whole: at == text.len(),
     }
 }
 
@@ -358,109 +221,55 @@ pub fn parse_hex(text: &[u8], out: &mut [u8]) -> Hex
 fn checksum(bytes: &[u8]) -> u16 {
     let mut tail: u16 = 0;
     let mut sum: u16 = 0;
-    let mut at = bytes.len();
-    while at > 0 {
-        at -= 1;
-        tail = std::num::wrapping_add_u16(tail, to_u16(bytes[at]));
-        sum = std::num::wrapping_add_u16(sum, tail);
+    for byte in bytes.iter().rev() {
+        tail = tail.wrapping_add(u16::from(*byte));
+        sum = sum.wrapping_add(tail);
     }
     sum
 }
 
-fn to_u16(byte: u8) -> u16 {
-    byte as u16
-}
-
 // ---- the picks
 
-// Puts so many picks behind the first `from`, as far as there is room, and answers how many there are then.
-fn put_times(picks: &mut [u8], from: usize, pick: u8, times: usize) -> usize {
-    let mut at = within(from, picks);
-    let mut n = times;
-    while n > 0 {
-        if at == picks.len() {
-            return at;
-        }
-        picks[at] = pick;
-        at += 1;
-        n -= 1;
+// How often a word says its pick: `3*N` says it N times, `3` once.
+fn times(word: &[u8]) -> Option<usize> {
+    if !holds(word, b'*') {
+        return Some(1);
     }
-    at
+    size(behind(word, b'*'), 40000)
 }
 
-// How often a word says: `3*N` says N, `3` once.
-fn times(word: &[u8]) -> usize {
-    if holds(word, b'*') {
-        return size(behind(word, b'*'), 40000);
-    }
-    1
-}
-
-// Puts the picks of a word behind those that are there.
-fn put_word(list: Hex, word: &[u8], picks: &mut [u8]) -> Hex {
-    if word.len() == 0 {
-        return list;
-    }
-    let pick = size(before(word, b'*'), 255);
-    let n = times(word);
-    if pick > 255 || n > 40000 {
-        return Hex {
-            count: list.count,
-            whole: false,
-        };
-    }
-    Hex {
-        count: put_times(picks, list.count, pick as u8, n),
-        whole: list.whole,
-    }
-}
-
-// Puts the picks that the list spells at the start of `picks`, words such as `3` or `3*N` with spaces between.
-pub fn parse_picks(list: &[u8], picks: &mut [u8]) -> Hex
-    ensures { IsPrefixLen result.count picks.new }
+// Puts the picks that the list spells at the start of `picks`, words such as `3` or `3*N` with spaces between, as far as there is room, and answers how
+// many they are; none where a word is not well formed.
+pub fn parse_picks(list: &[u8], picks: &mut [u8]) -> Option<usize>
+    ensures { IfSome result (λ count. IsPrefixLen count picks.new) }
 {
-    let mut put = Hex {
-        count: 0,
-        whole: true,
-    };
-    let mut left = list;
-    while left.len() > 0 {
-        put = put_word(put, before(left, b' '), picks);
-        let next = behind(left, b' ');
-        left = next;
+    let mut count: usize = 0;
+    for word in list.split(|byte| *byte == b' ') {
+        if !word.is_empty() {
+            let pick = u8::try_from(size(before(word, b'*'), 255)?).ok()?;
+            let end = count.saturating_add(times(word)?).min(picks.len());
+            picks[count..end].fill(pick);
+            count = end;
+        }
     }
-    let n = within(put.count, picks);
-    Hex {
-        count: n,
-        whole: put.whole,
-    }
+    Some(count)
 }
 
 // ---- what is written
 
-// The digit of a number below 16.
-fn letter(n: u8) -> u8 {
-    match n {
-        0..=9 => b'0' + n,
-        10..=15 => b'A' + (n - 10),
-        _ => b'?',
-    }
-}
-
-fn write_byte(byte: u8) {
-    let text = [letter(byte / 16), letter(byte % 16)];
-    io::write_all(1, &text);
-}
+// The digits of hex.
+const DIGITS: &[u8; 16] = b"0123456789ABCDEF";
 
 // Writes bytes as pairs of digits, with a space between.
 fn write_pairs(bytes: &[u8]) {
-    let mut at = 0;
-    while at < bytes.len() {
+    for (at, byte) in bytes.iter().enumerate() {
         if at > 0 {
-            io::write_all(1, b" ");
+            write(b" ");
         }
-        write_byte(bytes[at]);
-        at += 1;
+        write(&[
+            DIGITS[usize::from(*byte / 16)],
+            DIGITS[usize::from(*byte % 16)],
+        ]);
     }
 }
 
@@ -471,7 +280,7 @@ pub fn write_bytes(bytes: &[u8]) {
         return;
     }
     write_number(b"", bytes.len());
-    write_number(b" bytes sum ", checksum(bytes) as usize);
+    write_number(b" bytes sum ", usize::from(checksum(bytes)));
 }
 
 pub fn write(text: &[u8]) {
@@ -480,29 +289,17 @@ pub fn write(text: &[u8]) {
 
 // Writes a word and a number.
 pub fn write_number(word: &[u8], n: usize) {
-    io::write_all(1, word);
+    write(word);
     io::print_decimal(1, n as u64);
-}
-
-// A number from 0 up, or 0 for one below.
-pub fn natural(n: i32) -> u64
-    ensures { result ≡ from_zero n }
-{
-    if n < 0 {
-        return 0;
-    }
-    n as u64
 }
 
 // Writes a word and a number with its sign.
 pub fn write_signed(word: &[u8], n: i32) {
-    io::write_all(1, word);
+    write(word);
     if n < 0 {
-        io::write_all(1, b"-");
-        io::print_decimal(1, std::num::wrapping_add_u64(natural(!n), 1));
-        return;
+        write(b"-");
     }
-    io::print_decimal(1, natural(n));
+    io::print_decimal(1, u64::from(n.unsigned_abs()));
 }
 
 pub fn write_refusal(number: usize, place: usize) {
@@ -512,25 +309,26 @@ pub fn write_refusal(number: usize, place: usize) {
 
 // Writes what a line comes to that is no case.
 pub fn write_malformed() {
-    io::write_all(1, b"malformed");
+    write(b"malformed");
 }
 
-pub fn write_kept() {
-    io::write_all(1, b" kept");
-}
-
-pub fn write_altered() {
-    io::write_all(1, b" altered");
+// Writes whether what was lent is as it was.
+pub fn write_kept(kept: bool) {
+    if kept {
+        write(b" kept");
+    } else {
+        write(b" altered");
+    }
 }
 
 // Writes a line's label.
 pub fn write_label(line: &[u8]) {
-    io::write_all(1, before(line, b':'));
-    io::write_all(1, b": ");
+    write(before(line, b':'));
+    write(b": ");
 }
 
 pub fn write_end() {
-    io::write_all(1, b"\n");
+    write(b"\n");
 }
 
 // Writes the numbers of a step's answer.

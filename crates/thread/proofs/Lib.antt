@@ -1,5 +1,4 @@
 -- Why the methods do what their definitions say.
-pub mod Marks
 pub mod Loops
 pub mod Commits
 pub mod Attempts

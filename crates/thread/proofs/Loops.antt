@@ -1,62 +1,51 @@
--- The loops over the registers and the cells, by one number; and that they are those of the definitions. Assumes nothing.
-use Prim.Native.Nat.{ℕ, zero, suc, ◌+◌, ◌-◌, ◌≤◌, ◌<◌}
-use mathlib.Core.Bool.{Bool, true, false, cond, not}
-use mathlib.Core.Path.{◌≡◌, refl, sym, ap, ◌∙◌}
-use mathlib.Core.List.{List, [], ◌∷◌, ◌++◌, append-nil}
-use native.Mathlib.Omega.{arith}
-use lib.Dec.{eqb}
+-- The loops over the registers that a set marks, by the list of them; and that they are those of the definitions. Assumes nothing.
+use Rattle.std.proofs.Common.{◌≡◌, ℕ, zero, suc, ◌+◌, ◌^◌, ◌≤◌, ◌<◌, Bool, true, false, cond, not, List, Option, Some, None, get_or, set, eqb, ltb, min, find, refl, sym, ap, ◌∙◌, add-one, arith}
+use Rattle.std.specs.List.{filter, fold, range_with_len}
+use Rattle.std.proofs.lemmas.Bool.Decides.{nat_tests}
+use borrow.Author.Tests.{lt-ltb, le-ltb, ltb-true, ltb-false}
 use lib.IntN.{ℤ, pos}
-use lib.ListN.{length, drop, get_or, set, take, replicate, length-append, length-replicate}
-use lib.Seq.{length-take-le}
 use Rattle.stm.specs.Counted.{Table}
 use Rattle.thread.specs.declared.Thread.{Thread}
 use Rattle.thread.specs.Threads.{stale, first_stale, overlaid}
-use Rattle.thread.specs.InnerStep.{stale_in, first_stale_in, stored_in, cleared, recounted_in, risen_by}
-use Rattle.word.specs.Registers.{member}
-
--- ---- one register
-module _ (reads : ℕ) (readcounts counts : List ℕ) (v : ℕ) where
-  pub stale_marked : member reads v ≡ true → not (eqb (get_or readcounts v 0) (get_or counts v 0)) ≡ stale_in reads readcounts counts v
-  unfolding stale_in
-  stale_marked m = rw m
-
-  pub stale_none : member reads v ≡ false → false ≡ stale_in reads readcounts counts v
-  unfolding stale_in
-  stale_none m = rw m
+use Rattle.thread.specs.InnerStep.{stale_in, first_stale_in, found_at, stored_in, recounted_in, risen_by}
+use Rattle.word.specs.Registers.{member, members}
 
 -- ---- the first stale register
+-- whether commits have written a register since it was logged
+abbrev pub differs : (readcounts counts : List ℕ) → ℕ → Bool
+differs readcounts counts v = not (eqb (get_or readcounts v 0) (get_or counts v 0))
+
+-- it is the first of the read log's that differs
 module _ (reads : ℕ) (readcounts counts : List ℕ) where
-  pub found_here : (v : ℕ) → v < 64 → stale_in reads readcounts counts v ≡ true → first_stale_in (64 - v) v reads readcounts counts ≡ v
-  unfolding first_stale_in
-  found_here v l e =
-      let s : 64 - v ≡ suc (64 - (v + 1)) = omega arith in
-      rw (s, first_stale_in, e)
-
-  pub found_later : (v : ℕ) → v < 64 → stale_in reads readcounts counts v ≡ false → first_stale_in (64 - v) v reads readcounts counts ≡ first_stale_in (64 - (v + 1)) (v + 1) reads readcounts counts
-  unfolding first_stale_in
-  found_later v l e =
-      let s : 64 - v ≡ suc (64 - (v + 1)) = omega arith in
-      ap (λ (k : ℕ). first_stale_in k v reads readcounts counts) s ∙ (step (64 - (v + 1)) ∙ ap (λ (w : ℕ). first_stale_in (64 - (v + 1)) w reads readcounts counts) (let z : suc v ≡ v + 1 = omega arith in z))
+  found_from : (n a : ℕ) → a + n ≡ 64 → find (differs readcounts counts) (filter (member reads) (range_with_len a n)) ≡ found_at (first_stale_in n a reads readcounts counts)
+  unfolding first_stale_in stale_in
+  found_from zero a e = rw (le-ltb a 64 (omega arith))
+  found_from (suc n) a e = go (member reads a) refl (eqb (get_or readcounts a 0) (get_or counts a 0)) refl (rw (sym (add-one a)) (found_from n (a + 1) (omega arith)))
     where
-      step : (k : ℕ) → first_stale_in (suc k) v reads readcounts counts ≡ first_stale_in k (suc v) reads readcounts counts
-      step k = rw (first_stale_in, e)
+      go : (m : Bool) → member reads a ≡ m → (d : Bool) → eqb (get_or readcounts a 0) (get_or counts a 0) ≡ d
+          → find (differs readcounts counts) (filter (member reads) (range_with_len (a + 1) n)) ≡ found_at (first_stale_in n (suc a) reads readcounts counts)
+          → find (differs readcounts counts) (filter (member reads) (range_with_len a (suc n))) ≡ found_at (first_stale_in (suc n) a reads readcounts counts)
+      go false f d g later = rw (f, first_stale_in) later
+      go true f true g later = rw (f, g, first_stale_in) later
+      go true f false g later = rw (f, g, first_stale_in, lt-ltb a 64 (omega arith))
 
-  pub found_end : (v : ℕ) → first_stale_in 0 v reads readcounts counts ≡ v
-  unfolding first_stale_in
-  found_end v = refl
+  pub found_first : find (differs readcounts counts) (members reads) ≡ found_at (first_stale_in 64 0 reads readcounts counts)
+  unfolding members
+  found_first = found_from 64 0 refl
 
--- registers that are not marked are passed over
-pub found_past : (reads : ℕ) (readcounts counts : List ℕ) (v w : ℕ) → v ≤ w → w ≤ 64 → ((u : ℕ) → v ≤ u → u < w → member reads u ≡ false) → first_stale_in (64 - v) v reads readcounts counts ≡ first_stale_in (64 - w) w reads readcounts counts
-found_past reads readcounts counts v w a b f =
-    let e : v + (w - v) ≡ w = omega arith in
-    go (w - v) v (omega arith) (λ u c d. f u c (omega arith)) ∙ ap (λ (i : ℕ). first_stale_in (64 - i) i reads readcounts counts) e
+pub found_is : (v w : ℕ) → ◌≡◌ {A = Option ℕ} (Some v) (found_at w) → (w ≡ v) × (w < 64)
+found_is v w e = go (ltb w 64) refl e
   where
-    go : (k v : ℕ) → v + k ≤ 64 → ((u : ℕ) → v ≤ u → u < v + k → member reads u ≡ false) → first_stale_in (64 - v) v reads readcounts counts ≡ first_stale_in (64 - (v + k)) (v + k) reads readcounts counts
-    go zero v l g = ap (λ (i : ℕ). first_stale_in (64 - i) i reads readcounts counts) (let e : v ≡ v + 0 = omega arith in e)
-    go (suc k) v l g =
-        let e : v + 1 + k ≡ v + suc k = omega arith in
-        found_later reads readcounts counts v (omega arith) (sym (stale_none reads readcounts counts v (g v (omega arith) (omega arith))))
-        ∙ (go k (v + 1) (omega arith) (λ u c d. g u (omega arith) (omega arith)) ∙ ap (λ (i : ℕ). first_stale_in (64 - i) i reads readcounts counts) e)
+    go : (b : Bool) → ltb w 64 ≡ b → ◌≡◌ {A = Option ℕ} (Some v) (cond b (Some w) None) → (w ≡ v) × (w < 64)
+    go true q e = (cc, ltb-true w 64 q)
+    go false q e = absurd (cc)
+
+pub none_is : (w : ℕ) → ◌≡◌ {A = Option ℕ} None (found_at w) → 64 ≤ w
+none_is w e = go (ltb w 64) refl e
+  where
+    go : (b : Bool) → ltb w 64 ≡ b → ◌≡◌ {A = Option ℕ} None (cond b (Some w) None) → 64 ≤ w
+    go true q e = absurd (cc)
+    go false q e = ltb-false w 64 q
 
 pub first_in : (left v : ℕ) (t : Thread) (table : Table) → first_stale_in left v t.reads t.readcounts table.counts ≡ first_stale left v t table
 unfolding first_stale first_stale_in stale stale_in
@@ -69,33 +58,23 @@ first_in (suc left) v t table = go (stale t table v) (first_in left (suc v) t ta
 
 -- ---- the write log into the table
 module _ (writes : ℕ) (writelog : List ℤ) where
-  stored_next : (v : ℕ) (table : List ℤ) → v < 64 → stored_in (64 - v) v writes writelog table ≡ stored_in (64 - (v + 1)) (v + 1) writes writelog (cond (member writes v) (set table v (get_or writelog v (pos 0))) table)
+  -- the table with the registers of a list stored
+  abbrev pub storing : List ℤ → ℕ → List ℤ
+  storing table v = set table v (get_or writelog v (pos 0))
+
+  stored_from : (n a : ℕ) (table : List ℤ) → fold storing table (filter (member writes) (range_with_len a n)) ≡ stored_in n a writes writelog table
   unfolding stored_in
-  stored_next v table l =
-      let s : 64 - v ≡ suc (64 - (v + 1)) = omega arith in
-      ap (λ (k : ℕ). stored_in k v writes writelog table) s ∙ ap (λ (w : ℕ). stored_in (64 - (v + 1)) w writes writelog (cond (member writes v) (set table v (get_or writelog v (pos 0))) table)) (let z : suc v ≡ v + 1 = omega arith in z)
+  stored_from zero a table = refl
+  stored_from (suc n) a table = go (member writes a) refl (λ t. stored_from n (a + 1) t ∙ ap (λ (b : ℕ). stored_in n b writes writelog t) (add-one a))
+    where
+      go : (m : Bool) → member writes a ≡ m → ((t : List ℤ) → fold storing t (filter (member writes) (range_with_len (a + 1) n)) ≡ stored_in n (suc a) writes writelog t)
+          → fold storing table (filter (member writes) (range_with_len a (suc n))) ≡ stored_in (suc n) a writes writelog table
+      go true f later = rw f (later _)
+      go false f later = rw f (later _)
 
-  pub stored_marked : (v : ℕ) (table : List ℤ) → v < 64 → member writes v ≡ true → stored_in (64 - v) v writes writelog table ≡ stored_in (64 - (v + 1)) (v + 1) writes writelog (set table v (get_or writelog v (pos 0)))
-  stored_marked v table l m = stored_next v table l ∙ ap (λ (b : Bool). stored_in (64 - (v + 1)) (v + 1) writes writelog (cond b (set table v (get_or writelog v (pos 0))) table)) m
-
-  pub stored_unmarked : (v : ℕ) (table : List ℤ) → v < 64 → member writes v ≡ false → stored_in (64 - v) v writes writelog table ≡ stored_in (64 - (v + 1)) (v + 1) writes writelog table
-  stored_unmarked v table l m = stored_next v table l ∙ ap (λ (b : Bool). stored_in (64 - (v + 1)) (v + 1) writes writelog (cond b (set table v (get_or writelog v (pos 0))) table)) m
-
-  pub stored_end : (v : ℕ) (table : List ℤ) → stored_in 0 v writes writelog table ≡ table
-  unfolding stored_in
-  stored_end v table = refl
-
-pub stored_past : (writes : ℕ) (writelog table : List ℤ) (v w : ℕ) → v ≤ w → w ≤ 64 → ((u : ℕ) → v ≤ u → u < w → member writes u ≡ false) → stored_in (64 - v) v writes writelog table ≡ stored_in (64 - w) w writes writelog table
-stored_past writes writelog table v w a b f =
-    let e : v + (w - v) ≡ w = omega arith in
-    go (w - v) v (omega arith) (λ u c d. f u c (omega arith)) ∙ ap (λ (i : ℕ). stored_in (64 - i) i writes writelog table) e
-  where
-    go : (k v : ℕ) → v + k ≤ 64 → ((u : ℕ) → v ≤ u → u < v + k → member writes u ≡ false) → stored_in (64 - v) v writes writelog table ≡ stored_in (64 - (v + k)) (v + k) writes writelog table
-    go zero v l g = ap (λ (i : ℕ). stored_in (64 - i) i writes writelog table) (let e : v ≡ v + 0 = omega arith in e)
-    go (suc k) v l g =
-        let e : v + 1 + k ≡ v + suc k = omega arith in
-        stored_unmarked writes writelog v table (omega arith) (g v (omega arith) (omega arith))
-        ∙ (go k (v + 1) (omega arith) (λ u c d. g u (omega arith) (omega arith)) ∙ ap (λ (i : ℕ). stored_in (64 - i) i writes writelog table) e)
+  pub stored_all : (table : List ℤ) → fold storing table (members writes) ≡ stored_in 64 0 writes writelog table
+  unfolding members
+  stored_all = stored_from 64 0
 
 pub stored-in : (left v : ℕ) (t : Thread) (table : List ℤ) → stored_in left v t.writes t.writelog table ≡ overlaid left v t table
 unfolding stored_in overlaid
@@ -103,104 +82,26 @@ stored-in zero v t table = refl
 stored-in (suc left) v t table = stored-in left (suc v) t _
 
 -- ---- the counts of the write log's registers
+-- the counts with one more for a register
+abbrev pub recounting : List ℕ → ℕ → List ℕ
+recounting counts v = set counts v (risen_by (get_or counts v 0))
+
 module _ (writes : ℕ) where
-  recounted_next : (v : ℕ) (counts : List ℕ) → v < 64 → recounted_in (64 - v) v writes counts ≡ recounted_in (64 - (v + 1)) (v + 1) writes (cond (member writes v) (set counts v (risen_by (get_or counts v 0))) counts)
+  recounted_from : (n a : ℕ) (counts : List ℕ) → fold recounting counts (filter (member writes) (range_with_len a n)) ≡ recounted_in n a writes counts
   unfolding recounted_in
-  recounted_next v counts l =
-      let s : 64 - v ≡ suc (64 - (v + 1)) = omega arith in
-      ap (λ (k : ℕ). recounted_in k v writes counts) s ∙ ap (λ (w : ℕ). recounted_in (64 - (v + 1)) w writes (cond (member writes v) (set counts v (risen_by (get_or counts v 0))) counts)) (let z : suc v ≡ v + 1 = omega arith in z)
-
-  pub recounted_marked : (v : ℕ) (counts : List ℕ) → v < 64 → member writes v ≡ true → recounted_in (64 - v) v writes counts ≡ recounted_in (64 - (v + 1)) (v + 1) writes (set counts v (risen_by (get_or counts v 0)))
-  recounted_marked v counts l m = recounted_next v counts l ∙ ap (λ (b : Bool). recounted_in (64 - (v + 1)) (v + 1) writes (cond b (set counts v (risen_by (get_or counts v 0))) counts)) m
-
-  recounted_unmarked : (v : ℕ) (counts : List ℕ) → v < 64 → member writes v ≡ false → recounted_in (64 - v) v writes counts ≡ recounted_in (64 - (v + 1)) (v + 1) writes counts
-  recounted_unmarked v counts l m = recounted_next v counts l ∙ ap (λ (b : Bool). recounted_in (64 - (v + 1)) (v + 1) writes (cond b (set counts v (risen_by (get_or counts v 0))) counts)) m
-
-  pub recounted_end : (v : ℕ) (counts : List ℕ) → recounted_in 0 v writes counts ≡ counts
-  unfolding recounted_in
-  recounted_end v counts = refl
-
-  pub recounted_past : (counts : List ℕ) (v w : ℕ) → v ≤ w → w ≤ 64 → ((u : ℕ) → v ≤ u → u < w → member writes u ≡ false) → recounted_in (64 - v) v writes counts ≡ recounted_in (64 - w) w writes counts
-  recounted_past counts v w a b f =
-      let e : v + (w - v) ≡ w = omega arith in
-      go (w - v) v (omega arith) (λ u c d. f u c (omega arith)) ∙ ap (λ (i : ℕ). recounted_in (64 - i) i writes counts) e
+  recounted_from zero a counts = refl
+  recounted_from (suc n) a counts = go (member writes a) refl (λ t. recounted_from n (a + 1) t ∙ ap (λ (b : ℕ). recounted_in n b writes t) (add-one a))
     where
-      go : (k v : ℕ) → v + k ≤ 64 → ((u : ℕ) → v ≤ u → u < v + k → member writes u ≡ false) → recounted_in (64 - v) v writes counts ≡ recounted_in (64 - (v + k)) (v + k) writes counts
-      go zero v l g = ap (λ (i : ℕ). recounted_in (64 - i) i writes counts) (let e : v ≡ v + 0 = omega arith in e)
-      go (suc k) v l g =
-          let e : v + 1 + k ≡ v + suc k = omega arith in
-          recounted_unmarked v counts (omega arith) (g v (omega arith) (omega arith))
-          ∙ (go k (v + 1) (omega arith) (λ u c d. g u (omega arith) (omega arith)) ∙ ap (λ (i : ℕ). recounted_in (64 - i) i writes counts) e)
+      go : (m : Bool) → member writes a ≡ m → ((t : List ℕ) → fold recounting t (filter (member writes) (range_with_len (a + 1) n)) ≡ recounted_in n (suc a) writes t)
+          → fold recounting counts (filter (member writes) (range_with_len a (suc n))) ≡ recounted_in (suc n) a writes counts
+      go true f later = rw f (later _)
+      go false f later = rw f (later _)
 
--- ---- the cells from a height on
--- those from the height up to v are 0
-abbrev pub cleared_to : (height v : ℕ) → List ℤ → List ℤ
-cleared_to height v cells = take height cells ++ (replicate (v - height) (pos 0) ++ drop v cells)
+  pub recounted_all : (counts : List ℕ) → fold recounting counts (members writes) ≡ recounted_in 64 0 writes counts
+  unfolding members
+  recounted_all = recounted_from 64 0
 
-pub cleared_start : (height : ℕ) (cells : List ℤ) → cleared_to height height cells ≡ cells
-cleared_start height cells =
-    let s : height - height ≡ 0 = omega arith in
-    rw s (whole height cells)
-  where
-    whole : (h : ℕ) (l : List ℤ) → take h l ++ drop h l ≡ l
-    whole zero l = refl
-    whole (suc h) [] = refl
-    whole (suc h) (x ∷ l) = ap (λ (m : List ℤ). x ∷ m) (whole h l)
-
--- one cell more
-set_behind : (front : List ℤ) (behind : List ℤ) (k : ℕ) (n : ℤ) → set (front ++ behind) (length front + k) n ≡ front ++ set behind k n
-set_behind [] behind k n = ap (λ (i : ℕ). set behind i n) (let z : 0 + k ≡ k = omega arith in z)
-set_behind (x ∷ front) behind k n = ap (λ (i : ℕ). set (x ∷ (front ++ behind)) i n) (let z : suc (length front) + k ≡ suc (length front + k) = omega arith in z) ∙ ap (λ (l : List ℤ). x ∷ l) (set_behind front behind k n)
-
-zeros_behind : (k : ℕ) (l : List ℤ) → replicate k (pos 0) ++ (pos 0 ∷ l) ≡ replicate (suc k) (pos 0) ++ l
-zeros_behind zero l = refl
-zeros_behind (suc k) l = ap (λ (m : List ℤ). pos 0 ∷ m) (zeros_behind k l)
-
-drop_one : (v : ℕ) (l : List ℤ) → v < length l → set (drop v l) 0 (pos 0) ≡ pos 0 ∷ drop (suc v) l
-drop_one zero [] h = absurd (omega arith)
-drop_one zero (x ∷ l) h = refl
-drop_one (suc v) [] h = absurd (omega arith)
-drop_one (suc v) (x ∷ l) h = drop_one v l (omega arith)
-
-pub cleared_next : (height v : ℕ) (cells : List ℤ) → length cells ≡ 64 → height ≤ v → v < 64 → set (cleared_to height v cells) v (pos 0) ≡ cleared_to height (v + 1) cells
-cleared_next height v cells l a b =
-    let t : length (take height cells) ≡ height = length-take-le height cells (omega arith) in
-    let z : length (replicate (v - height) (pos 0)) ≡ v - height = length-replicate (v - height) (pos 0) in
-    let p : v ≡ length (take height cells) + (v - height) = omega arith in
-    let q : v - height ≡ length (replicate (v - height) (pos 0)) + 0 = omega arith in
-    let s : suc (v - height) ≡ v + 1 - height = omega arith in
-    let u : suc v ≡ v + 1 = omega arith in
-    ap (λ (i : ℕ). set (cleared_to height v cells) i (pos 0)) p
-    ∙ (set_behind (take height cells) (replicate (v - height) (pos 0) ++ drop v cells) (v - height) (pos 0)
-    ∙ ap (λ (m : List ℤ). take height cells ++ m)
-    (ap (λ (i : ℕ). set (replicate (v - height) (pos 0) ++ drop v cells) i (pos 0)) q
-    ∙ (set_behind (replicate (v - height) (pos 0)) (drop v cells) 0 (pos 0)
-    ∙ (ap (λ (m : List ℤ). replicate (v - height) (pos 0) ++ m) (drop_one v cells (omega arith))
-    ∙ (zeros_behind (v - height) (drop (suc v) cells)
-    ∙ (ap (λ (i : ℕ). replicate i (pos 0) ++ drop (suc v) cells) s ∙ ap (λ (i : ℕ). replicate (v + 1 - height) (pos 0) ++ drop i cells) u))))))
-
-pub cleared_end : (height v : ℕ) (cells : List ℤ) → length cells ≡ 64 → 64 ≤ v → v ≤ 64 → cleared_to height v cells ≡ cleared height cells
-cleared_end height v cells l a b =
-    let e : v ≡ 64 = omega arith in
-    ap (λ (i : ℕ). cleared_to height i cells) e ∙ ap (λ (m : List ℤ). take height cells ++ m) (ap (λ (m : List ℤ). replicate (64 - height) (pos 0) ++ m) (none 64 cells (omega arith)) ∙ append-nil (replicate (64 - height) (pos 0)))
-  where
-    none : (k : ℕ) (l : List ℤ) → length l ≤ k → drop k l ≡ []
-    none zero [] h = refl
-    none zero (x ∷ l) h = absurd (omega arith)
-    none (suc k) [] h = refl
-    none (suc k) (x ∷ l) h = none k l (omega arith)
-
-pub cleared_length : (height v : ℕ) (cells : List ℤ) → length cells ≡ 64 → height ≤ v → v ≤ 64 → length (cleared_to height v cells) ≡ 64
-cleared_length height v cells l a b =
-    let t : length (take height cells) ≡ height = length-take-le height cells (omega arith) in
-    let z : length (replicate (v - height) (pos 0)) ≡ v - height = length-replicate (v - height) (pos 0) in
-    let d : length (drop v cells) ≡ 64 - v = dropped v cells 64 l in
-    let x = length-append (take height cells) (replicate (v - height) (pos 0) ++ drop v cells) in
-    let y = length-append (replicate (v - height) (pos 0)) (drop v cells) in
-    omega arith
-  where
-    dropped : (k : ℕ) (l : List ℤ) (n : ℕ) → length l ≡ n → length (drop k l) ≡ n - k
-    dropped zero l n e = omega arith
-    dropped (suc k) [] n e = omega arith
-    dropped (suc k) (x ∷ l) zero e = omega arith
-    dropped (suc k) (x ∷ l) (suc n) e = let r = dropped k l n (omega arith) in omega arith
+-- one more by the greatest count
+pub risen_min : (n : ℕ) → n < 2 ^ 32 → min (n + 1) 4294967295 ≡ risen_by n
+unfolding risen_by
+risen_min n l = grind (arith, nat_tests)

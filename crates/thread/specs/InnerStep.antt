@@ -1,29 +1,21 @@
 -- Mirrors the methods of `Thread` for their proofs. Nobody has to believe it: in a state that fits, a step is `act` with every number that it
 -- hands back (`step_acts` and `idle_step`, machine/proofs/Actings). What it does of a record that no such state has is left free by the papers.
-use Rattle.std.specs.Prelude.{ℕ, zero, suc, ◌+◌, ◌-◌, ◌^◌, ◌≤◌, ◌<◌, Bool, true, false, cond, not, ◌&&◌, ◌||◌, List, ◌++◌, ◌≡◌, eqb, leb, ltb, ℤ, pos, length, drop, get_or, set, take, replicate}
+use Rattle.std.specs.Prelude.{ℕ, zero, suc, ◌+◌, ◌-◌, ◌^◌, ◌≤◌, ◌<◌, Bool, true, false, Option, Some, None, cond, not, ◌&&◌, ◌||◌, List, ◌≡◌, eqb, leb, ltb, ℤ, pos, length, drop, get_or, set}
 use Rattle.thread.specs.declared.Action.{Action}
-use Rattle.thread.specs.declared.Plan.{Plan}
 use Rattle.thread.specs.declared.Thread.{Thread}
-use Rattle.thread.specs.Threads.{with_rule, below, adding, push, begin, noted, read, write, closed, first_stale, overlaid}
+use Rattle.thread.specs.Shown.{shown_event, child_of}
+use Rattle.thread.specs.Threads.{with_rule, below, adding, push, begin, read, write, closed, first_stale, overlaid}
 use Rattle.code.specs.Ops.{op_at}
 use Rattle.ops.specs.Shown.{shown_op}
 use Rattle.ops.specs.declared.Op.{Op}
 use Rattle.ops.specs.declared.Op.TheVariants as op
 use Rattle.stm.specs.Counted.{Table}
-use Rattle.stm.specs.Events.{from_table}
+use Rattle.stm.specs.Events.{event_number, event_register, turn_number}
 use Rattle.word.specs.Registers.{member}
 use Rattle.word.specs.InnerCount.{saturated}
-use Rattle.word.specs.Sum.{Rule, wrapping, added}
-use Rattle.word.specs.declared.Added.{Added}
+use Rattle.word.specs.Sum.{Rule, added}
 
 -- ---- by the sets and values of a record
--- the first register that a set marks, from this one on; 64 if there is none
-pub record Marked (set from r : ℕ) : Type 0 where
-  pub low : r ≤ 64
-  pub far : from ≤ 64 → from ≤ r
-  pub past : (v : ℕ) → from ≤ v → v < r → member set v ≡ false
-  pub here : r < 64 → member set r ≡ true
-
 -- whether register v is stale
 unfoldable pub stale_in : (reads : ℕ) (readcounts counts : List ℕ) → ℕ → Bool
 stale_in reads readcounts counts v = member reads v && not (eqb (get_or readcounts v 0) (get_or counts v 0))
@@ -33,6 +25,10 @@ unfoldable pub first_stale_in : (left v : ℕ) (reads : ℕ) (readcounts counts 
 first_stale_in zero v reads readcounts counts = v
 first_stale_in (suc left) v reads readcounts counts =
     elim (stale_in reads readcounts counts v) [ true ↦ v | false ↦ first_stale_in left (suc v) reads readcounts counts ]
+
+-- a register, or none where there is none below 64
+abbrev pub found_at : ℕ → Option ℕ
+found_at v = cond (ltb v 64) (Some v) None
 
 -- whether a register of a record's read log is stale, in a table of 64 counts
 unfoldable pub stale_read : (counts : List ℕ) → Thread → Bool
@@ -62,10 +58,6 @@ sized_by registers counts = cond (eqb counts 64) registers 0
 abbrev pub table_from : List ℤ → List ℕ → Table
 table_from rs ns = record { registers = rs; counts = ns }
 
--- the cells above a height are 0
-abbrev pub cleared : (height : ℕ) → List ℤ → List ℤ
-cleared height cells = take height cells ++ replicate (64 - height) (pos 0)
-
 -- the event's number of a READ of v, by the sets of both logs
 unfoldable pub source_number : (writes reads v : ℕ) → ℕ
 source_number writes reads v = cond (member writes v) 5 (cond (member reads v) 6 7)
@@ -74,21 +66,42 @@ source_number writes reads v = cond (member writes v) 5 (cond (member reads v) 6
 unfoldable pub outside_turn : (begin : ℕ) → ℕ
 outside_turn begin = cond (eqb begin 0) 1 0
 
--- READ of a register that neither log marks
-abbrev pub logged : ℕ → ℤ → (count : ℕ) → Thread → Thread
-logged v n k t = push n (t.place + 2) (noted from_table v n k t)
+-- ---- what a step hands back in the papers' numbers, with the table
+-- the record; the event; the first stale register of a send-back, else 0; 1 if it took a turn, else 0; the sums that left the range and took
+-- effect; a forked child's code, else 0 and 0
+pub record Numbered : Type 0 where
+  pub thread : Thread
+  pub event : ℕ
+  pub register : ℕ
+  pub turn : ℕ
+  pub over : ℕ
+  pub start : ℕ
+  pub end : ℕ
 
--- ---- what a step hands back, with the table
+-- an action in numbers: two that differ have other numbers
+abbrev pub numbered : Action → Numbered
+numbered a =
+    record {
+      thread = a.thread;
+      event = event_number (shown_event a.event);
+      register = event_register (shown_event a.event);
+      turn = turn_number (shown_event a.event);
+      over = a.over;
+      start = (child_of a.event).start;
+      end = (child_of a.event).end;
+    }
+
+-- both
 pub record Handed : Type 0 where
-  pub acted : Action
+  pub acted : Numbered
   pub table : Table
 
--- an action and the table
-abbrev pub handed : Action → Table → Handed
+-- an action in numbers and the table
+abbrev pub handed : Numbered → Table → Handed
 handed a table = record { acted = a; table = table }
 
 -- an idle step
-abbrev pub unacted : Thread → Action
+abbrev pub unacted : Thread → Numbered
 unacted t = record { thread = t; event = 0; register = 0; turn = 0; over = 0; start = 0; end = 0 }
 
 -- the last rule after an event of this number
@@ -96,7 +109,7 @@ unfoldable pub rule_at : (event rule : ℕ) → ℕ
 rule_at event rule = cond (eqb event 0) rule event
 
 -- a step that forks nothing and is no send-back
-abbrev pub acting : (event turn over : ℕ) → Thread → Action
+abbrev pub acting : (event turn over : ℕ) → Thread → Numbered
 acting event turn over t =
     record {
       thread = with_rule (rule_at event t.rule) t.backs t;
@@ -117,7 +130,7 @@ unfoldable pub over_at_once : (begin : ℕ) → Bool → ℕ
 over_at_once begin overflowed = cond (eqb begin 0) (cond overflowed 1 0) 0
 
 -- ADD
-unfoldable pub summing : Rule → Thread → Action
+unfoldable pub summing : Rule → Thread → Numbered
 summing sum t =
     let s = added sum (below t 2) (below t 1) in
     acting 2 (outside_turn t.begin) (over_at_once t.begin s.overflowed) (adding (note_after t.begin t.over s.overflowed) s.value t)
@@ -185,6 +198,11 @@ performed sum table t (op.Fork size) =
     table
 performed sum table t op.Foreign = handed (unacted t) table
 
+-- the instruction at a record's place: Foreign if there is no such thread, it has ended, or there is none
+unfoldable pub here_op : (code : List ℕ) → Thread → Op
+here_op bytes t =
+    elim (eqb t.start 0 || eqb t.place t.end) [ true ↦ op.Foreign | false ↦ shown_op (op_at (drop t.place bytes)) ]
+
 -- the instruction if the record has what it takes, else Foreign
 unfoldable pub able_op : (code : List ℕ) (registers : ℕ) → Thread → Op → Op
 able_op bytes registers t o =
@@ -198,11 +216,16 @@ due_op bytes registers t =
       | false ↦ able_op bytes registers t (shown_op (op_at (drop t.place bytes)))
     ]
 
--- an instruction that is due in some code
-pub record Due (o : Op) (registers : ℕ) (t : Thread) : Type 0 where
-  pub code : List ℕ
-  pub short : length code < 2 ^ 64
-  pub is : o ≡ due_op code registers t
+-- what a record must have: numbers or room on its stack, a register and a table of 64, and a number for the place behind the instruction
+abbrev pub Able : Op → (registers : ℕ) → Thread → Type 0
+Able (op.Push n) registers t = (t.height < 64) × (t.place + 5 < 2 ^ 64)
+Able op.Add registers t = (2 ≤ t.height) × (t.height ≤ 64) × (t.place + 1 < 2 ^ 64)
+Able (op.Read v) registers t = (v < 64) × (t.height < 64) × (t.place + 2 < 2 ^ 64) × (registers ≡ 64)
+Able (op.Write v) registers t = (v < 64) × (1 ≤ t.height) × (t.height ≤ 64) × (t.place + 2 < 2 ^ 64)
+Able op.Begin registers t = t.place + 1 < 2 ^ 64
+Able op.Commit registers t = (t.height ≤ 64) × (t.base ≤ 64) × (t.place + 1 < 2 ^ 64) × (registers ≡ 64)
+Able (op.Fork size) registers t = (t.height < 64) × (t.place + 3 + size < 2 ^ 64)
+Able op.Foreign registers t = Unit {0}
 
 -- the same of any record: idle if it has not what the instruction takes
 unfoldable pub attempted : Rule → (code : List ℕ) (table : Table) → Thread → Op → Handed
@@ -236,16 +259,16 @@ stack_event op.Foreign = 0
 unfoldable pub stacked_op : Op → (height left : ℕ) → Bool
 stacked_op o h left = cond (eqb (stack_event o) 0) false (takes_op o h 0 0 left)
 
--- the number of a PUSH, else 0
-unfoldable pub number_op : Op → ℤ
-number_op (op.Push n) = n
-number_op op.Add = pos 0
-number_op (op.Read v) = pos 0
-number_op (op.Write v) = pos 0
-number_op op.Begin = pos 0
-number_op op.Commit = pos 0
-number_op (op.Fork size) = pos 0
-number_op op.Foreign = pos 0
+-- an instruction that is one of them, or Foreign
+abbrev pub Plain : Op → Type 0
+Plain (op.Push n) = Unit {0}
+Plain op.Add = Unit {0}
+Plain (op.Read v) = ⊥
+Plain (op.Write v) = ⊥
+Plain op.Begin = ⊥
+Plain op.Commit = ⊥
+Plain (op.Fork size) = ⊥
+Plain op.Foreign = Unit {0}
 
 -- the instruction of a step if it is one of them, else Foreign
 unfoldable pub stack_only : (code : List ℕ) → Thread → Op → Op
@@ -262,39 +285,3 @@ plain_op bytes t =
 -- whether a step is one of them, or idle because there is no such thread or it has ended
 unfoldable pub plain_in : (code : List ℕ) → Thread → Bool
 plain_in bytes t = eqb t.start 0 || (eqb t.place t.end || not (eqb (stack_event (plain_op bytes t)) 0))
-
--- by the event: what a record must have; which cells change, the height and the place after it; the low cell's value; the record; the turn
-pub record Stackable (event height place : ℕ) : Type 0 where
-  pub push : event ≡ 1 → (height < 64) × (place + 5 < 2 ^ 64)
-  pub add : event ≡ 2 → (2 ≤ height) × (height ≤ 64) × (place + 1 < 2 ^ 64)
-
--- which cells change, the height and the place after it
-unfoldable pub plan_of : (event height place : ℕ) → Plan
-plan_of event height place =
-    elim (eqb event 1) [
-      | true ↦ record { low = height; high = height; height = height + 1; place = place + 5 }
-      | false ↦ elim (eqb event 2) [
-        | true ↦ record { low = height - 2; high = height - 1; height = height - 1; place = place + 1 }
-        | false ↦ record { low = 0; high = 0; height = height; place = place }
-      ]
-    ]
-
--- the low cell's value, and whether the sum left the range
-unfoldable pub value_of : (event : ℕ) (n a b : ℤ) → Added
-value_of event n a b =
-    elim (eqb event 1) [
-      | true ↦ record { value = n; overflowed = false }
-      | false ↦ elim (eqb event 2) [ true ↦ added wrapping a b | false ↦ record { value = a; overflowed = false } ]
-    ]
-
--- the record after it
-unfoldable pub stacked_by : (event : ℕ) (n : ℤ) → Thread → Action
-stacked_by event n t =
-    elim (eqb event 1) [
-      | true ↦ acting 1 0 0 (push n (t.place + 5) t)
-      | false ↦ elim (eqb event 2) [ true ↦ summing wrapping t | false ↦ acting event 0 0 t ]
-    ]
-
--- whether it takes a turn
-unfoldable pub stack_turn : (event begin : ℕ) → ℕ
-stack_turn event begin = cond (eqb event 2) (outside_turn begin) 0

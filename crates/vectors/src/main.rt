@@ -34,58 +34,61 @@
 mod outputs;
 mod states;
 
-// The command of a line, as a number by `text::word_number`; 0 where a space and a colon do not follow it.
-fn command(line: &[u8]) -> u64 {
-    if !text::holds(line, b':') {
-        return 0;
+// Room for the bytes or picks of a line.
+const ROOM: usize = 70000;
+
+// The longest input that is run.
+const LONGEST: usize = 1350000;
+
+// Room for the input, and one byte more.
+const INPUT: usize = LONGEST + 1;
+
+// The command of a line, or nothing where a space and a colon do not follow it.
+fn command(line: &[u8]) -> &[u8] {
+    let label = text::before(line, b':');
+    if label.len() == line.len() || !text::holds(label, b' ') {
+        return b"";
     }
-    if !text::holds(text::before(line, b':'), b' ') {
-        return 0;
-    }
-    text::word_number(text::before(line, b' '))
+    text::before(label, b' ')
 }
 
-// Runs a case. What is run is chosen here.
-fn run_case(what: u64, label: &[u8], body: &[u8]) {
-    match what {
-        10722 | 3738707333 | 66667 | 6965089665 | 609762900 | 222873880180 => outputs::run_case(
-            what, label, body,
-        ), // job, compile, back, formula, report, forecast
-        6887016 | 643248 | 19118 | 3764 | 3191187 => states::run_case(what, body), // fresh, step, run, cut, calls
+// Runs the case of a line. What is run is chosen here.
+fn run_case(line: &[u8]) {
+    let label = text::before(line, b':');
+    let body = text::behind(line, b':');
+    match command(line) {
+        b"job" => outputs::run_case(outputs::Command::Job, label, body),
+        b"forecast" => outputs::run_case(outputs::Command::Forecast, label, body),
+        b"compile" => outputs::run_case(outputs::Command::Compile, label, body),
+        b"back" => outputs::run_case(outputs::Command::Back, label, body),
+        b"formula" => outputs::run_case(outputs::Command::Formula, label, body),
+        b"report" => outputs::run_case(outputs::Command::Report, label, body),
+        b"fresh" => states::run_case(states::Command::Fresh, body),
+        b"step" => states::run_case(states::Command::Step, body),
+        b"run" => states::run_case(states::Command::Run, body),
+        b"cut" => states::run_case(states::Command::Cut, body),
+        b"calls" => states::run_case(states::Command::Calls, body),
         _ => text::write_malformed(),
     }
 }
 
 // Runs one line, and writes its label and what the case comes to.
 fn run_line(line: &[u8]) {
-    if !text::says(line) {
-        return;
-    }
-    text::write_label(line);
-    run_case(
-        command(line),
-        text::before(line, b':'),
-        text::behind(line, b':'),
-    );
-    text::write_end();
-}
-
-// Runs each line of the text.
-fn run_lines(lines: &[u8]) {
-    let mut left = lines;
-    while left.len() > 0 {
-        run_line(text::before(left, b'\n'));
-        let next = text::behind(left, b'\n');
-        left = next;
+    if text::says(line) {
+        text::write_label(line);
+        run_case(line);
+        text::write_end();
     }
 }
 
 fn main() {
-    let mut space = text::input();
+    let mut space = text::room::<INPUT>();
     let length = io::read_full(0, &mut space);
-    if length > 1350000 {
+    if length > LONGEST {
         text::write(b"input longer than 1350000 bytes\n");
         return;
     }
-    run_lines(&space[..length]);
+    for line in space[..length].split(|byte| *byte == b'\n') {
+        run_line(line);
+    }
 }

@@ -1,174 +1,115 @@
 // The commands that run calls on a state.
-use delivery::Answer;
 use memory::Memory;
-use text::Hex;
+
+#[derive(Clone, Copy, Debug, PartialEq, Eq)]
+pub enum Command {
+    Fresh,
+    Step,
+    Run,
+    Cut,
+    Calls,
+}
 
 // ---- the code
 
-// How many bytes of code there are; `whole` if the job was spelled well and is taken.
-fn done(answer: Answer, whole: bool) -> Hex {
-    match answer {
-        Answer::Done(length) => Hex {
-            count: length,
-            whole,
-        },
-        Answer::Refused(_number, _place) => Hex {
-            count: 0,
-            whole: false,
-        },
-    }
+// Compiles the job that the text spells into `code`, and answers how long the code is.
+fn load_job(text: &[u8], code: &mut [u8]) -> Option<usize> {
+    let mut space = text::room::<{ super::ROOM }>();
+    let count = text::parse_hex(text, &mut space)?;
+    compiler::compile(&space[..count], code).ok()
 }
 
-// Compiles the job that the text spells into `code`.
-fn load_job(text: &[u8], code: &mut [u8]) -> Hex {
-    let mut space = text::buffer();
-    let hex = text::parse_hex(text, &mut space);
-    let count = hex.count;
-    done(compiler::compile(&space[..count], code), hex.whole)
-}
-
-// Puts the code at the start of `code`.
-fn load(text: &[u8], code: &mut [u8]) -> Hex {
-    // the word `code`
-    if text::word_number(text::part(text, b' ', 1)) == 113797 {
+// Puts the code at the start of `code`, and answers how long it is.
+fn load(text: &[u8], code: &mut [u8]) -> Option<usize> {
+    if matches!(text::part(text, b' ', 1), b"code") {
         return text::parse_hex(text::rest(text, 5), code);
     }
     load_job(text, code)
 }
 
-// Puts a byte into the code where the change asks for it.
-fn put_byte(code: &mut [u8], words: &[u8]) -> bool {
-    if text::word_number(text::part(words, b' ', 1)) != 113797 {
-        return true;
-    }
-    let place = text::size(text::part(words, b' ', 2), 6000);
-    let byte = text::size(text::part(words, b' ', 3), 255);
-    if place >= code.len() {
-        return false;
-    }
-    if byte > 255 {
-        return false;
-    }
-    code[place] = byte as u8;
-    true
-}
-
-fn change_code(code: &mut [u8], changes: &[u8]) -> bool {
-    let mut left = changes;
-    while left.len() > 0 {
-        if !put_byte(code, text::before(left, b',')) {
-            return false;
+// Puts a byte into the code for each change that asks for it; none where one is malformed.
+fn change_code(code: &mut [u8], changes: &[u8]) -> Option<()> {
+    for words in changes.split(|byte| *byte == b',') {
+        if matches!(text::part(words, b' ', 1), b"code") {
+            // a place that is no number up to 6,000 is the one behind them
+            let place = text::size(text::part(words, b' ', 2), 6000).unwrap_or(6001);
+            let byte = text::size(text::part(words, b' ', 3), 255)?;
+            *code.get_mut(place)? = u8::try_from(byte).ok()?;
         }
-        let next = text::behind(left, b',');
-        left = next;
     }
-    true
+    Some(())
 }
 
 // ---- the calls
 
 // One of the calls of `calls`, and what is written of it. Answers what it leaves.
 fn run_next(code: &[u8], m: Memory, list: &[u8]) -> Memory {
-    let mut picks = text::buffer();
-    let parsed = text::parse_picks(list, &mut picks);
-    if !parsed.whole {
-        text::write_malformed();
-        return m;
+    let mut picks = text::room::<{ super::ROOM }>();
+    match text::parse_picks(list, &mut picks) {
+        Some(count) => calls::run_next(code, m, &picks[..count]),
+        None => {
+            text::write_malformed();
+            m
+        }
     }
-    let n = parsed.count;
-    calls::run_next(code, m, &picks[..n])
 }
 
-fn run_another(code: &[u8], m: Memory, list: &[u8]) -> Memory {
-    text::write(b" | ");
-    run_next(code, m, list)
-}
-
-// The calls behind the first.
-fn run_further(code: &[u8], m: Memory, lists: &[u8]) -> Memory {
-    let mut after = m;
-    let mut left = lists;
-    while left.len() > 0 {
-        after = run_another(code, after, text::before(left, b'|'));
-        let next = text::behind(left, b'|');
-        left = next;
-    }
-    after
-}
-
+// The calls of `calls`, one for each list, and what the last leaves.
 fn run_calls(code: &[u8], m: Memory, lists: &[u8]) {
-    let after = run_next(code, m, text::before(lists, b'|'));
-    memory::write_state(run_further(code, after, text::behind(lists, b'|')));
+    let mut after = run_next(code, m, text::before(lists, b'|'));
+    for list in text::behind(lists, b'|').split_inclusive(|byte| *byte == b'|') {
+        text::write(b" | ");
+        after = run_next(code, after, text::before(list, b'|'));
+    }
+    memory::write_state(&after.state);
 }
 
-// Runs a call. What is run is chosen here.
-fn run_call(what: u64, code: &[u8], m: Memory, picks: &[u8]) {
-    match what {
-        6887016 => calls::run_fresh(code, m), // fresh
-        643248 => calls::run_step(code, m, picks), // step
-        19118 => calls::run_run(code, m, picks), // run
-        _ => calls::run_cut(code, m, picks), // cut
-    }
-}
-
-// Runs a call on the picks that the list spells.
-fn run_list(what: u64, code: &[u8], m: Memory, list: &[u8]) {
-    let mut picks = text::buffer();
-    let parsed = text::parse_picks(list, &mut picks);
-    if !parsed.whole {
-        text::write_malformed();
-        return;
-    }
-    let n = parsed.count;
-    run_call(what, code, m, &picks[..n]);
-}
-
-// Runs a call, or several, on the memory.
-fn run_picks(what: u64, code: &[u8], m: Memory, lists: &[u8]) {
-    if !m.good {
-        text::write_malformed();
-        return;
-    }
-    if what == 3191187 {
-        run_calls(code, m, lists);
-        return;
-    }
-    run_list(what, code, m, lists);
-}
-
-// ---- the memory
+// ---- the case
 
 // A fresh state and the picks that the list spells.
-fn set_up(code: &[u8], list: &[u8]) -> Memory {
-    let mut picks = text::buffer();
-    let parsed = text::parse_picks(list, &mut picks);
-    let n = parsed.count;
-    calls::begun(code, memory::filled().only(parsed.whole), &picks[..n])
+fn set_up(code: &[u8], list: &[u8]) -> Option<Memory> {
+    let mut picks = text::room::<{ super::ROOM }>();
+    let count = text::parse_picks(list, &mut picks)?;
+    Some(calls::begun(code, memory::filled(), &picks[..count]))
 }
 
 // The memory with the setup and the changes of a line's body.
-fn prepared(what: u64, code: &[u8], body: &[u8]) -> Memory {
-    let changes = text::part(body, b';', 2);
-    if what == 6887016 {
-        return memory::filled().with_all(changes); // fresh
+fn prepared(command: Command, code: &[u8], body: &[u8]) -> Option<Memory> {
+    let m = match command {
+        Command::Fresh => memory::filled(),
+        _ => set_up(code, text::part(body, b';', 1))?,
+    };
+    m.with_all(text::part(body, b';', 2))
+}
+
+// Runs the case of a line's body; none where the body is malformed.
+fn run_body(command: Command, body: &[u8]) -> Option<()> {
+    let mut space = text::room::<{ super::ROOM }>();
+    let length = load(text::before(body, b';'), &mut space)?;
+    let n = text::within(length, &space);
+    let code = &mut space[..n];
+    let m = prepared(command, code, body)?;
+    change_code(code, text::part(body, b';', 2))?;
+    let lists = text::part(body, b';', 3);
+    if command == Command::Calls {
+        run_calls(code, m, lists);
+        return Some(());
     }
-    set_up(code, text::part(body, b';', 1)).with_all(changes)
+    let mut room = text::room::<{ super::ROOM }>();
+    let count = text::parse_picks(lists, &mut room)?;
+    let picks = &room[..count];
+    match command {
+        Command::Fresh => calls::run_fresh(code, m),
+        Command::Step => calls::run_step(code, m, picks),
+        Command::Run => calls::run_run(code, m, picks),
+        _ => calls::run_cut(code, m, picks),
+    }
+    Some(())
 }
 
-// Runs the case of a line's body on its code.
-fn run_body(what: u64, code: &mut [u8], body: &[u8]) {
-    let m = prepared(what, code, body);
-    let good = change_code(code, text::part(body, b';', 2));
-    run_picks(what, code, m.only(good), text::part(body, b';', 3));
-}
-
-pub fn run_case(what: u64, body: &[u8]) {
-    let mut code = text::buffer();
-    let loaded = load(text::before(body, b';'), &mut code);
-    if !loaded.whole {
+// Runs the case of a line's body, or says that it is malformed.
+pub fn run_case(command: Command, body: &[u8]) {
+    if run_body(command, body).is_none() {
         text::write_malformed();
-        return;
     }
-    let n = text::within(loaded.count, &code);
-    run_body(what, &mut code[..n], body);
 }

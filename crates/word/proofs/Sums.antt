@@ -10,7 +10,8 @@ use lib.Signed.{le_z_yes, lt_z}
 use lib.Dec.{ltb, leb→le, le→leb}
 use borrow.Author.Tests.{lt-ltb, le-ltb}
 use mir.Syntax.{w32}
-use mir.Val.{SFits}
+use mir.Val.{SFits, to_z, of_z}
+use Rattle.std.specs.Bool.{FalseIff}
 use Rattle.word.specs.Sum.{InRange, residue, signed, wrap, Rule, wrapping, overflows, added}
 
 -- the range, as the check of the code states it
@@ -156,6 +157,39 @@ pub wrap_only : (z w k : ℤ) → InRange w → z ≡ w +ℤ (k *ℤ pos 4294967
 unfolding wrap
 wrap_only z w k h e = sym (rw (e, residue_shift w k) (signed_residue w h))
 
+-- std's wrapped sum is this one
+residue_add : (a b : ℤ) → (residue a + residue b) % 2 ^ 32 ≡ residue (a +ℤ b)
+unfolding residue
+residue_add (pos a) (pos b) = omega arith
+residue_add (pos a) (negsuc b) = go (dec_lt a (suc b))
+  where
+    go : Dec (a < suc b) → (a % 4294967296 + (4294967295 - b % 4294967296)) % 4294967296 ≡ residue (sub_ℕ a (suc b))
+    go (yes h) = rw (lt-ltb a (suc b) h) (omega arith)
+    go (no h) = rw (le-ltb a (suc b) (omega arith)) (omega arith)
+residue_add (negsuc a) (pos b) = go (dec_lt b (suc a))
+  where
+    go : Dec (b < suc a) → ((4294967295 - a % 4294967296) + b % 4294967296) % 4294967296 ≡ residue (sub_ℕ b (suc a))
+    go (yes h) = rw (lt-ltb b (suc a) h) (omega arith)
+    go (no h) = rw (le-ltb b (suc a) (omega arith)) (omega arith)
+residue_add (negsuc a) (negsuc b) = omega arith
+
+signed_is : (n : ℕ) → n < 2 ^ 32 → to_z w32 n ≡ signed n
+signed_is n h = go (dec_lt n 2147483648)
+  where
+    go : Dec (n < 2147483648) → to_z w32 n ≡ signed n
+    go (yes l) = rw (signed_low n l, lt-ltb n 2147483648 l)
+    go (no l) = rw (signed_high n (omega arith) h, le-ltb n 2147483648 (omega arith))
+
+residue_is : (z : ℤ) → SFits w32 z → of_z w32 z ≡ residue z
+unfolding residue
+residue_is (pos n) f = let h = f.sfits in omega arith
+residue_is (negsuc n) f = let h = f.sfits in omega arith
+
+pub wrapping_is : (a b : ℤ) → SFits w32 a → SFits w32 b → to_z w32 ((of_z w32 a + of_z w32 b) % 2 ^ 32) ≡ wrapping a b
+unfolding wrapping wrap
+wrapping_is a b f g =
+    signed_is _ (omega arith) ∙ ap signed (ap (λ (n : ℕ). (n + of_z w32 b) % 2 ^ 32) (residue_is a f) ∙ ap (λ (n : ℕ). (residue a + n) % 2 ^ 32) (residue_is b g) ∙ residue_add a b)
+
 -- ---- whether a sum leaves the range
 clash : {A : Type 0} → ◌≡◌ {A = Bool} false true → A
 clash e = absurd (let z : ◌≡◌ {A = ℕ} 0 1 = cc in omega arith)
@@ -184,6 +218,16 @@ not_outside (negsuc n) h = go (dec_lt 2147483647 n)
 pub overflowed_exactly : (sum : Rule) (a b : ℤ) → ((added sum a b).overflowed ≡ true) ↔ (InRange (a +ℤ b) → ⊥)
 unfolding added overflows
 overflowed_exactly sum a b = (outside_not (a +ℤ b), not_outside (a +ℤ b))
+
+-- std's flag says the same
+pub overflows_is : (a b : ℤ) (t : Bool) → FalseIff t (SFits w32 (a +ℤ b)) → t ≡ overflows a b
+unfolding overflows
+overflows_is a b true f = sym (not_outside (a +ℤ b) (λ h. f (range→fits h)))
+overflows_is a b false f = go _ refl
+  where
+    go : (t : Bool) → overflows a b ≡ t → false ≡ t
+    go true e = absurd (outside_not (a +ℤ b) e (fits→range f))
+    go false e = refl
 
 -- and what it gives is the rule's sum
 pub added_value : (sum : Rule) (a b : ℤ) → (added sum a b).value ≡ sum a b

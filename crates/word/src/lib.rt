@@ -2,7 +2,8 @@
 #![tactic(auto)]
 
 ghost use Rattle.std.specs.Prelude.{◌*◌, ◌+◌, ◌/◌, ◌%◌, ◌≡◌};
-ghost use Rattle.word.specs.Registers.{member, none, with};
+ghost use Rattle.std.specs.Iterator.{YieldsFirst, item_count};
+ghost use Rattle.word.specs.Registers.{left, member, members, none, with};
 ghost use Rattle.word.specs.InnerCount.{saturated};
 ghost use Rattle.word.specs.Sum.{added, wrapping};
 
@@ -17,33 +18,15 @@ pub struct Added {
 pub fn add(a: i32, b: i32) -> Added
     ensures { result ≡ added wrapping a b }
 {
-    let s = a as i64 + b as i64;
-    if s > 2147483647 {
-        Added {
-            value: (s - 4294967296) as i32,
-            overflowed: true,
-        }
-    } else if s < -2147483648 {
-        Added {
-            value: (s + 4294967296) as i32,
-            overflowed: true,
-        }
-    } else {
-        Added {
-            value: s as i32,
-            overflowed: false,
-        }
-    }
+    let (value, overflowed) = a.overflowing_add(b);
+    Added { value, overflowed }
 }
 
 // The sum of two counts; the greatest number stands for what is above it.
 pub fn saturating_add(a: usize, b: usize) -> usize
     ensures { result ≡ saturated a b }
 {
-    if b > 18446744073709551615 - a {
-        return 18446744073709551615;
-    }
-    a + b
+    a.saturating_add(b)
 }
 
 // The set with no register.
@@ -58,37 +41,68 @@ pub fn insert(set: u64, register: u8) -> u64
     ensures { result ≡ with set register }
 {
     if register < 64 {
-        return set | (1 << register);
+        set | (1 << register)
+    } else {
+        set
     }
-    set
 }
 
 // Whether the register is in the set. None of 64 or above is.
 pub fn has(set: u64, register: u8) -> bool
     ensures { result ≡ member set register }
 {
-    if register > 63 {
-        return false;
-    }
-    (set >> register) & 1 == 1
+    register < 64 && (set >> register) & 1 == 1
 }
 
-// The number that two bytes hold, the high one first.
+// The registers of a set, ascending. What is left of them is itself a set.
+#[derive(Drop)]
+pub struct Ascending {
+    set: u64,
+}
+
+// The registers of the set, ascending.
+pub fn members(set: u64) -> Ascending
+    ensures { left result ≡ members set }
+{
+    Ascending { set }
+}
+
+impl Iterator for Ascending {
+    type Item = u8;
+
+    ghost next_gives = { YieldsFirst left };
+
+    ghost remaining = { item_count left };
+
+    // The lowest register that is left: the zeros below it are passed over at once.
+    fn next(&mut self) -> Option<u8> {
+        if self.set == 0 {
+            return None;
+        }
+        let register = self.set.trailing_zeros() as u8;
+        self.set &= self.set - 1;
+        Some(register)
+    }
+}
+
+// The number that two bytes hold, the high one first. (This and the two below stay beside std's, since docs/READING.md names them and edits bend them.)
 pub fn number16(high: u8, low: u8) -> u16
     ensures { result ≡ high * 256 + low }
 {
-    high as u16 * 256 + low as u16
+    u16::from_be_bytes([high, low])
 }
 
 // The high one of the two bytes of a number below 65,536, and the low one.
 pub fn high(n: usize) -> u8
     ensures { result ≡ n / 256 % 256 }
 {
-    (n / 256 % 256) as u8
+    let [.., high, _] = n.to_be_bytes();
+    high
 }
 
 pub fn low(n: usize) -> u8
     ensures { result ≡ n % 256 }
 {
-    (n % 256) as u8
+    let [.., low] = n.to_be_bytes();
+    low
 }

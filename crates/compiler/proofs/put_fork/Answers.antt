@@ -1,18 +1,8 @@
--- `compiler::put_fork` meets its contract: three stores at the front. Assumes nothing.
-use mathlib.Core.Path.{refl}
-use mathlib.Core.List.{[], ◌∷◌}
-use native.Mathlib.Omega.{arith}
-use lib.ListN.{length-set}
+-- `compiler::put_fork` meets its contract. Assumes nothing.
+use mathlib.Core.Path.{refl, ◌∙◌}
 use Rattle.script.specs.Bytes.{bytes16}
-use Rattle.delivery.proofs.Places.{front_stored}
 use Rattle.compiler.proofs.put_fork.Goals as goal
-
-pub bounds-out-1 : goal.bounds-out-1
-bounds-out-1 c = simp length-set (omega arith)
-
-pub bounds-out-2 : goal.bounds-out-2
-bounds-out-2 c = simp length-set (omega arith)
 
 pub returns : goal.returns
 unfolding bytes16
-returns c = (refl, rw (c.high.ensures, c.low.ensures) (front_stored (_ ∷ _ ∷ _ ∷ []) c.args.out.now (omega arith)))
+returns c = (refl, c.put.ensures ∙ rw (c.to_be_bytes.ensures, c.byte.ensures))

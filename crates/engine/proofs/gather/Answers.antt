@@ -49,26 +49,26 @@ known_all ys n h k i = by_test (ltb i n) refl
     by_test true e = k i (ltb-true _ _ e)
     by_test false e = subst Known (sym (get_or-eq_default ys blank {n = i} (let l : n ≤ i = ltb-false _ _ e in omega (arith, h, l)))) known_blank
 
-pub loop-i-init : goal.loop-i-init
-loop-i-init c = record {
-  same = rw c.start-s.ensures (all_left c.args.counts.now c.args.threads.now);
+pub loop-t-init : goal.loop-t-init
+loop-t-init c = record {
+  same = rw c.start-survey.ensures (all_left c.args.counts.now c.args.threads.now);
   known = λ j h. absurd (omega (arith, h));
 }
 
-pub loop-i-preserved : goal.loop-i-preserved
-loop-i-preserved c =
+pub loop-t-preserved : goal.loop-t-preserved
+loop-t-preserved c =
     let ys = c.args.threads.now in
-    let i = c.loop-i.i in
-    let d = get_or_default ys i _ blank c.loop-i-test.true in
+    let i = c.loop-t.t-index in
+    let d = get_or_default ys i _ blank c.loop-t-test.true in
     let e : c.known-t.result ≡ get_or ys i blank = c.known-t.ensures.same ∙ d in
     record {
-      same = rw (c.with-s.ensures, e) (goes-on c.args.counts.now ys i c.loop-i.s c.loop-i-test.true ∙ c.loop-i.invariant.same);
-      known = one_more ys i c.loop-i.invariant.known (subst Known d (record { typed = c.known-t.ensures.typed; ranged = c.known-t.ensures.ranged }));
+      same = rw (c.with-survey.ensures, e) (goes-on c.args.counts.now ys i c.loop-t.survey c.loop-t-test.true ∙ c.loop-t.invariant.same);
+      known = one_more ys i c.loop-t.invariant.known (subst Known d (record { typed = c.known-t.ensures.typed; ranged = c.known-t.ensures.ranged }));
     }
 
 pub returns : goal.returns
 returns c = record {
-  survey = none_left c.args.counts.now c.args.threads.now c.loop-i.i c.loop-i.s c.loop-i-test.false ∙ c.loop-i.invariant.same;
-  typed = λ i. (known_all c.args.threads.now c.loop-i.i c.loop-i-test.false c.loop-i.invariant.known i).typed;
-  ranged = λ i. (known_all c.args.threads.now c.loop-i.i c.loop-i-test.false c.loop-i.invariant.known i).ranged;
+  survey = none_left c.args.counts.now c.args.threads.now c.loop-t.t-index c.loop-t.survey c.loop-t-test.false ∙ c.loop-t.invariant.same;
+  typed = λ i. (known_all c.args.threads.now c.loop-t.t-index c.loop-t-test.false c.loop-t.invariant.known i).typed;
+  ranged = λ i. (known_all c.args.threads.now c.loop-t.t-index c.loop-t-test.false c.loop-t.invariant.known i).ranged;
 }

@@ -1,54 +1,62 @@
 -- `forecast::figures` meets its contract: the loop walks the job's tree, and what is left of the bytes falls. Assumes nothing.
-use Prim.Native.Nat.{◌<◌}
-use mathlib.Core.Path.{sym, ap, subst, ◌∙◌}
+use Prim.Native.Nat.{ℕ, ◌-◌, ◌≤◌, ◌<◌}
+use mathlib.Core.Path.{◌≡◌, refl, sym, ap, subst, ◌∙◌}
+use mathlib.Core.List.{List, [], ◌∷◌, ◌++◌}
+use lib.ListN.{take, get_or, length}
+use Rattle.std.proofs.lemmas.List.{length-take-le}
+use Rattle.forecast.specs.declared.Due.{Due}
 use native.Mathlib.Omega.{arith}
-use lib.ListN.{replicate}
 use Rattle.script.proofs.Accepts.{accepted_is_job}
 use Rattle.script.proofs.Numbers.{bytes_of}
-use Rattle.forecast.specs.declared.Cursor.{Cursor}
 use Rattle.forecast.specs.Figures.{forecast_of}
-use Rattle.forecast.specs.InnerWalk.{State, state_of}
 use Rattle.forecast.proofs.Fold.{Told, told}
-use Rattle.forecast.proofs.Advance.{further}
-use Rattle.forecast.proofs.Walk.{Inv, inv_start, ready, can_count, node_counted, at-end}
+use Rattle.forecast.proofs.Walk.{inv_start, can_count, stands, node_counted, at-end}
 use Rattle.forecast.proofs.Answers.{figures_told}
+use Rattle.job.proofs.KindBytes.{decoded, decoded_as, operand_small}
+use Rattle.job.proofs.Walk.{last_of, none_of}
 use Rattle.forecast.proofs.figures.Goals as goal
 
-pub loop-s-init : goal.loop-s-init
-loop-s-init c = λ a. let i = accepted_is_job c.args.job.now a.job (bytes_of c.args.job.now c.type_inv.job) a.read in subst (λ (s : Cursor). Inv c.args.job.now a.job.tree (state_of s (replicate 65 0) (replicate 16 0))) (sym c.start-s.ensures) (inv_start c.args.job.now a.job.version a.job.tree i.text i.within)
+-- the array's topmost part, and how many are below it
+popped : (parts : List Due) (n : ℕ) → 0 < n → n ≤ 65 → length parts ≡ 65 → take n parts ≡ take (n - 1) parts ++ (get_or parts (n - 1) (record { thread = 0; base = 0 }) ∷ [])
+popped parts n some h l = last_of parts n (record { thread = 0; base = 0 }) some (omega (arith, h, l))
 
-pub overflow_sub-top : goal.overflow_sub-top
-overflow_sub-top c = c.loop-s-test.true
+few : (parts : List Due) (n : ℕ) → 0 < n → n ≤ 65 → length parts ≡ 65 → length (take (n - 1) parts) ≤ 63 → n - 1 ≤ 63
+few parts n some h l r = omega (arith, r, length-take-le (n - 1) parts (omega (arith, some, h, l)))
 
-pub offset_bounds-due-top : goal.offset_bounds-due-top
-offset_bounds-due-top c = omega (arith, (ready c.args.job.now c.requires.job.tree (state_of c.loop-s.s c.loop-s.due c.loop-s.heights) (c.loop-s.invariant c.requires) c.loop-s-test.true).room)
-
-pub bounds-due-top : goal.bounds-due-top
-bounds-due-top c = omega (arith, (ready c.args.job.now c.requires.job.tree (state_of c.loop-s.s c.loop-s.due c.loop-s.heights) (c.loop-s.invariant c.requires) c.loop-s-test.true).room)
+pub loop-waiting-init : goal.loop-waiting-init
+loop-waiting-init c = rw c.none-totals.ensures (omega arith, refl, (λ a. let i = accepted_is_job c.args.job.now a.job (bytes_of c.args.job.now c.type_inv.job) a.read in inv_start c.args.job.now a.job.version a.job.tree i.text i.within))
 
 pub bounds-job-place : goal.bounds-job-place
-bounds-job-place c = omega (arith, (ready c.args.job.now c.requires.job.tree (state_of c.loop-s.s c.loop-s.due c.loop-s.heights) (c.loop-s.invariant c.requires) c.loop-s-test.true).here)
+bounds-job-place c = omega (arith, (stands c.args.job.now c.requires.job.tree (record { due = take c.loop-waiting.waiting c.loop-waiting.parts; place = c.loop-waiting.place; tally = record { counts = c.loop-waiting.totals; heights = c.loop-waiting.heights } }) (get_or c.loop-waiting.parts (c.loop-waiting.waiting - 1) (record { thread = 0; base = 0 })) (take (c.loop-waiting.waiting - 1) c.loop-waiting.parts) (popped c.loop-waiting.parts c.loop-waiting.waiting c.loop-waiting-test.true c.loop-waiting.invariant.0 c.loop-waiting.invariant.1) (c.loop-waiting.invariant.2 c.requires)).0)
 
-pub overflow_add-place : goal.overflow_add-place
-overflow_add-place c = omega (arith, (ready c.args.job.now c.requires.job.tree (state_of c.loop-s.s c.loop-s.due c.loop-s.heights) (c.loop-s.invariant c.requires) c.loop-s-test.true).here)
+pub unwrap-kind-requires : goal.unwrap-kind-requires
+unwrap-kind-requires c = let s = (stands c.args.job.now c.requires.job.tree (record { due = take c.loop-waiting.waiting c.loop-waiting.parts; place = c.loop-waiting.place; tally = record { counts = c.loop-waiting.totals; heights = c.loop-waiting.heights } }) (get_or c.loop-waiting.parts (c.loop-waiting.waiting - 1) (record { thread = 0; base = 0 })) (take (c.loop-waiting.waiting - 1) c.loop-waiting.parts) (popped c.loop-waiting.parts c.loop-waiting.waiting c.loop-waiting-test.true c.loop-waiting.invariant.0 c.loop-waiting.invariant.1) (c.loop-waiting.invariant.2 c.requires)).1 in decoded _ c.try_from.result c.try_from.ensures s.0 s.1
 
-pub bounds-job-place-in-loop-s : goal.bounds-job-place-in-loop-s
-bounds-job-place-in-loop-s c = (ready c.args.job.now c.requires.job.tree (state_of c.loop-s.s c.loop-s.due c.loop-s.heights) (c.loop-s.invariant c.requires) c.loop-s-test.true).here
+pub bounds-job-place-in-loop-waiting : goal.bounds-job-place-in-loop-waiting
+bounds-job-place-in-loop-waiting c = (stands c.args.job.now c.requires.job.tree (record { due = take c.loop-waiting.waiting c.loop-waiting.parts; place = c.loop-waiting.place; tally = record { counts = c.loop-waiting.totals; heights = c.loop-waiting.heights } }) (get_or c.loop-waiting.parts (c.loop-waiting.waiting - 1) (record { thread = 0; base = 0 })) (take (c.loop-waiting.waiting - 1) c.loop-waiting.parts) (popped c.loop-waiting.parts c.loop-waiting.waiting c.loop-waiting-test.true c.loop-waiting.invariant.0 c.loop-waiting.invariant.1) (c.loop-waiting.invariant.2 c.requires)).0
 
-pub node-s-requires : goal.node-s-requires
-node-s-requires c = can_count c.args.job.now c.requires.job.tree c.loop-s.s c.loop-s.due c.loop-s.heights (c.loop-s.invariant c.requires) c.loop-s-test.true
+pub count-waiting-requires : goal.count-waiting-requires
+count-waiting-requires c = let r = can_count c.args.job.now c.requires.job.tree (record { due = take c.loop-waiting.waiting c.loop-waiting.parts; place = c.loop-waiting.place; tally = record { counts = c.loop-waiting.totals; heights = c.loop-waiting.heights } }) (get_or c.loop-waiting.parts (c.loop-waiting.waiting - 1) (record { thread = 0; base = 0 })) (take (c.loop-waiting.waiting - 1) c.loop-waiting.parts) (popped c.loop-waiting.parts c.loop-waiting.waiting c.loop-waiting-test.true c.loop-waiting.invariant.0 c.loop-waiting.invariant.1) (c.loop-waiting.invariant.2 c.requires) in (r.small, few c.loop-waiting.parts c.loop-waiting.waiting c.loop-waiting-test.true c.loop-waiting.invariant.0 c.loop-waiting.invariant.1 (r.room), r.thread, r.low)
 
-pub loop-s-smaller : goal.loop-s-smaller
-loop-s-smaller c = let p = subst (λ (t : State). c.loop-s.s.place < t.place) (sym c.node-s.ensures) (further (state_of c.loop-s.s c.loop-s.due c.loop-s.heights) _ _ _) in omega (arith, p, (ready c.args.job.now c.requires.job.tree (state_of c.loop-s.s c.loop-s.due c.loop-s.heights) (c.loop-s.invariant c.requires) c.loop-s-test.true).here)
+pub overflow_add-place-in-loop-waiting : goal.overflow_add-place-in-loop-waiting
+overflow_add-place-in-loop-waiting c = omega (arith, operand_small c.unwrap-kind.result, c.operand.ensures)
 
-pub loop-s-preserved : goal.loop-s-preserved
-loop-s-preserved c = λ a. subst (Inv _ _) (sym c.node-s.ensures) (node_counted c.args.job.now a.job.tree (state_of c.loop-s.s c.loop-s.due c.loop-s.heights) (c.loop-s.invariant a) c.loop-s-test.true)
+pub overflow_add-place-in-loop-waiting-2 : goal.overflow_add-place-in-loop-waiting-2
+overflow_add-place-in-loop-waiting-2 c = omega (arith, operand_small c.unwrap-kind.result, c.operand.ensures, (can_count c.args.job.now c.requires.job.tree (record { due = take c.loop-waiting.waiting c.loop-waiting.parts; place = c.loop-waiting.place; tally = record { counts = c.loop-waiting.totals; heights = c.loop-waiting.heights } }) (get_or c.loop-waiting.parts (c.loop-waiting.waiting - 1) (record { thread = 0; base = 0 })) (take (c.loop-waiting.waiting - 1) c.loop-waiting.parts) (popped c.loop-waiting.parts c.loop-waiting.waiting c.loop-waiting-test.true c.loop-waiting.invariant.0 c.loop-waiting.invariant.1) (c.loop-waiting.invariant.2 c.requires)).early)
+
+pub loop-waiting-smaller : goal.loop-waiting-smaller
+loop-waiting-smaller c = let p = (stands c.args.job.now c.requires.job.tree (record { due = take c.loop-waiting.waiting c.loop-waiting.parts; place = c.loop-waiting.place; tally = record { counts = c.loop-waiting.totals; heights = c.loop-waiting.heights } }) (get_or c.loop-waiting.parts (c.loop-waiting.waiting - 1) (record { thread = 0; base = 0 })) (take (c.loop-waiting.waiting - 1) c.loop-waiting.parts) (popped c.loop-waiting.parts c.loop-waiting.waiting c.loop-waiting-test.true c.loop-waiting.invariant.0 c.loop-waiting.invariant.1) (c.loop-waiting.invariant.2 c.requires)).0 in omega (arith, p)
+
+pub loop-waiting-preserved : goal.loop-waiting-preserved
+loop-waiting-preserved c =
+    let room = few c.loop-waiting.parts c.loop-waiting.waiting c.loop-waiting-test.true c.loop-waiting.invariant.0 c.loop-waiting.invariant.1 ((can_count c.args.job.now c.requires.job.tree (record { due = take c.loop-waiting.waiting c.loop-waiting.parts; place = c.loop-waiting.place; tally = record { counts = c.loop-waiting.totals; heights = c.loop-waiting.heights } }) (get_or c.loop-waiting.parts (c.loop-waiting.waiting - 1) (record { thread = 0; base = 0 })) (take (c.loop-waiting.waiting - 1) c.loop-waiting.parts) (popped c.loop-waiting.parts c.loop-waiting.waiting c.loop-waiting-test.true c.loop-waiting.invariant.0 c.loop-waiting.invariant.1) (c.loop-waiting.invariant.2 c.requires)).room) in
+    (omega (arith, c.count-waiting.ensures.count, room), c.count-waiting.ensures.long, (λ a. rw (c.count-waiting.ensures.counts, c.count-waiting.ensures.parts, c.count-waiting.ensures.heights, c.operand.ensures) (node_counted c.args.job.now a.job.tree (record { due = take c.loop-waiting.waiting c.loop-waiting.parts; place = c.loop-waiting.place; tally = record { counts = c.loop-waiting.totals; heights = c.loop-waiting.heights } }) (get_or c.loop-waiting.parts (c.loop-waiting.waiting - 1) (record { thread = 0; base = 0 })) (take (c.loop-waiting.waiting - 1) c.loop-waiting.parts) (popped c.loop-waiting.parts c.loop-waiting.waiting c.loop-waiting-test.true c.loop-waiting.invariant.0 c.loop-waiting.invariant.1) (c.loop-waiting.invariant.2 a) c.unwrap-kind.result (decoded_as _ c.try_from.result c.unwrap-kind.result c.try_from.ensures c.unwrap-kind.ensures))))
 
 pub overflow_add-result : goal.overflow_add-result
-overflow_add-result c = omega (arith, (c.loop-s.invariant c.requires).walk.bounds.few)
+overflow_add-result c = omega (arith, (c.loop-waiting.invariant.2 c.requires).walk.bounds.few)
 
 pub bound-requires : goal.bound-requires
-bound-requires c = let b = (c.loop-s.invariant c.requires).walk.bounds in (omega (arith, b.transactions), omega (arith, b.few), omega (arith, b.instructions), b.longest)
+bound-requires c = let b = (c.loop-waiting.invariant.2 c.requires).walk.bounds in (omega (arith, b.transactions), omega (arith, b.few), omega (arith, b.instructions), b.longest)
 
 pub returns : goal.returns
-returns c = let a = c.requires in let i = accepted_is_job c.args.job.now a.job (bytes_of c.args.job.now c.type_inv.job) a.read in let e = at-end c.args.job.now a.job.tree (state_of c.loop-s.s c.loop-s.due c.loop-s.heights) (c.loop-s.invariant a) (omega (arith, c.loop-s-test.false)) in figures_told a.job.tree (state_of c.loop-s.s c.loop-s.due c.loop-s.heights).totals _ _ (subst (Told a.job.tree) (sym e) (told a.job.tree i.within.sized.narrow)) a.long c.bound.ensures ∙ ap forecast_of (sym a.read)
+returns c = let a = c.requires in let i = accepted_is_job c.args.job.now a.job (bytes_of c.args.job.now c.type_inv.job) a.read in let e = at-end c.args.job.now a.job.tree (record { due = take c.loop-waiting.waiting c.loop-waiting.parts; place = c.loop-waiting.place; tally = record { counts = c.loop-waiting.totals; heights = c.loop-waiting.heights } }) (c.loop-waiting.invariant.2 a) (none_of c.loop-waiting.parts c.loop-waiting.waiting c.loop-waiting-test.false) in figures_told a.job.tree (record { counts = c.loop-waiting.totals; heights = c.loop-waiting.heights }) _ _ (subst (Told a.job.tree) (sym e) (told a.job.tree i.within.sized.narrow)) a.long c.bound.ensures ∙ ap forecast_of (sym a.read)

@@ -1,11 +1,11 @@
 -- `formula::number` meets its contract. Assumes nothing.
 use mathlib.Core.Path.{refl}
+use Rattle.parsing.proofs.Laws as L
 use Rattle.parsing.proofs.Leaves as E
-use borrow.Author.Rules.{rules}
 use Rattle.formula.proofs.number.Goals as goal
 
-pub returns-then-d : goal.returns-then-d
-returns-then-d c = λ opened. E.plain_broken c.args.inside _ _ _ _ opened _ _ c.requires.1 c.digits-d.result c.requires.2 c.digits-d.ensures c.if-d.true _ c.fails.ensures refl
+pub returns-in_err-read : goal.returns-in_err-read
+returns-in_err-read c = λ opened. rw (L.err_as _ _ c.from_residual.ensures.1) (E.plain_broken c.args.inside _ _ _ _ opened _ _ c.requires.1 _ c.requires.2 c.in_err-read.ensures refl)
 
 pub returns : goal.returns
-returns c = λ opened. E.plain_read c.args.inside _ _ _ _ opened _ _ c.requires.1 c.digits-d.result c.kind-k.result c.digits-d.ensures c.if-d.false c.kind-k.ensures c.put_number.ensures _ c.node.ensures (search rules)
+returns c = λ opened. rw (c.value.ensures.size, c.value.ensures.nodes) (E.plain_read c.args.inside _ _ _ _ opened _ _ c.requires.1 c.in_ok-read.read _ c.in_ok-read.ensures refl c.value.ensures.written c.value.ensures.kept)

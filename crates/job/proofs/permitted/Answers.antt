@@ -29,13 +29,13 @@ beyond true k h = rw (le-leb 5 k (omega arith), lt-leb k 8 h)
 beyond false k h = rw (le-leb 1 k (omega arith), lt-leb k 4 (omega arith))
 
 pub returns-in-1-to-4 : goal.returns-in-1-to-4
-returns-in-1-to-4 c = within c.args.transaction _ c.in-1-to-4.if-kind-lt1-own.false c.in-1-to-4.if-kind-lt5-own.true
+returns-in-1-to-4 c = within c.args.transaction _ c.in-1-to-4.if-byte-lt1-own.false c.in-1-to-4.if-byte-lt5-own.true
 
 pub returns-in-5-to-8 : goal.returns-in-5-to-8
-returns-in-5-to-8 c = above c.args.transaction _ c.in-5-to-8.if-kind-lt5-own.false c.in-5-to-8.if-kind-lt9-own.true
+returns-in-5-to-8 c = above c.args.transaction _ c.in-5-to-8.if-byte-lt5-own.false c.in-5-to-8.if-byte-lt9-own.true
 
 pub returns-in_default : goal.returns-in_default
-returns-in_default c = below c.args.transaction _ c.in_default.if-kind-lt1-own.true
+returns-in_default c = below c.args.transaction _ c.in_default.if-byte-lt1-own.true
 
 pub returns-in_default-2 : goal.returns-in_default-2
-returns-in_default-2 c = beyond c.args.transaction _ c.in_default.if-kind-lt9-own.false
+returns-in_default-2 c = beyond c.args.transaction _ c.in_default.if-byte-lt9-own.false

@@ -1,14 +1,10 @@
 -- `listing::put_counts` meets its contract. Assumes nothing.
-use native.Mathlib.Omega.{arith}
-use Rattle.listing.specs.Listed.{ascii, decimal}
-use Rattle.listing.proofs.Lines.{counts-line}
-use Rattle.listing.proofs.Pages.{put_put, put_same}
+use Rattle.listing.specs.Listed.{ascii}
+use Rattle.listing.proofs.Lines.{counts_put}
 use Rattle.listing.proofs.put_counts.Goals as goal
 
-pub returns : goal.returns
-unfolding ascii decimal
-returns c =
-    record {
-      put = put_same (counts-line _) (put_put (put_put (put_put (put_put (put_put c.put_number-a.ensures.put c.put_number-b.ensures.put) c.put_number-c.ensures.put) c.put_number-d.ensures.put) c.put_number-e.ensures.put) c.put.ensures);
-      upper_bound = omega (arith, c.put.ensures.end, c.put_number-e.ensures.upper_bound, c.put_number-d.ensures.upper_bound, c.put_number-c.ensures.upper_bound, c.put_number-b.ensures.upper_bound, c.put_number-a.ensures.upper_bound);
-    }
+pub returns-clause-text : goal.returns-clause-text
+unfolding ascii
+returns-clause-text c =
+    counts_put c.args.page.now c.put_number.new.self c.put_number-2.new.self c.put_number-3.new.self c.put_number-4.new.self c.put_number-5.new.self _ _ c.requires c.put_number.ensures.text c.put_number-2.ensures.text c.put_number-3.ensures.text
+    c.put_number-4.ensures.text c.put_number-5.ensures.text c.put.ensures

@@ -1,7 +1,8 @@
 -- `listing::put_listing` meets its contract. Assumes nothing.
-use Rattle.listing.proofs.Lines.{listing_is}
-use Rattle.listing.proofs.Pages.{put_put, put_same}
+use Rattle.std.proofs.Common.{append_assoc}
+use Rattle.listing.specs.Listed.{listing}
 use Rattle.listing.proofs.put_listing.Goals as goal
 
 pub returns : goal.returns
-returns c = put_same (listing_is _ _ _ _) (put_put (put_put c.put_counts-a.ensures.put c.put_threads-b.ensures.put) c.put_registers.ensures.put)
+unfolding listing
+returns c = simp (c.put_registers.ensures, c.put_threads.ensures.text, c.put_counts.ensures.text, append_assoc)

@@ -1,10 +1,10 @@
 -- `listing::put_run` meets its contract. Assumes nothing.
-use Rattle.listing.proofs.Pages.{put_same}
+use Rattle.std.proofs.Common.{◌∙◌}
 use Rattle.listing.proofs.Runs.{listing_text, refusal_text}
 use Rattle.listing.proofs.put_run.Goals as goal
 
-pub returns-then-reply-eq0 : goal.returns-then-reply-eq0
-returns-then-reply-eq0 c = put_same (listing_text _ _ c.requires.1.0 c.requires.1.1 _ _ _ _ c.shown-ran.ensures c.if-reply-eq0.true) c.put_listing.ensures
+pub returns-then-ran-eq0 : goal.returns-then-ran-eq0
+returns-then-ran-eq0 c = c.put_listing.ensures ∙ listing_text _ _ c.requires.accepted.0 c.requires.accepted.1 _ _ _ _ c.shown-ran.ensures c.if-ran-eq0.true
 
-pub returns : goal.returns
-returns c = put_same (refusal_text _ _ c.requires.1.0 c.requires.1.1 _ _ _ _ c.shown-ran.ensures c.if-reply-eq0.false) c.put_refusal.ensures
+pub returns-else-ran-eq0 : goal.returns-else-ran-eq0
+returns-else-ran-eq0 c = c.put_refusal.ensures ∙ refusal_text _ _ c.requires.accepted.0 c.requires.accepted.1 _ _ _ _ c.shown-ran.ensures c.if-ran-eq0.false

@@ -1,12 +1,21 @@
 -- `scan::counted` meets its contract. Assumes nothing.
-use borrow.Author.Tests.{eq-eqb, ne_eqb}
-use Rattle.scan.specs.InnerView.{counted_to}
+use Prim.Native.Nat.{ℕ, ◌+◌}
+use mathlib.Core.Path.{◌≡◌, refl}
+use Rattle.ops.specs.declared.Op.{Op}
+use Rattle.ops.specs.declared.Op.TheVariants as op
+use Rattle.scan.specs.InnerView.{counted_to, opcode_of}
 use Rattle.scan.proofs.counted.Goals as goal
 
-pub returns-then-opcode-eq5 : goal.returns-then-opcode-eq5
+one_more : (o : Op) (since : ℕ) → (o ≡ op.Begin → ⊥) → since + 1 ≡ counted_to (opcode_of o) since
 unfolding counted_to
-returns-then-opcode-eq5 c = rw (eq-eqb c.args.opcode 5 c.if-opcode-eq5.true)
+one_more (op.Push n) since h = refl
+one_more op.Add since h = refl
+one_more (op.Read v) since h = refl
+one_more (op.Write v) since h = refl
+one_more op.Begin since h = absurd (h refl)
+one_more op.Commit since h = refl
+one_more (op.Fork size) since h = refl
+one_more op.Foreign since h = refl
 
-pub returns : goal.returns
-unfolding counted_to
-returns c = rw (ne_eqb c.args.opcode 5 c.if-opcode-eq5.false)
+pub returns-in_default : goal.returns-in_default
+returns-in_default c = one_more c.args.op c.args.since c.in_default.not-Begin

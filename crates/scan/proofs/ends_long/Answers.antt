@@ -1,12 +1,22 @@
 -- `scan::ends_long` meets its contract. Assumes nothing.
-use borrow.Author.Tests.{eq-eqb, ne_eqb}
-use Rattle.scan.specs.InnerView.{ends_long}
+use Prim.Native.Nat.{ℕ}
+use mathlib.Core.Bool.{false}
+use mathlib.Core.Path.{◌≡◌, refl}
+use Rattle.ops.specs.declared.Op.{Op}
+use Rattle.ops.specs.declared.Op.TheVariants as op
+use Rattle.scan.specs.InnerView.{ends_long, opcode_of}
 use Rattle.scan.proofs.ends_long.Goals as goal
 
-pub returns-then-opcode-ne6 : goal.returns-then-opcode-ne6
+not_long : (o : Op) (since : ℕ) → (o ≡ op.Commit → ⊥) → false ≡ ends_long (opcode_of o) since
 unfolding ends_long
-returns-then-opcode-ne6 c = rw (ne_eqb c.args.opcode 6 c.if-opcode-ne6.true)
+not_long (op.Push n) since h = refl
+not_long op.Add since h = refl
+not_long (op.Read v) since h = refl
+not_long (op.Write v) since h = refl
+not_long op.Begin since h = refl
+not_long op.Commit since h = absurd (h refl)
+not_long (op.Fork size) since h = refl
+not_long op.Foreign since h = refl
 
-pub returns : goal.returns
-unfolding ends_long
-returns c = rw (eq-eqb c.args.opcode 6 c.if-opcode-ne6.false)
+pub returns-in_default : goal.returns-in_default
+returns-in_default c = not_long c.args.op c.args.since c.in_default.not-Commit

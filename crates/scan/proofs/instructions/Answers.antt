@@ -1,71 +1,45 @@
 -- `scan::instructions` meets its contract: the loop follows `scan_ops` and counts the nodes of each transaction, and the code that is left falls. Assumes nothing.
-use Prim.Native.Nat.{ℕ, ◌-◌, ◌<◌}
-use mathlib.Core.Bool.{Bool, true, false}
-use mathlib.Core.Path.{◌≡◌, sym, ap, subst, ◌∙◌}
+use Prim.Native.Nat.{ℕ}
 use mathlib.Core.List.{List}
+use mathlib.Core.Path.{◌≡◌, sym, subst, ◌∙◌}
 use native.Mathlib.Omega.{arith}
-use lib.ListN.{length, drop}
-use borrow.Author.Tests.{not-true, not-false}
-use Rattle.scan.specs.declared.Scan.{Scan}
-use Rattle.scan.specs.InnerView.{ScanState, state, viewed, ShortFork, empty_scan, bad, short, long}
+use lib.ListN.{drop, length-drop}
+use Rattle.std.proofs.Common.{inl, inr}
 use Rattle.script.proofs.Numbers.{bytes_drop, bytes_of}
-use Rattle.scan.proofs.Fits.{good_of, limits}
-use Rattle.scan.proofs.Loops.{ahead, Loop, loop_start, settle_bad, at-end, step_bad, step_good, onward_by, further, op_small}
+use Rattle.scan.proofs.Loops.{loop_start, settle_none, end_none, end_some, step_none, step_some, onward_by, number_is, long_here, op_within, op_small}
 use Rattle.scan.proofs.Long.{Counting, counting_first, counts_short, counts_long, counts_on}
 use Rattle.scan.proofs.instructions.Goals as goal
-
-abbrev place : ScanState → ℕ
-place s = s.place
-
-falls : (code : List ℕ) {r u : ScanState} (n : ℕ) → r ≡ u → n < u.place → Loop code u → length code - r.place < length code - n
-falls code n e h l = omega (arith, ap place e, l.within)
-
-no-scan : {A : Type 0} {b : Bool} → b ≡ true → b ≡ false → A
-no-scan g h = absurd (let z : ◌≡◌ {A = ℕ} 0 1 = cc in omega arith)
-
-started : (s : Scan) {k e : List ℕ} → state s k e ≡ empty_scan → s.place ≡ 5
-unfolding empty_scan
-started s e = ap place e
 
 here : {code : List ℕ} {p q nodes : ℕ} → Counting code p nodes → q ≡ p → Counting code q nodes
 here {code} {p} {q} {nodes} c e = subst (λ (n : ℕ). Counting code n nodes) (sym e) c
 
-is-bad : (r s : Scan) (k e : List ℕ) → state r k e ≡ bad (state s k e) → r.good ≡ false
-unfolding bad
-is-bad r s k e f = ap good_of f
+pub loop-place-init : goal.loop-place-init
+loop-place-init c = (loop_start c.args.code.now c.start-scan.result c.start-scan.ensures.view c.start-scan.ensures.place c.requires.0, here (counting_first c.args.code.now (bytes_of c.args.code.now c.type_inv.code)) c.start-scan.ensures.place)
 
-pub loop-s-init : goal.loop-s-init
-loop-s-init c = let code = c.args.code.now in (subst (Loop code) (sym c.start-s.ensures) (loop_start code c.requires.0), here (counting_first code (bytes_of c.args.code.now c.type_inv.code)) (started c.start-s.result c.start-s.ensures))
+pub returns-in_err-settle : goal.returns-in_err-settle
+returns-in_err-settle c = rw c.from_residual.ensures (inl (settle_none c.args.code.now (bytes_of c.args.code.now c.type_inv.code) c.loop-place.invariant.0 c.settle.new.self c.settle.ensures.place c.settle.result c.settle.ensures.view c.in_err-settle.was))
 
-pub settle-s-requires : goal.settle-s-requires
-settle-s-requires c = (c.loop-s.invariant.0.fit, c.loop-s.invariant.0.good)
-
-pub returns-then-not-s : goal.returns-then-not-s
-unfolding ahead
-returns-then-not-s c = short c.settle-s.new.items c.loop-s.ends (settle_bad c.args.code.now (bytes_of c.args.code.now c.type_inv.code) c.requires.1 c.loop-s.invariant.0 c.settle-s.ensures (not-true _ c.if-not-s.true)) (λ g. no-scan g (not-true _ c.if-not-s.true))
+pub returns-in_err-finish : goal.returns-in_err-finish
+returns-in_err-finish c = rw c.from_residual-in_err-finish.ensures (inl (end_none c.args.code.now (bytes_of c.args.code.now c.type_inv.code) c.loop-place.invariant.0 c.settle.new.self c.settle.ensures.place c.settle.result c.settle.ensures.view c.in_ok-settle.was c.finish.result c.if-place-code.true c.finish.ensures c.in_err-finish.was))
 
 pub returns-then-place-code : goal.returns-then-place-code
-unfolding ahead
-returns-then-place-code c = short c.settle-s.new.items c.loop-s.ends (ap viewed (c.finish.ensures c.loop-s.ends) ∙ at-end c.args.code.now (bytes_of c.args.code.now c.type_inv.code) c.requires.1 c.loop-s.invariant.0 c.settle-s.ensures (not-false _ c.if-not-s.false) c.if-place-code.true) (λ g. counts_short (here c.loop-s.invariant.1 c.settle-s.ensures.place) c.if-place-code.true)
-
-pub bounds-code-place : goal.bounds-code-place
-bounds-code-place c = omega arith
+returns-then-place-code c = (end_some c.args.code.now (bytes_of c.args.code.now c.type_inv.code) c.loop-place.invariant.0 c.settle.new.self c.settle.ensures.place c.settle.result c.settle.ensures.view c.in_ok-settle.was c.finish.result c.if-place-code.true c.finish.ensures c.in_ok-finish.was, counts_short (here c.loop-place.invariant.1 c.settle.ensures.place) c.if-place-code.true)
 
 pub returns-then-ends_long : goal.returns-then-ends_long
-returns-then-ends_long c = long (is-bad c.foreign.result c.settle-s.result c.settle-s.new.items c.loop-s.ends (c.foreign.ensures c.settle-s.new.items c.loop-s.ends)) (counts_long (here c.loop-s.invariant.1 c.settle-s.ensures.place) c.if-place-code.false (sym c.ends_long.ensures ∙ c.if-ends_long.true))
+returns-then-ends_long c = inr (counts_long (here c.loop-place.invariant.1 c.settle.ensures.place) c.if-place-code.false (long_here c.args.code.now (bytes_of c.args.code.now c.type_inv.code) c.settle.new.self.place _ c.op_at-op.result c.op_at-op.ensures (sym c.ends_long.ensures ∙ c.if-ends_long.true)))
 
-pub counted-since-requires : goal.counted-since-requires
-counted-since-requires c = omega (arith, c.loop-s.invariant.1.low, c.loop-s.invariant.0.within, c.requires.1)
+pub step-requires-clause-place : goal.step-requires-clause-place
+step-requires-clause-place c = rw c.op_at-op.ensures (omega (arith, op_within (drop c.settle.new.self.place c.args.code.now) (bytes_drop c.settle.new.self.place (bytes_of c.args.code.now c.type_inv.code)), length-drop c.settle.new.self.place c.args.code.now))
 
-pub step-s-requires : goal.step-s-requires
-step-s-requires c = (limits c.settle-s.result (c.settle-s.ensures.fit (not-false _ c.if-not-s.false)), subst ShortFork (sym c.op_at-op.ensures) (op_small (drop c.settle-s.result.place c.args.code.now) (bytes_drop c.settle-s.result.place (bytes_of c.args.code.now c.shared_slice_known-1.given))))
+pub step-requires-clause-short : goal.step-requires-clause-short
+step-requires-clause-short c = rw c.op_at-op.ensures (op_small (drop c.settle.new.self.place c.args.code.now) (bytes_drop c.settle.new.self.place (bytes_of c.args.code.now c.type_inv.code)))
 
-pub returns-then-not-s-2 : goal.returns-then-not-s-2
-unfolding ahead
-returns-then-not-s-2 c = short c.step-s.new.items c.step-s.new.ends (ap viewed c.step-s.ensures ∙ step_bad c.args.code.now (bytes_of c.args.code.now c.shared_slice_known-1.given) c.requires.1 c.loop-s.invariant.0 c.settle-s.ensures (not-false _ c.if-not-s.false) c.if-place-code.false c.op_at-op.result c.op_at-op.ensures (sym (ap good_of c.step-s.ensures) ∙ not-true _ c.if-not-s-2.true)) (λ g. no-scan g (not-true _ c.if-not-s-2.true))
+pub returns-in_err-step : goal.returns-in_err-step
+returns-in_err-step c = rw c.from_residual-in_err-step.ensures (inl (step_none c.args.code.now (bytes_of c.args.code.now c.type_inv.code) c.loop-place.invariant.0 c.settle.new.self c.settle.ensures.place c.settle.result c.settle.ensures.view c.in_ok-settle.was c.if-place-code.false c.step.result c.step.new.self c.op_at-op.result c.op_at-op.ensures c.step.ensures.view c.in_err-step.was))
 
-pub loop-s-smaller : goal.loop-s-smaller
-loop-s-smaller c = falls c.args.code.now c.loop-s.s.place c.step-s.ensures (further c.args.code.now (bytes_of c.args.code.now c.shared_slice_known-1.given) c.requires.1 c.loop-s.invariant.0 c.settle-s.ensures (not-false _ c.if-not-s.false) c.if-place-code.false c.op_at-op.result c.op_at-op.ensures (sym (ap good_of c.step-s.ensures) ∙ not-false _ c.if-not-s-2.false)) (step_good c.args.code.now (bytes_of c.args.code.now c.shared_slice_known-1.given) c.requires.1 c.loop-s.invariant.0 c.settle-s.ensures (not-false _ c.if-not-s.false) c.if-place-code.false c.op_at-op.result c.op_at-op.ensures (sym (ap good_of c.step-s.ensures) ∙ not-false _ c.if-not-s-2.false))
-
-pub loop-s-preserved : goal.loop-s-preserved
-loop-s-preserved c = (subst (Loop c.args.code.now) (sym c.step-s.ensures) (step_good c.args.code.now (bytes_of c.args.code.now c.shared_slice_known-1.given) c.requires.1 c.loop-s.invariant.0 c.settle-s.ensures (not-false _ c.if-not-s.false) c.if-place-code.false c.op_at-op.result c.op_at-op.ensures (sym (ap good_of c.step-s.ensures) ∙ not-false _ c.if-not-s-2.false)), subst (Counting c.args.code.now c.step-s.result.place) (sym c.counted-since.ensures) (counts_on (here c.loop-s.invariant.1 c.settle-s.ensures.place) c.if-place-code.false (sym c.ends_long.ensures ∙ c.if-ends_long.false) (ap place c.step-s.ensures ∙ onward_by c.args.code.now (bytes_of c.args.code.now c.shared_slice_known-1.given) c.requires.1 c.loop-s.invariant.0 c.settle-s.ensures (not-false _ c.if-not-s.false) c.if-place-code.false c.op_at-op.result c.op_at-op.ensures (sym (ap good_of c.step-s.ensures) ∙ not-false _ c.if-not-s-2.false))))
+pub loop-place-preserved : goal.loop-place-preserved
+loop-place-preserved c = (
+  step_some c.args.code.now (bytes_of c.args.code.now c.type_inv.code) c.loop-place.invariant.0 c.settle.new.self c.settle.ensures.place c.settle.result c.settle.ensures.view c.in_ok-settle.was c.if-place-code.false c.step.result c.step.new.self c.op_at-op.result c.op_at-op.ensures c.step.ensures.view c.in_ok-step.was c.step.ensures.place,
+  let k = number_is c.args.code.now (bytes_of c.args.code.now c.type_inv.code) c.loop-place.invariant.0 c.settle.new.self c.settle.ensures.place c.settle.result c.settle.ensures.view c.in_ok-settle.was c.if-place-code.false c.step.result c.step.new.self c.op_at-op.result c.op_at-op.ensures c.step.ensures.view c.in_ok-step.was c.step.ensures.place in
+      rw (c.counted-since.ensures, k) (counts_on (here c.loop-place.invariant.1 c.settle.ensures.place) c.if-place-code.false (rw k at (sym c.ends_long.ensures ∙ c.if-ends_long.false)) (onward_by c.args.code.now (bytes_of c.args.code.now c.type_inv.code) c.loop-place.invariant.0 c.settle.new.self c.settle.ensures.place c.settle.result c.settle.ensures.view c.in_ok-settle.was c.if-place-code.false c.step.result c.step.new.self c.op_at-op.result c.op_at-op.ensures c.step.ensures.view c.in_ok-step.was c.step.ensures.place)),
+)

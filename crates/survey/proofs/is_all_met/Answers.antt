@@ -1,26 +1,19 @@
 -- `survey::is_all_met` meets its contract. Assumes nothing.
-use mathlib.Core.Path.{refl}
-use native.Mathlib.Omega.{arith}
+use Rattle.std.proofs.Common.{refl, ◌<◌, ◌≤◌, ℕ, subst, sym}
+use lib.ListN.{get_or-map}
+use Rattle.survey.specs.declared.Row.{Row}
+use Rattle.survey.specs.InnerRecords.{needs_of, no_row}
 use Rattle.survey.proofs.Loops.{met_fails, met_again, met_done}
 use Rattle.survey.proofs.is_all_met.Goals as goal
 
-pub loop-i-init : goal.loop-i-init
-loop-i-init c = (omega arith, refl)
+pub loop-row-init : goal.loop-row-init
+loop-row-init c = refl
 
-pub bounds-needs-i : goal.bounds-needs-i
-bounds-needs-i c = c.loop-i-test.true
+pub returns-then-row-commits : goal.returns-then-row-commits
+returns-then-row-commits c = met_fails (needs_of c.args.rows.now) c.args.commits c.loop-row.row-index c.loop-row-test.true c.loop-row.invariant (subst (λ (n : ℕ). c.args.commits < n) (sym (get_or-map (λ (r : Row). r.need) c.args.rows.now c.loop-row.row-index no_row)) c.if-row-commits.true)
 
-pub returns-then-needs-i : goal.returns-then-needs-i
-returns-then-needs-i c = met_fails c.args.needs.now c.args.commits c.loop-i.i c.loop-i-test.true c.loop-i.invariant.1 c.if-needs-i.true
-
-pub overflow_add-i : goal.overflow_add-i
-overflow_add-i c = omega arith
-
-pub loop-i-smaller : goal.loop-i-smaller
-loop-i-smaller c = omega arith
-
-pub loop-i-preserved : goal.loop-i-preserved
-loop-i-preserved c = (omega arith, met_again c.args.needs.now c.args.commits c.loop-i.i c.loop-i-test.true c.loop-i.invariant.1 c.if-needs-i.false)
+pub loop-row-preserved : goal.loop-row-preserved
+loop-row-preserved c = met_again (needs_of c.args.rows.now) c.args.commits c.loop-row.row-index c.loop-row-test.true c.loop-row.invariant (subst (λ (n : ℕ). n ≤ c.args.commits) (sym (get_or-map (λ (r : Row). r.need) c.args.rows.now c.loop-row.row-index no_row)) c.if-row-commits.false)
 
 pub returns : goal.returns
-returns c = met_done c.args.needs.now c.args.commits c.loop-i.i c.loop-i-test.false c.loop-i.invariant.1
+returns c = met_done (needs_of c.args.rows.now) c.args.commits c.loop-row.row-index c.loop-row-test.false c.loop-row.invariant

@@ -1,20 +1,21 @@
--- `survey::is_tidy` meets its contract: test by test. Assumes nothing.
-use mathlib.Core.Path.{sym, ◌∙◌}
-use Rattle.survey.proofs.Yes.{is_false, alike, clash}
-use Rattle.survey.proofs.Records.{tidy_of, is_tidy}
+-- `survey::is_tidy` meets its contract. Assumes nothing.
+use Rattle.std.proofs.Common.{rules, ◌≡◌, ◌∙◌, ℕ, Bool}
+use Rattle.std.proofs.Math.Bool.{and_assoc}
+use Rattle.std.proofs.lemmas.Int.{ints}
+use lib.Dec.{ltb}
+use Rattle.machine.specs.FitTest.{free, uncounted}
+use Rattle.survey.specs.InnerRecords.{zero_from, tidy}
+use Rattle.survey.proofs.Loops.{kept, every_kept, count_kept, every_counted}
+use Rattle.word.specs.Registers.{member}
 use Rattle.survey.proofs.is_tidy.Goals as goal
 
-pub returns-then-not-is_shut : goal.returns-then-not-is_shut
-returns-then-not-is_shut c = is_false _ (λ e. clash (sym c.is_shut.ensures ∙ c.if-not-is_shut.true) (tidy_of c.args.t e).shut)
-
-pub returns-then-not-is_log_free : goal.returns-then-not-is_log_free
-returns-then-not-is_log_free c = is_false _ (λ e. clash (sym c.is_log_free.ensures ∙ c.if-not-is_log_free.true) (tidy_of c.args.t e).readlog)
-
-pub returns-then-not-is_log_free-2 : goal.returns-then-not-is_log_free-2
-returns-then-not-is_log_free-2 c = is_false _ (λ e. clash (sym c.is_log_free-2.ensures ∙ c.if-not-is_log_free-2.true) (tidy_of c.args.t e).writelog)
-
-pub returns-then-not-is_zero_from : goal.returns-then-not-is_zero_from
-returns-then-not-is_zero_from c = is_false _ (λ e. clash (sym c.is_zero_from.ensures ∙ c.if-not-is_zero_from.true) (tidy_of c.args.t e).cells)
-
 pub returns : goal.returns
-returns c = alike _ _ (λ e. is_tidy c.args.t (record { shut = sym c.is_shut.ensures ∙ c.if-not-is_shut.false; readlog = sym c.is_log_free.ensures ∙ c.if-not-is_log_free.false; writelog = sym c.is_log_free-2.ensures ∙ c.if-not-is_log_free-2.false; cells = sym c.is_zero_from.ensures ∙ c.if-not-is_zero_from.false; readcounts = sym c.is_uncounted.ensures ∙ e })) (λ e. c.is_uncounted.ensures ∙ (tidy_of c.args.t e).readcounts)
+unfolding tidy zero_from
+returns c =
+    let t = c.args.t in
+    let below : ℕ → Bool = λ n. ltb n t.height in
+    let readlog : c.holds_everywhere-readlog.result ≡ free (member t.reads) t.readlog = c.holds_everywhere-readlog.ensures (kept (member t.reads) t.readlog) (λ v b h p. search (rules, ints)) ∙ every_kept (member t.reads) t.readlog in
+    let writelog : c.holds_everywhere-writelog.result ≡ free (member t.writes) t.writelog = c.holds_everywhere-writelog.ensures (kept (member t.writes) t.writelog) (λ v b h p. search (rules, ints)) ∙ every_kept (member t.writes) t.writelog in
+    let cells : c.holds_everywhere-cells.result ≡ free below t.cells = c.holds_everywhere-cells.ensures (kept below t.cells) (λ v b h p. search (rules, ints)) ∙ every_kept below t.cells in
+    let counts : c.holds_everywhere-counts.result ≡ uncounted (member t.reads) t.readcounts = c.holds_everywhere-counts.ensures (count_kept (member t.reads) t.readcounts) (λ v b h p. search rules) ∙ every_counted (member t.reads) t.readcounts in
+    rw (readlog, writelog, cells, counts) (simp and_assoc)

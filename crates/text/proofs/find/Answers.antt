@@ -1,15 +1,17 @@
--- `text::find` meets its contract. The loop's invariant: `at` is at most the length, and the byte's first place is not before it. The measure
--- is what is left of the text.
--- Assumes nothing.
-use Rattle.std.proofs.Common.{arith, rules}
-use Rattle.text.proofs.Places.{here, further, nowhere}
+-- `text::find` meets its contract: `position`'s answer, or the length. Assumes nothing.
+use Rattle.std.proofs.Common.{◌≡◌, ℕ, Bool, List, length, unwrap_or, ap, ◌∙◌, eqb, arith, rules, tests}
+use Rattle.std.specs.List.{position_or_len, position}
+use Rattle.std.proofs.lemmas.Iterator.{YieldsList-from_slice}
+use Rattle.std.proofs.lemmas.Iterator.Search.{position_from_yields_List}
+use Rattle.std.proofs.lemmas.List.Sums.{prefix_len-le-length}
 use Rattle.text.proofs.find.Goals as goal
 
-pub returns-then-text-at : goal.returns-then-text-at
-returns-then-text-at c = (here _ _ _ c.loop-at.invariant.1 (omega arith) c.if-text-at.true, search rules)
+unwrapped : (p : ℕ → Bool) (xs : List ℕ) → unwrap_or (position p xs) (length xs) ≡ position_or_len p xs
+unwrapped p xs = grind (arith, prefix_len-le-length)
 
-pub loop-at-preserved : goal.loop-at-preserved
-loop-at-preserved c = (omega arith, further _ _ _ c.loop-at.invariant.1 (omega arith) c.if-text-at.false)
-
-pub returns : goal.returns
-returns c = (nowhere _ _ _ c.loop-at.invariant.1 (omega arith), search rules)
+pub returns-clause-place : goal.returns-clause-place
+returns-clause-place c =
+    c.unwrap_or.ensures
+    ∙ ap (λ o. unwrap_or o (length c.args.text.now))
+    (position_from_yields_List (λ x. eqb x c.args.byte) _ _ _ c.position.ensures.ran (YieldsList-from_slice c.args.text.now cc) (λ x b q k. search (rules, tests)))
+    ∙ unwrapped (λ x. eqb x c.args.byte) c.args.text.now

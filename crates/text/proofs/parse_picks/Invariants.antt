@@ -1,9 +1,7 @@
--- `text::parse_picks` meets its contract. The loop's invariant: picks is as long as it came. The measure is what is left of the list. Assumes nothing.
-use Rattle.std.proofs.Common.{◌≡◌, length}
+-- `text::parse_picks` meets its contract. The loop's invariant: `count` is within picks. Assumes nothing.
+use Rattle.std.proofs.Common.{◌≤◌, length}
 use Rattle.text.proofs.parse_picks.Given as goal
 
-abbrev pub invariant-loop-left : goal.invariant-loop-left
-invariant-loop-left l = length l.picks ≡ length l.initial.picks
-
-abbrev pub decreases-loop-left : goal.decreases-loop-left
-decreases-loop-left l = length l.left
+abbrev pub invariant-loop-word : goal.invariant-loop-word
+invariant-loop-word l =
+    (goal.iterator-loop-word).can_next l.word-iterator × ((goal.iterator-loop-word).is_finite l.word-iterator × (l.count ≤ length l.picks))

@@ -1,14 +1,11 @@
--- `text::part` meets its contract. The loop's invariant: n is at most k, and part n of what is left is part k of the text. The measure is n. Assumes nothing.
-use Rattle.std.proofs.Common.{sym, refl, ap, ◌∙◌, arith}
-use Rattle.text.specs.Texts.{piece}
-use Rattle.text.proofs.Places.{next_piece, last_piece}
+-- `text::part` meets its contract. Assumes nothing.
+use Rattle.std.proofs.Common.{◌≡◌, ℕ, suc, ◌+◌, ◌-◌, List, sym, refl, ap, ◌∙◌, arith}
+use Rattle.text.specs.Texts.{after, piece}
 use Rattle.text.proofs.part.Goals as goal
 
-pub loop-n-init : goal.loop-n-init
-loop-n-init c = (omega arith, refl)
+next_piece : (byte n m : ℕ) (text : List ℕ) → n ≡ suc m → piece byte n text ≡ piece byte m (after byte text)
+next_piece byte n m text e = rw e refl
 
-pub loop-n-preserved : goal.loop-n-preserved
-loop-n-preserved c = (omega arith, c.loop-n.invariant.1 ∙ next_piece _ _ _ (omega arith) ∙ ap (piece _ _) (sym c.behind-next.ensures.0))
-
-pub returns : goal.returns
-returns c = c.before-2.ensures ∙ sym (c.loop-n.invariant.1 ∙ last_piece _ _ _ (omega arith))
+pub loop-step-preserved : goal.loop-step-preserved
+loop-step-preserved c =
+    c.loop-step.invariant ∙ next_piece _ (c.args.k - c.loop-step._step) (c.args.k - (c.loop-step._step + 1)) _ (omega arith) ∙ ap (piece c.args.byte (c.args.k - (c.loop-step._step + 1))) (sym c.behind-left.ensures.after)

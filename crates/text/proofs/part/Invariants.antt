@@ -1,10 +1,7 @@
--- `text::part` meets its contract. The loop's invariant: n is at most k, and part n of what is left is part k of the text. The measure is n. Assumes nothing.
-use Rattle.std.proofs.Common.{◌≡◌, ◌≤◌}
+-- `text::part` meets its contract. The loop's invariant: the part that is still to go of what is left is part k of the text. Assumes nothing.
+use Rattle.std.proofs.Common.{◌≡◌, ◌-◌}
 use Rattle.text.specs.Texts.{piece}
 use Rattle.text.proofs.part.Given as goal
 
-abbrev pub invariant-loop-n : goal.invariant-loop-n
-invariant-loop-n l = (l.n ≤ l.k) × (piece l.byte l.k l.text ≡ piece l.byte l.n l.left)
-
-abbrev pub decreases-loop-n : goal.decreases-loop-n
-decreases-loop-n l = l.n
+abbrev pub invariant-loop-step : goal.invariant-loop-step
+invariant-loop-step l = piece l.byte l.k l.text ≡ piece l.byte (l.k - l._step) l.left

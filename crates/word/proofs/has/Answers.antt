@@ -1,12 +1,12 @@
 -- `word::has` meets its contract. Assumes nothing.
-use mathlib.Core.Path.{sym}
-use native.Mathlib.Omega.{arith}
+use Rattle.std.proofs.Common.{arith, sym}
+use borrow.Author.Tests.{le-ltb}
 use lib.Bits.{and_mask}
 use Rattle.word.proofs.Sets.{member_low, member_high}
 use Rattle.word.proofs.has.Goals as goal
 
-pub returns-then-register-gt63 : goal.returns-then-register-gt63
-returns-then-register-gt63 c = sym (member_high _ _ (omega arith))
+pub returns-then-register-lt64 : goal.returns-then-register-lt64
+returns-then-register-lt64 c = rw (and_mask _ 1) (sym (member_low _ _ (omega arith)))
 
-pub returns : goal.returns
-returns c = rw (and_mask _ 1) (sym (member_low _ _ (omega arith)))
+pub returns-else-register-lt64 : goal.returns-else-register-lt64
+returns-else-register-lt64 c = rw (member_high c.args.set _ c.if-register-lt64.false) (le-ltb _ _ c.if-register-lt64.false)

@@ -8,5 +8,5 @@ use Rattle.word.proofs.insert.Goals as goal
 pub returns-then-register-lt64 : goal.returns-then-register-lt64
 returns-then-register-lt64 c = ap (bit_or c.args.set) (mask c.args.register (omega arith)) ∙ sym (with_low _ _ (omega arith))
 
-pub returns : goal.returns
-returns c = sym (with_high _ _ (omega arith))
+pub returns-else-register-lt64 : goal.returns-else-register-lt64
+returns-else-register-lt64 c = sym (with_high _ _ (omega arith))

@@ -1,25 +1,29 @@
 -- `survey::Survey::judged` meets its contract. Assumes nothing.
-use mathlib.Core.Path.{refl, sym, ◌∙◌}
-use native.Mathlib.Omega.{arith}
-use Rattle.survey.specs.InnerWalk.{first_verdict, row_at, judge_all}
-use Rattle.survey.proofs.Loops.{judge_again, judge_done}
+use mathlib.Core.Path.{◌≡◌, refl, sym, ap, ◌∙◌}
+use Rattle.std.proofs.Common.{◌+◌, rules}
+use Rattle.std.specs.Prelude as std
+use Rattle.survey.specs.InnerRecords.{starts_of, ends_of}
+use Rattle.survey.specs.InnerWalk.{known, verdict_in, first_verdict, row_at, judge_all}
+use Rattle.survey.proofs.Judging.{none_fit, some_known}
+use Rattle.survey.proofs.Loops.{judge_again, judge_done, judge_stays}
 use Rattle.survey.proofs.Survey.judged.Goals as goal
 
-pub loop-i-init : goal.loop-i-init
-loop-i-init c = (omega arith, refl)
+pub loop-row-init : goal.loop-row-init
+loop-row-init c = refl
 
-pub bounds-rows-i : goal.bounds-rows-i
-bounds-rows-i c = c.loop-i-test.true
+pub returns-in_err-verdict : goal.returns-in_err-verdict
+unfolding judge_all first_verdict
+returns-in_err-verdict c =
+    let r : c.from_residual.result ≡ std.None = search rules in
+    let e = sym c.judge.ensures ∙ c.in_err-verdict.was in
+    let g = none_fit _ e in
+    r ∙ (sym e ∙ ap verdict_in (judge_stays c.args.code.now (starts_of c.args.self.now.rows) (ends_of c.args.self.now.rows) (row_at c.args.self.now) (c.loop-row.row-index + 1) _ g ∙ (judge_again c.args.code.now (starts_of c.args.self.now.rows) (ends_of c.args.self.now.rows) (row_at c.args.self.now) c.loop-row.row-index (known c.loop-row.verdict) _ c.loop-row-test.true refl ∙ c.loop-row.invariant)))
 
-pub overflow_add-i : goal.overflow_add-i
-overflow_add-i c = omega arith
-
-pub loop-i-smaller : goal.loop-i-smaller
-loop-i-smaller c = omega arith
-
-pub loop-i-preserved : goal.loop-i-preserved
-loop-i-preserved c = (omega arith, judge_again c.args.code.now c.args.self.starts c.args.self.ends (row_at c.args.self) c.loop-i.i c.loop-i.v c.judge-v.result c.loop-i-test.true c.judge-v.ensures ∙ c.loop-i.invariant.1)
+pub loop-row-preserved : goal.loop-row-preserved
+loop-row-preserved c =
+    let e = some_known _ c.in_ok-verdict.verdict (sym c.judge.ensures ∙ c.in_ok-verdict.was) in
+    judge_again c.args.code.now (starts_of c.args.self.now.rows) (ends_of c.args.self.now.rows) (row_at c.args.self.now) c.loop-row.row-index (known c.loop-row.verdict) (known c.in_ok-verdict.verdict) c.loop-row-test.true (sym e) ∙ c.loop-row.invariant
 
 pub returns : goal.returns
 unfolding judge_all first_verdict
-returns c = sym (judge_done c.args.code.now c.args.self.starts c.args.self.ends (row_at c.args.self) c.loop-i.i c.loop-i.v c.loop-i-test.false) ∙ c.loop-i.invariant.1
+returns c = ap verdict_in (sym (judge_done c.args.code.now (starts_of c.args.self.now.rows) (ends_of c.args.self.now.rows) (row_at c.args.self.now) c.loop-row.row-index (known c.loop-row.verdict) c.loop-row-test.false) ∙ c.loop-row.invariant)

@@ -1,13 +1,9 @@
 -- `survey::Survey::judged` meets its contract. Assumes nothing.
-use Prim.Native.Nat.{◌-◌, ◌≤◌}
-use mathlib.Core.Path.{◌≡◌}
-use lib.ListN.{get_or}
-use Rattle.survey.specs.InnerRecords.{no_row}
+use Rattle.std.proofs.Common.{◌≡◌}
+use Rattle.survey.specs.InnerRecords.{starts_of, ends_of}
+use Rattle.survey.specs.InnerWalk.{row_at, known}
 use Rattle.survey.proofs.Loops.{judge_at}
 use Rattle.survey.proofs.Survey.judged.Given as goal
 
-abbrev pub invariant-loop-i : goal.invariant-loop-i
-invariant-loop-i l = (l.i ≤ 16) × (judge_at l.code l.starts l.ends (λ k. get_or l.rows k no_row) l.i l.v ≡ judge_at l.code l.starts l.ends (λ k. get_or l.rows k no_row) 0 l.initial.v)
-
-abbrev pub decreases-loop-i : goal.decreases-loop-i
-decreases-loop-i l = 16 - l.i
+abbrev pub invariant-loop-row : goal.invariant-loop-row
+invariant-loop-row l = judge_at l.code (starts_of l.self.rows) (ends_of l.self.rows) (row_at l.self) l.row-index (known l.verdict) ≡ judge_at l.code (starts_of l.self.rows) (ends_of l.self.rows) (row_at l.self) 0 (known l.initial.verdict)

@@ -24,4 +24,4 @@ pub returns-then-not-is_tidy : goal.returns-then-not-is_tidy
 returns-then-not-is_tidy c = c.refuse-then-not-is_tidy.ensures ∙ with_untidy c.args.self c.args.counts.now c.args.t (not-false _ c.if-not-self.false) c.if-self-ge16.false c.if-t-eq0.false c.if-self.false (sym c.is_tidy.ensures ∙ c.if-not-is_tidy.true)
 
 pub returns : goal.returns
-returns c = c.put.ensures ∙ (ap (put_to c.args.self c.args.t) c.need-n.ensures ∙ with_put c.args.self c.args.counts.now c.args.t (not-false _ c.if-not-self.false) c.if-self-ge16.false c.if-t-eq0.false c.if-self.false (sym c.is_tidy.ensures ∙ c.if-not-is_tidy.false))
+returns c = c.put.ensures ∙ (ap (put_to c.args.self c.args.t) c.need.ensures ∙ with_put c.args.self c.args.counts.now c.args.t (not-false _ c.if-not-self.false) c.if-self-ge16.false c.if-t-eq0.false c.if-self.false (sym c.is_tidy.ensures ∙ c.if-not-is_tidy.false))

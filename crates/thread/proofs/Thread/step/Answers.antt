@@ -2,21 +2,11 @@ use mathlib.Core.Path.{ap, ◌∙◌}
 use Rattle.thread.specs.InnerStep.{performed, due_op, table_from}
 use Rattle.thread.proofs.Attempts.{due_step}
 use Rattle.word.specs.Sum.{wrapping}
-use borrow.Author.Rules.{rules}
 use Rattle.thread.proofs.Thread.step.Goals as goal
-
-pub act-requires : goal.act-requires
-act-requires c =
-    let a = c.args in
-    record {
-      code = a.code.now;
-      short = search rules;
-      is = c.due-op.ensures ∙ ap (λ n. due_op a.code.now n a.self) c.sized.ensures;
-    }
 
 pub returns : goal.returns
 returns c =
     let a = c.args in
     c.act.ensures
-    ∙ (ap (performed wrapping _ _) (c.due-op.ensures ∙ ap (λ n. due_op a.code.now n a.self) c.sized.ensures)
+    ∙ (ap (performed wrapping _ _) (c.due-op.ensures.is ∙ ap (λ n. due_op a.code.now n a.self) c.sized.ensures)
     ∙ due_step a.code.now (table_from a.registers.now a.counts.now) a.self)

@@ -1,9 +1,0 @@
--- `memory::sum_threads` is safe and ends. The loop's invariant: i is at most 17. The measure is what is left up to there. Assumes nothing.
-use Rattle.std.proofs.Common.{◌-◌, ◌≤◌}
-use Rattle.memory.proofs.sum_threads.Given as goal
-
-abbrev pub invariant-loop-i : goal.invariant-loop-i
-invariant-loop-i l = l.i ≤ 17
-
-abbrev pub decreases-loop-i : goal.decreases-loop-i
-decreases-loop-i l = 17 - l.i

@@ -1,2 +1,0 @@
--- Why `op_at` answers what `op_at` says.
-pub mod Decode

@@ -1,0 +1,2 @@
+-- Refusals and kinds in the papers' numbers.
+pub mod Numbers
