@@ -8,27 +8,20 @@ ghost use Rattle.machine.specs.Answers.{fresh_call, run_call};
 use machine::{FreshReply, RunReply, StepReply};
 use memory::Memory;
 use owned::{Left, Owned};
+use text::Refused;
 
 // What a call answers.
 trait Answer {
-    // number and place of the refusal, if it was refused
-    fn refusal(&self) -> Option<(usize, usize)>;
+    // the refusal, if it was refused
+    fn refusal(&self) -> Option<Refused>;
 
     // writes the answer of a call that was taken
     fn write(&self);
 }
 
-// Number and place of a refusal, number 0 being none.
-fn refusal(number: usize, place: usize) -> Option<(usize, usize)> {
-    if number == 0 {
-        return None;
-    }
-    Some((number, place))
-}
-
 impl Answer for FreshReply {
-    fn refusal(&self) -> Option<(usize, usize)> {
-        refusal(self.refusal, self.place)
+    fn refusal(&self) -> Option<Refused> {
+        Refused::told(self.refusal, self.place)
     }
 
     fn write(&self) {
@@ -37,22 +30,29 @@ impl Answer for FreshReply {
 }
 
 impl Answer for StepReply {
-    fn refusal(&self) -> Option<(usize, usize)> {
-        refusal(self.refusal, self.place)
+    fn refusal(&self) -> Option<Refused> {
+        Refused::told(self.refusal, self.place)
     }
 
     fn write(&self) {
-        text::write_step(self.event, self.register, self.turn, self.over);
+        text::write_number(b"event ", self.event);
+        text::write_number(b" register ", self.register);
+        text::write_number(b" turn ", self.turn);
+        text::write_number(b" over ", self.over);
     }
 }
 
 impl Answer for RunReply {
-    fn refusal(&self) -> Option<(usize, usize)> {
-        refusal(self.refusal, self.place)
+    fn refusal(&self) -> Option<Refused> {
+        Refused::told(self.refusal, self.place)
     }
 
     fn write(&self) {
-        text::write_counts(self.steps, self.idle, self.commits, self.back, self.over);
+        text::write_number(b"steps ", self.steps);
+        text::write_number(b" idle ", self.idle);
+        text::write_number(b" commits ", self.commits);
+        text::write_number(b" back ", self.back);
+        text::write_number(b" over ", self.over);
     }
 }
 
@@ -61,7 +61,7 @@ fn write_left<R: Answer, F: FnOnce(&Owned)>(m: &Memory, left: &Left<R>, write_st
     requires { F.IsAlwaysCallable write_state }
 {
     match left.reply.refusal() {
-        Some((number, place)) => memory::write_refused(number, place, &m.state, &left.state),
+        Some(refused) => memory::write_refused(refused, &m.state, &left.state),
         None => {
             left.reply.write();
             write_state(&left.state);

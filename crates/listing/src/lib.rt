@@ -9,13 +9,13 @@ ghost use Rattle.machine.specs.Answers.{run_of};
 ghost use Rattle.machine.specs.Steps.{fresh, state_from};
 ghost use Rattle.script.specs.Jobs.{Job};
 ghost use Rattle.script.specs.Outcome.{done};
-ghost use Rattle.terms.specs.Numbers.{outcome};
+ghost use Rattle.terms.specs.Numbers.{outcome, reason_number};
 ghost use Rattle.thread.specs.Threads.{exists};
 
 mod page;
 
 use page::Page;
-use terms::Refusal;
+use terms::{Reason, Refusal};
 use thread::Thread;
 
 // The first line: the counts.
@@ -90,7 +90,7 @@ fn put_registers(page: &mut Page, registers: &[i32; 65])
     }
 }
 
-// A refusal.
+// The line of a refusal, from its number and place: a run's reply holds these.
 fn put_refusal(page: &mut Page, number: usize, place: usize)
     requires { page.old ≡ [] }
     ensures { page.new ≡ refusal_line number place }
@@ -98,6 +98,14 @@ fn put_refusal(page: &mut Page, number: usize, place: usize)
     page.put_number(b"refused ", number);
     page.put_number(b" at ", place);
     page.put(b"\n");
+}
+
+// The line of a job's or an input's refusal.
+fn put_refused(page: &mut Page, refusal: Refusal)
+    requires { page.old ≡ [] }
+    ensures { page.new ≡ refusal_line (reason_number refusal.reason) refusal.place }
+{
+    put_refusal(page, usize::from(refusal.reason.number()), refusal.place);
 }
 
 // The listing of a run.
@@ -132,7 +140,7 @@ fn put_job(page: &mut Page, job: &[u8], picks: &[u8])
     let mut code = [0; 5005];
     match compiler::compile(job, &mut code) {
         Ok(length) => put_run(page, &code[..length], picks),
-        Err(refusal) => put_refusal(page, usize::from(refusal.reason.number()), refusal.place),
+        Err(refusal) => put_refused(page, refusal),
     }
 }
 
@@ -142,13 +150,13 @@ fn print(page: &mut Page, input: &[u8])
     ensures { page.new ≡ listed input.now }
 {
     if input.len() < 2 {
-        put_refusal(page, 1, input.len());
+        put_refused(page, Reason::Cut.at(input.len()));
         return;
     }
-    let n = usize::from(word::number16(input[0], input[1]));
+    let n = usize::from(u16::from_be_bytes([input[0], input[1]]));
     let end = n + 2;
     if input.len() < end {
-        put_refusal(page, 1, input.len()); // bytes of the input, not of the job
+        put_refused(page, Reason::Cut.at(input.len())); // bytes of the input, not of the job
         return;
     }
     put_job(page, &input[2..end], &input[end..]);

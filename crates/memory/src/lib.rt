@@ -5,6 +5,7 @@ ghost use Rattle.std.specs.Prelude.{◌≡◌};
 ghost use Rattle.memory.specs.Memories.{sevens, untouched};
 
 use owned::{Lent, Owned};
+use text::Refused;
 use thread::Thread;
 
 #[derive(Clone, Copy)]
@@ -239,7 +240,7 @@ pub fn write_state(state: &Owned) {
 }
 
 // Writes a refusal, and whether the memory is as it was.
-pub fn write_refused(number: usize, place: usize, before: &Owned, after: &Owned) {
-    text::write_refusal(number, place);
+pub fn write_refused(refused: Refused, before: &Owned, after: &Owned) {
+    text::write_refusal(refused);
     text::write_kept(same(before, after));
 }

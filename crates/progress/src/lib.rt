@@ -82,9 +82,9 @@ impl Progress {
     fn after(self, event: Event, over: usize) -> Progress
         ensures { result ≡ advanced_to (event_number (shown_event event)) (event_register (shown_event event)) (turn_number (shown_event event)) over self }
     {
-        let steps = word::saturating_add(self.steps, 1);
+        let steps = self.steps.saturating_add(1);
         let next = Progress {
-            over: word::saturating_add(self.over, over),
+            over: self.over.saturating_add(over),
             event: event.number(),
             register: event.register(),
             turn: usize::from(event.is_turn()),
@@ -92,22 +92,22 @@ impl Progress {
         };
         match event {
             Event::Idle => Progress {
-                idle: word::saturating_add(self.idle, 1),
+                idle: self.idle.saturating_add(1),
                 ..next
             },
             Event::Forked(_) => Progress {
                 steps,
-                threads: word::saturating_add(self.threads, 1),
+                threads: self.threads.saturating_add(1),
                 ..next
             },
             Event::Committed => Progress {
                 steps,
-                commits: word::saturating_add(self.commits, 1),
+                commits: self.commits.saturating_add(1),
                 ..next
             },
             Event::SentBack(_) => Progress {
                 steps,
-                back: word::saturating_add(self.back, 1),
+                back: self.back.saturating_add(1),
                 ..next
             },
             Event::Pushed | Event::Summed(_) | Event::Begun | Event::Looked(_) | Event::Wrote => {
@@ -235,7 +235,7 @@ pub fn fresh_admitted(
     Ok(())
 }
 
-// The answer of `fresh`.
+// The answer of `fresh`: the number and the place of a refusal, or 0 and 0.
 pub fn fresh_reply(answer: Result<(), Refusal>) -> machine::FreshReply
     ensures { result ≡ fresh_reply_of (outcome answer) }
 {
@@ -251,52 +251,35 @@ pub fn fresh_reply(answer: Result<(), Refusal>) -> machine::FreshReply
     }
 }
 
-// The answer of `step`.
+// The answer of `step`. One that is refused has the numbers of no pick.
 pub fn step_reply(answer: Result<Progress, Refusal>) -> machine::StepReply
     ensures { result ≡ step_reply_of (outcome answer) }
 {
-    match answer {
-        Ok(p) => machine::StepReply {
-            refusal: 0,
-            place: 0,
-            event: p.event,
-            register: p.register,
-            turn: p.turn,
-            over: p.over,
-        },
-        Err(refusal) => machine::StepReply {
-            refusal: usize::from(refusal.reason.number()),
-            place: refusal.place,
-            event: 0,
-            register: 0,
-            turn: 0,
-            over: 0,
-        },
+    let told = fresh_reply(answer.map(|_| ()));
+    let p = answer.unwrap_or(Progress::beginning(0));
+    machine::StepReply {
+        refusal: told.refusal,
+        place: told.place,
+        event: p.event,
+        register: p.register,
+        turn: p.turn,
+        over: p.over,
     }
 }
 
-// The answer of `run`.
+// The answer of `run`. One that is refused has the numbers of no pick.
 pub fn run_reply(answer: Result<Progress, Refusal>) -> machine::RunReply
     ensures { result ≡ run_reply_of (outcome answer) }
 {
-    match answer {
-        Ok(p) => machine::RunReply {
-            refusal: 0,
-            place: 0,
-            steps: p.steps,
-            idle: p.idle,
-            commits: p.commits,
-            back: p.back,
-            over: p.over,
-        },
-        Err(refusal) => machine::RunReply {
-            refusal: usize::from(refusal.reason.number()),
-            place: refusal.place,
-            steps: 0,
-            idle: 0,
-            commits: 0,
-            back: 0,
-            over: 0,
-        },
+    let told = fresh_reply(answer.map(|_| ()));
+    let p = answer.unwrap_or(Progress::beginning(0));
+    machine::RunReply {
+        refusal: told.refusal,
+        place: told.place,
+        steps: p.steps,
+        idle: p.idle,
+        commits: p.commits,
+        back: p.back,
+        over: p.over,
     }
 }

@@ -2,17 +2,18 @@
 use Prim.Native.Nat.{ℕ, zero, suc, ◌+◌, ◌-◌, ◌≤◌, ◌<◌}
 use mathlib.Core.Bool.{Bool, true, false, ◌&&◌, ◌||◌}
 use mathlib.Core.Path.{◌≡◌, refl, sym, ap, ◌∙◌}
-use mathlib.Core.List.{List}
+use mathlib.Core.List.{List, [], ◌∷◌}
 use native.Mathlib.Numerals.{add-one}
 use native.Mathlib.Omega.{arith}
-use borrow.Author.Tests.{le-leb, lt-leb, ne_eqb}
 use lib.Dec.{eqb, leb}
 use lib.IntN.{ℤ, pos}
-use lib.ListN.{get_or}
+use lib.ListN.{length, drop, get_or, get_or-map, drop_of_length-le}
+use lib.Seq.{drop-cons}
+use Rattle.std.specs.List.{list_all, enumerate_from}
 use Rattle.machine.specs.Steps.{Child}
 use Rattle.std.proofs.Math.Bool.{and_assoc, and-true}
 use Rattle.machine.specs.FitTest.{free, free_from, is_zero, same, uncounted, uncounted_from, within_from, at_most_from}
-use Rattle.survey.specs.InnerRecords.{every}
+use Rattle.survey.specs.InnerRecords.{every, needs_of, starts_of, no_row}
 use Rattle.survey.specs.declared.Row.{Row}
 use Rattle.survey.specs.declared.Asked.{Asked}
 use Rattle.survey.specs.InnerWalk.{Finding, own_at, noted, asks, judge_to, judge_from, all_asked, all_met}
@@ -76,49 +77,41 @@ unfolding at_most_from
 every_most ns most = every_as (not_above ns most) (λ left v. at_most_from left v ns most) (λ v. refl) (λ left v. refl) 64 0
 
 -- ---- threads that were asked for
-module _ (starts : List ℕ) (asked : ℕ) where
-  abbrev pub wanted : ℕ → Bool
-  wanted i = eqb (get_or starts i 0) 0 || member asked i
+module _ (rows : List Row) (asked : ℕ) where
+  abbrev pub wanted : ℕ × Row → Bool
+  wanted p = eqb p.1.start 0 || member asked p.0
 
-  abbrev pub asked_at : ℕ → Bool
-  asked_at i = all_asked (16 - i) i starts asked
-
-  asked_step : (i : ℕ) → i < 16 → asked_at i ≡ (wanted i && asked_at (i + 1))
+  asked_from : (left i : ℕ) → i + left ≡ length rows → all_asked left i (starts_of rows) asked ≡ list_all wanted (enumerate_from i (drop i rows))
   unfolding all_asked
-  asked_step i h =
-      ap (λ (k : ℕ). all_asked k i starts asked) (fewer 16 i h) ∙ ap (λ (j : ℕ). wanted i && all_asked (16 - (i + 1)) j starts asked) (sym (add-one i))
+  asked_from zero i e = rw (drop_of_length-le rows {i = i} (omega arith))
+  asked_from (suc left) i e =
+      ap (λ (n : ℕ). (eqb n 0 || member asked i) && all_asked left (suc i) (starts_of rows) asked) (get_or-map (λ (r : Row). r.start) rows i no_row)
+      ∙ (ap (wanted (i, get_or rows i no_row) &&◌) (asked_from left (suc i) (omega arith))
+      ∙ (ap (λ (j : ℕ). wanted (i, get_or rows i no_row) && list_all wanted (enumerate_from j (drop (suc i) rows))) (sym (add-one i))
+      ∙ ap (λ (l : List Row). list_all wanted (enumerate_from i l)) (sym (drop-cons rows i no_row (omega arith)))))
 
-  pub asked_fails : (i : ℕ) → i < 16 → asked_at i ≡ asked_at 1 → (get_or starts i 0 ≡ 0 → ⊥) → member asked i ≡ false → false ≡ asked_at 1
-  asked_fails i h inv n k =
-      let e : wanted i ≡ false = rw (ne_eqb (get_or starts i 0) 0 n, k) in
-      sym (asked_step i h ∙ ap (λ (b : Bool). b && asked_at (i + 1)) e) ∙ inv
-
-  pub asked_again : (i : ℕ) → i < 16 → asked_at i ≡ asked_at 1 → wanted i ≡ true → asked_at (i + 1) ≡ asked_at 1
-  asked_again i h inv k = sym (asked_step i h ∙ ap (λ (b : Bool). b && asked_at (i + 1)) k) ∙ inv
-
-  pub asked_done : (i : ℕ) → 16 ≤ i → asked_at i ≡ asked_at 1 → true ≡ asked_at 1
-  unfolding all_asked
-  asked_done i h inv = sym (ap (λ (k : ℕ). all_asked k i starts asked) (none_left 16 i h)) ∙ inv
+  pub asked_by_all : length rows ≡ 16 → all_asked 15 1 (starts_of rows) asked ≡ list_all wanted (drop 1 (enumerate_from 0 rows))
+  asked_by_all h = asked_from 15 1 (sym h) ∙ ap (list_all wanted) (skipped rows)
+    where
+      skipped : (l : List Row) → enumerate_from 1 (drop 1 l) ≡ drop 1 (enumerate_from 0 l)
+      skipped [] = refl
+      skipped (r ∷ l) = refl
 
 -- ---- records for which the COMMITs passed are enough
-module _ (needs : List ℕ) (commits : ℕ) where
-  abbrev pub met_at : ℕ → Bool
-  met_at i = all_met (16 - i) i needs commits
+module _ (rows : List Row) (commits : ℕ) where
+  abbrev pub enough : Row → Bool
+  enough r = leb r.need commits
 
-  met_step : (i : ℕ) → i < 16 → met_at i ≡ (leb (get_or needs i 0) commits && met_at (i + 1))
+  met_from : (left i : ℕ) → i + left ≡ length rows → all_met left i (needs_of rows) commits ≡ list_all enough (drop i rows)
   unfolding all_met
-  met_step i h =
-      ap (λ (k : ℕ). all_met k i needs commits) (fewer 16 i h) ∙ ap (λ (j : ℕ). leb (get_or needs i 0) commits && all_met (16 - (i + 1)) j needs commits) (sym (add-one i))
+  met_from zero i e = rw (drop_of_length-le rows {i = i} (omega arith))
+  met_from (suc left) i e =
+      ap (λ (n : ℕ). leb n commits && all_met left (suc i) (needs_of rows) commits) (get_or-map (λ (r : Row). r.need) rows i no_row)
+      ∙ (ap (enough (get_or rows i no_row) &&◌) (met_from left (suc i) (omega arith))
+      ∙ ap (list_all enough) (sym (drop-cons rows i no_row (omega arith))))
 
-  pub met_fails : (i : ℕ) → i < 16 → met_at i ≡ met_at 0 → commits < get_or needs i 0 → false ≡ met_at 0
-  met_fails i h inv k = sym (met_step i h ∙ ap (λ (b : Bool). b && met_at (i + 1)) (lt-leb (get_or needs i 0) commits k)) ∙ inv
-
-  pub met_again : (i : ℕ) → i < 16 → met_at i ≡ met_at 0 → get_or needs i 0 ≤ commits → met_at (i + 1) ≡ met_at 0
-  met_again i h inv k = sym (met_step i h ∙ ap (λ (b : Bool). b && met_at (i + 1)) (le-leb (get_or needs i 0) commits k)) ∙ inv
-
-  pub met_done : (i : ℕ) → 16 ≤ i → met_at i ≡ met_at 0 → true ≡ met_at 0
-  unfolding all_met
-  met_done i h inv = sym (ap (λ (k : ℕ). all_met k i needs commits) (none_left 16 i h)) ∙ inv
+  pub met_by_all : length rows ≡ 16 → all_met 16 0 (needs_of rows) commits ≡ list_all enough rows
+  met_by_all h = met_from 16 0 (sym h)
 
 -- ---- records that have a child code
 noted_few : (a : Asked) (i : ℕ) (hit : Bool) → a.number ≤ i → (noted a i hit).number ≤ i + 1

@@ -26,6 +26,13 @@ pub struct Number {
     pub value: u64,
 }
 
+// A refusal: its number in the papers, and the place.
+#[derive(Clone, Copy, Debug, PartialEq, Eq)]
+pub struct Refused {
+    pub number: usize,
+    pub place: usize,
+}
+
 // Room for so many bytes. The contract has the length, so that no caller's proof computes it.
 pub fn room<const N: usize>() -> [u8; N]
     ensures zero { result ≡ zeros N }
@@ -65,11 +72,9 @@ pub fn behind<'a>(text: &'a [u8], byte: u8) -> &'a [u8]
 pub fn part<'a>(text: &'a [u8], byte: u8, k: u8) -> &'a [u8]
     ensures { result.now ≡ piece byte k text.now }
 {
-    let mut left = text;
-    for _step in 0..k {
-        left = behind(left, byte);
-    }
-    before(left, byte)
+    text.split(|other| *other == byte)
+        .nth(usize::from(k))
+        .unwrap_or(b"")
 }
 
 // Whether the byte stands in the text.
@@ -197,6 +202,7 @@ fn pair(high: u8, low: u8) -> Option<u8> {
 }
 
 // Puts the bytes that the text spells in hex at the start of out, and answers how many they are; none where the text is not well formed or they have no room.
+// It answers the count and no slice: picks are put behind the bytes, into the same room.
 pub fn parse_hex(text: &[u8], out: &mut [u8]) -> Option<usize>
     ensures { IfSome result (λ count. IsPrefixLen count out.new) }
 {
@@ -302,9 +308,19 @@ pub fn write_signed(word: &[u8], n: i32) {
     io::print_decimal(1, u64::from(n.unsigned_abs()));
 }
 
-pub fn write_refusal(number: usize, place: usize) {
-    write_number(b"refused ", number);
-    write_number(b" at ", place);
+impl Refused {
+    // The refusal with this number, 0 being none.
+    pub fn told(number: usize, place: usize) -> Option<Refused> {
+        if number == 0 {
+            return None;
+        }
+        Some(Refused { number, place })
+    }
+}
+
+pub fn write_refusal(refused: Refused) {
+    write_number(b"refused ", refused.number);
+    write_number(b" at ", refused.place);
 }
 
 // Writes what a line comes to that is no case.
@@ -329,21 +345,4 @@ pub fn write_label(line: &[u8]) {
 
 pub fn write_end() {
     write(b"\n");
-}
-
-// Writes the numbers of a step's answer.
-pub fn write_step(event: usize, register: usize, turn: usize, over: usize) {
-    write_number(b"event ", event);
-    write_number(b" register ", register);
-    write_number(b" turn ", turn);
-    write_number(b" over ", over);
-}
-
-// Writes the counts of a run's answer.
-pub fn write_counts(steps: usize, idle: usize, commits: usize, back: usize, over: usize) {
-    write_number(b"steps ", steps);
-    write_number(b" idle ", idle);
-    write_number(b" commits ", commits);
-    write_number(b" back ", back);
-    write_number(b" over ", over);
 }

@@ -52,22 +52,26 @@ fn command(line: &[u8]) -> &[u8] {
     text::before(label, b' ')
 }
 
-// Runs the case of a line. What is run is chosen here.
+// Runs the case of a line. This match alone tells the commands apart.
 fn run_case(line: &[u8]) {
     let label = text::before(line, b':');
     let body = text::behind(line, b':');
     match command(line) {
-        b"job" => outputs::run_case(outputs::Command::Job, label, body),
-        b"forecast" => outputs::run_case(outputs::Command::Forecast, label, body),
-        b"compile" => outputs::run_case(outputs::Command::Compile, label, body),
-        b"back" => outputs::run_case(outputs::Command::Back, label, body),
-        b"formula" => outputs::run_case(outputs::Command::Formula, label, body),
-        b"report" => outputs::run_case(outputs::Command::Report, label, body),
-        b"fresh" => states::run_case(states::Command::Fresh, body),
-        b"step" => states::run_case(states::Command::Step, body),
-        b"run" => states::run_case(states::Command::Run, body),
-        b"cut" => states::run_case(states::Command::Cut, body),
-        b"calls" => states::run_case(states::Command::Calls, body),
+        b"job" => outputs::run_bytes(body, outputs::write_reading),
+        b"forecast" => outputs::run_bytes(body, outputs::write_forecast),
+        b"compile" => outputs::run_output(label, body, compiler::compile, outputs::write_code),
+        b"back" => outputs::run_output(label, body, compiler::read_back, outputs::write_job),
+        b"formula" => outputs::run_output(label, body, formula::formula, outputs::write_job),
+        b"report" => outputs::run_output(label, body, listing::report, outputs::write_printed),
+        b"fresh" => states::run_picks(
+            body,
+            states::untouched,
+            |code, m, _picks| calls::run_fresh(code, m),
+        ),
+        b"step" => states::run_picks(body, states::set_up, calls::run_step),
+        b"run" => states::run_picks(body, states::set_up, calls::run_run),
+        b"cut" => states::run_picks(body, states::set_up, calls::run_cut),
+        b"calls" => states::run_lists(body),
         _ => text::write_malformed(),
     }
 }

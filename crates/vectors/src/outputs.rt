@@ -1,16 +1,6 @@
 // The commands that take bytes.
-use forecast::ForecastReply;
 use terms::Refusal;
-
-#[derive(Clone, Copy, Debug, PartialEq, Eq)]
-pub enum Command {
-    Job,
-    Forecast,
-    Compile,
-    Back,
-    Formula,
-    Report,
-}
+use text::Refused;
 
 // What an output is full of beforehand.
 const FILLER: u8 = 0xAA;
@@ -24,7 +14,7 @@ fn write_rest(rest: &[u8]) {
 }
 
 // Writes what is printed, all its lines in one line.
-fn write_printed(lines: &[u8]) {
+pub fn write_printed(lines: &[u8]) {
     text::write(b"prints");
     for line in lines.split_inclusive(|byte| *byte == b'\n') {
         text::write(b" ");
@@ -35,19 +25,28 @@ fn write_printed(lines: &[u8]) {
     }
 }
 
-// Writes bytes behind a word.
-fn write_bytes(word: &[u8], bytes: &[u8]) {
-    text::write(word);
-    text::write_bytes(bytes);
+// Writes code that is a result.
+pub fn write_code(code: &[u8]) {
+    text::write(b"code ");
+    text::write_bytes(code);
+}
+
+// Writes a job that is a result.
+pub fn write_job(job: &[u8]) {
+    text::write(b"job ");
+    text::write_bytes(job);
 }
 
 // Writes a refusal in the papers' numbers.
 fn write_refusal(refusal: Refusal) {
-    text::write_refusal(usize::from(refusal.reason.number()), refusal.place);
+    text::write_refusal(Refused {
+        number: usize::from(refusal.reason.number()),
+        place: refusal.place,
+    });
 }
 
 // Writes a job's version and the length of its code, or why it is none.
-fn write_reading(bytes: &[u8]) {
+pub fn write_reading(bytes: &[u8]) {
     match job::read_job(bytes) {
         Ok(accepted) => {
             text::write_number(b"accepted version ", usize::from(accepted.version));
@@ -57,10 +56,11 @@ fn write_reading(bytes: &[u8]) {
     }
 }
 
-// Writes a forecast, or why there is none.
-fn write_forecast(told: &ForecastReply) {
-    if told.refusal != 0 {
-        text::write_refusal(told.refusal, told.place);
+// Writes the forecast of a job, or why there is none.
+pub fn write_forecast(bytes: &[u8]) {
+    let told = forecast::forecast(bytes);
+    if let Some(refused) = Refused::told(told.refusal, told.place) {
+        text::write_refusal(refused);
         return;
     }
     text::write_number(b"code ", told.length);
@@ -77,9 +77,29 @@ fn write_forecast(told: &ForecastReply) {
     }
 }
 
-// Writes the answer of a call on an output of this size, the result as `write_result` does, and what the call made of what lies behind it.
-fn run_output<C: FnOnce(&mut [u8]) -> Result<usize, Refusal>, W: FnOnce(&[u8])>(
+// Puts the bytes that the text spells into `space`, in hex and behind a ';' as picks, and answers them.
+fn parse<'a>(text: &[u8], space: &'a mut [u8]) -> Option<&'a [u8]> {
+    let count = text::parse_hex(text::before(text, b';'), space)?;
+    let picks = text::parse_picks(text::behind(text, b';'), &mut space[count..])?;
+    Some(text::front(space, count.checked_add(picks)?))
+}
+
+// Runs a command on the bytes that the text spells.
+pub fn run_bytes<C: FnOnce(&[u8])>(text: &[u8], call: C)
+    requires { C.IsAlwaysCallable call }
+{
+    let mut space = text::room::<{ super::ROOM }>();
+    match parse(text, &mut space) {
+        Some(bytes) => call(bytes),
+        None => text::write_malformed(),
+    }
+}
+
+// Runs a call on the bytes that the text spells and an output, whose size is the label's second word. Writes the result as `write_result` does, and what the
+// call made of what lies behind it.
+pub fn run_output<C: FnOnce(&[u8], &mut [u8]) -> Result<usize, Refusal>, W: FnOnce(&[u8])>(
     label: &[u8],
+    text: &[u8],
     call: C,
     write_result: W,
 )
@@ -90,11 +110,16 @@ fn run_output<C: FnOnce(&mut [u8]) -> Result<usize, Refusal>, W: FnOnce(&[u8])>(
         text::write_malformed();
         return;
     };
+    let mut given = text::room::<{ super::ROOM }>();
+    let Some(bytes) = parse(text, &mut given) else {
+        text::write_malformed();
+        return;
+    };
     let mut space = text::room::<{ super::ROOM }>();
     let n = text::within(size, &space);
     let out = &mut space[..n];
     out.fill(FILLER);
-    match call(out) {
+    match call(bytes, out) {
         Ok(length) => {
             if length > out.len() {
                 text::write(b"beyond the output");
@@ -107,42 +132,5 @@ fn run_output<C: FnOnce(&mut [u8]) -> Result<usize, Refusal>, W: FnOnce(&[u8])>(
             write_refusal(refusal);
             write_rest(out);
         }
-    }
-}
-
-// Puts the bytes that the text spells at the start of `space`, in hex and behind a ';' as picks, and answers how many they are.
-fn parse(text: &[u8], space: &mut [u8]) -> Option<usize> {
-    let count = text::parse_hex(text::before(text, b';'), space)?;
-    let picks = text::parse_picks(text::behind(text, b';'), &mut space[count..])?;
-    count.checked_add(picks)
-}
-
-// Runs the command of a label on the bytes that the text spells. The label's second word is the size of an output.
-pub fn run_case(command: Command, label: &[u8], text: &[u8]) {
-    let mut space = text::room::<{ super::ROOM }>();
-    let Some(count) = parse(text, &mut space) else {
-        text::write_malformed();
-        return;
-    };
-    let bytes = text::front(&space, count);
-    match command {
-        Command::Job => write_reading(bytes),
-        Command::Forecast => write_forecast(&forecast::forecast(bytes)),
-        Command::Compile => run_output(
-            label,
-            |out| compiler::compile(bytes, out),
-            |code| write_bytes(b"code ", code),
-        ),
-        Command::Back => run_output(
-            label,
-            |out| compiler::read_back(bytes, out),
-            |job| write_bytes(b"job ", job),
-        ),
-        Command::Formula => run_output(
-            label,
-            |out| formula::formula(bytes, out),
-            |job| write_bytes(b"job ", job),
-        ),
-        Command::Report => run_output(label, |out| listing::report(bytes, out), write_printed),
     }
 }

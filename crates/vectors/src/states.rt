@@ -1,15 +1,6 @@
 // The commands that run calls on a state.
 use memory::Memory;
 
-#[derive(Clone, Copy, Debug, PartialEq, Eq)]
-pub enum Command {
-    Fresh,
-    Step,
-    Run,
-    Cut,
-    Calls,
-}
-
 // ---- the code
 
 // Compiles the job that the text spells into `code`, and answers how long the code is.
@@ -55,61 +46,72 @@ fn run_next(code: &[u8], m: Memory, list: &[u8]) -> Memory {
 }
 
 // The calls of `calls`, one for each list, and what the last leaves.
-fn run_calls(code: &[u8], m: Memory, lists: &[u8]) {
+fn run_calls(code: &[u8], m: Memory, lists: &[u8]) -> Option<()> {
     let mut after = run_next(code, m, text::before(lists, b'|'));
     for list in text::behind(lists, b'|').split_inclusive(|byte| *byte == b'|') {
         text::write(b" | ");
         after = run_next(code, after, text::before(list, b'|'));
     }
     memory::write_state(&after.state);
+    Some(())
 }
 
 // ---- the case
 
+// The memory with nothing laid down, whatever the list.
+pub fn untouched(_code: &[u8], _list: &[u8]) -> Option<Memory> {
+    Some(memory::filled())
+}
+
 // A fresh state and the picks that the list spells.
-fn set_up(code: &[u8], list: &[u8]) -> Option<Memory> {
+pub fn set_up(code: &[u8], list: &[u8]) -> Option<Memory> {
     let mut picks = text::room::<{ super::ROOM }>();
     let count = text::parse_picks(list, &mut picks)?;
     Some(calls::begun(code, memory::filled(), &picks[..count]))
 }
 
-// The memory with the setup and the changes of a line's body.
-fn prepared(command: Command, code: &[u8], body: &[u8]) -> Option<Memory> {
-    let m = match command {
-        Command::Fresh => memory::filled(),
-        _ => set_up(code, text::part(body, b';', 1))?,
-    };
-    m.with_all(text::part(body, b';', 2))
-}
-
-// Runs the case of a line's body; none where the body is malformed.
-fn run_body(command: Command, body: &[u8]) -> Option<()> {
+// Runs a call on what is set up from a line's body: the code, the memory with the changes, and the text of the picks; none where the body is malformed.
+fn run_body<
+    S: FnOnce(&[u8], &[u8]) -> Option<Memory>,
+    C: FnOnce(&[u8], Memory, &[u8]) -> Option<()>,
+>(body: &[u8], set_up: S, call: C) -> Option<()>
+    requires set_up { S.IsAlwaysCallable set_up }
+    requires call { C.IsAlwaysCallable call }
+{
     let mut space = text::room::<{ super::ROOM }>();
     let length = load(text::before(body, b';'), &mut space)?;
     let n = text::within(length, &space);
     let code = &mut space[..n];
-    let m = prepared(command, code, body)?;
+    let m = set_up(code, text::part(body, b';', 1))?.with_all(text::part(body, b';', 2))?;
     change_code(code, text::part(body, b';', 2))?;
-    let lists = text::part(body, b';', 3);
-    if command == Command::Calls {
-        run_calls(code, m, lists);
-        return Some(());
-    }
-    let mut room = text::room::<{ super::ROOM }>();
-    let count = text::parse_picks(lists, &mut room)?;
-    let picks = &room[..count];
-    match command {
-        Command::Fresh => calls::run_fresh(code, m),
-        Command::Step => calls::run_step(code, m, picks),
-        Command::Run => calls::run_run(code, m, picks),
-        _ => calls::run_cut(code, m, picks),
-    }
-    Some(())
+    call(code, m, text::part(body, b';', 3))
 }
 
-// Runs the case of a line's body, or says that it is malformed.
-pub fn run_case(command: Command, body: &[u8]) {
-    if run_body(command, body).is_none() {
+// Writes that the case is malformed, if nothing else came of it.
+fn write_none(done: Option<()>) {
+    if done.is_none() {
         text::write_malformed();
     }
+}
+
+// Runs a call of the picks that a line's body spells, on the memory that `set_up` makes.
+pub fn run_picks<S: FnOnce(&[u8], &[u8]) -> Option<Memory>, C: FnOnce(&[u8], Memory, &[u8])>(
+    body: &[u8],
+    set_up: S,
+    call: C,
+)
+    requires set_up { S.IsAlwaysCallable set_up }
+    requires call { C.IsAlwaysCallable call }
+{
+    write_none(run_body(body, set_up, |code, m, list| {
+        let mut picks = text::room::<{ super::ROOM }>();
+        let count = text::parse_picks(list, &mut picks)?;
+        call(code, m, &picks[..count]);
+        Some(())
+    }));
+}
+
+// Runs the calls of the lists of picks in a line's body.
+pub fn run_lists(body: &[u8]) {
+    write_none(run_body(body, set_up, run_calls));
 }

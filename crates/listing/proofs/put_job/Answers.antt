@@ -5,7 +5,6 @@ use lib.ListN.{length, length-replicate}
 use Rattle.code.specs.Reader.{read_code}
 use Rattle.script.proofs.Numbers.{bytes_of}
 use Rattle.terms.specs.Numbers.{outcome}
-use Rattle.listing.specs.Listed.{refusal_line}
 use Rattle.listing.proofs.Jobs.{refused_job, coded, coded_run, code_within}
 use Rattle.listing.proofs.put_job.Goals as goal
 
@@ -19,7 +18,7 @@ pub put_run-requires-clause-accepted : goal.put_run-requires-clause-accepted
 put_run-requires-clause-accepted c = let k = coded _ _ (bytes_of _ c.type_inv.job) (length-replicate {A = ℕ} 5005 0) _ _ c.compile.ensures _ (ap outcome c.in-Ok.is) in (k.job, ap read_code k.front ∙ k.read)
 
 pub returns-in-Err : goal.returns-in-Err
-returns-in-Err c = c.put_refusal.ensures ∙ ap (λ (n : ℕ). refusal_line n c.in-Err.refusal.place) (c.from.ensures ∙ c.number.ensures) ∙ refused_job _ _ (bytes_of _ c.type_inv.job) (length-replicate {A = ℕ} 5005 0) _ _ c.compile.ensures _ _ _ (ap outcome c.in-Err.is)
+returns-in-Err c = c.put_refused.ensures ∙ refused_job _ _ (bytes_of _ c.type_inv.job) (length-replicate {A = ℕ} 5005 0) _ _ c.compile.ensures _ _ _ (ap outcome c.in-Err.is)
 
 pub returns-in-Ok : goal.returns-in-Ok
 returns-in-Ok c = let k = coded _ _ (bytes_of _ c.type_inv.job) (length-replicate {A = ℕ} 5005 0) _ _ c.compile.ensures _ (ap outcome c.in-Ok.is) in c.put_run.ensures ∙ coded_run _ _ _ k

@@ -1,16 +1,13 @@
 -- `formula::Job::join` meets its contract. Assumes nothing.
 use native.Mathlib.Omega.{arith}
-use mathlib.Core.Path.{◌≡◌, refl}
 use Rattle.script.specs.InnerTrees.{kind_in}
-use Rattle.terms.specs.Numbers.{kind_number}
 use Rattle.parsing.proofs.Moves.{put_before, put_none}
 use Rattle.formula.proofs.Job.join.Goals as goal
-use Rattle.formula.proofs.Job.join.Goals.{then-inside, else-inside, else-adds-gt0-via-then-adds-gt0+else-self-le3009, else-adds-gt0-via-else-adds-gt0}
+use Rattle.formula.proofs.Job.join.Goals.{else-adds-gt0-via-then-adds-gt0+else-self-le3009, else-adds-gt0-via-else-adds-gt0}
 
 pub returns-then-self-le3009-clause-written : goal.returns-then-self-le3009-clause-written
 returns-then-self-le3009-clause-written c = λ h.
-    let k : kind_number c.if-inside.kind ≡ kind_in c.args.inside 2 = elim c.if-inside.branch [ then-inside w ↦ rw (w.kind-is, w.if-inside.true) refl | else-inside w ↦ rw (w.kind-is, w.if-inside.false) refl ] in
-    rw (← k) (rw c.byte.ensures at (put_before c.args.start c.args.self.now.size c.args.adds c.byte.result c.args.self.now.bytes c.shift.new.out c.fill.new.self c.requires.0 h c.shift.auto.out c.shift.ensures (c.fill.ensures.after (λ y e. e))))
+    rw (← c.kind_in.ensures) (rw c.byte.ensures at (put_before c.args.start c.args.self.now.size c.args.adds c.byte.result c.args.self.now.bytes c.shift.new.out c.fill.new.self c.requires.0 h c.shift.auto.out c.shift.ensures (c.fill.ensures.after (λ y e. e))))
 
 pub returns-else-adds-gt0-clause-written : goal.returns-else-adds-gt0-clause-written
 returns-else-adds-gt0-clause-written c = λ h.
