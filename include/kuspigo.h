@@ -113,15 +113,15 @@ static inline const char *kuspigo_refusal_sentence(size_t refusal) {
 #define KUSPIGO_MOST_PICKS 32768
 
 /* Bytes of stack that a call takes at most, as measured on x86-64, with the return address and the arguments that lie
- * there. A formula takes most with 64 open, compiling and the report at depth 64; for one node compiling takes 216. */
+ * there. A formula takes most with 64 open, compiling and the report at depth 64; for one node compiling takes 344. */
 #define KUSPIGO_STACK_FORMULA 11472
 #define KUSPIGO_STACK_FORECAST 536
 #define KUSPIGO_STACK_COMPILE 3168
-#define KUSPIGO_STACK_READ_BACK 1224
-#define KUSPIGO_STACK_REPORT 162384
+#define KUSPIGO_STACK_READ_BACK 856
+#define KUSPIGO_STACK_REPORT 91592
 #define KUSPIGO_STACK_FRESH 472
-#define KUSPIGO_STACK_STEP 6312
-#define KUSPIGO_STACK_RUN 6328
+#define KUSPIGO_STACK_STEP 4344
+#define KUSPIGO_STACK_RUN 4360
 
 /* A thread's record. Places count from the code's first byte, so 0 is no place. A record of no thread is 0 throughout. */
 typedef struct kuspigo_thread {

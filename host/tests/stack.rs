@@ -21,7 +21,7 @@ const MOST_NODES: usize = 1_000;
 
 /// As the calling convention aligns one.
 #[repr(align(16))]
-struct Stack([u8; 1 << 18]);
+struct Stack([u8; 1 << 17]);
 
 /// Words that are passed in registers.
 const IN_REGISTERS: usize = 6;
@@ -65,7 +65,7 @@ unsafe fn on_stack(stack: &mut Stack, fill: u8, function: *const (), words: &[us
 ///
 /// SAFETY: as above; the function hands an `A` back through memory.
 unsafe fn measured<A: PartialEq + Debug>(function: *const (), mut prepare: impl FnMut() -> Vec<usize>) -> (A, usize) {
-    let mut stack = Box::new(Stack([0; 1 << 18]));
+    let mut stack = Box::new(Stack([0; 1 << 17]));
     let mut answered = [0x5A, 0xC3].map(|fill| {
         let mut answer = MaybeUninit::<A>::uninit();
         let words = [vec![answer.as_mut_ptr() as usize], prepare()].concat();
@@ -126,7 +126,7 @@ fn lent(code: &[u8], state: &mut State) -> Vec<usize> {
 
 fn of_fresh(code: &[u8], state: &State) -> usize {
     let mut state = state.clone();
-    let mut stack = Box::new(Stack([0; 1 << 18]));
+    let mut stack = Box::new(Stack([0; 1 << 17]));
     let measures = [0x5A, 0xC3].map(|fill| {
         let words = lent(code, &mut state);
         // SAFETY: all pointers come from slices of the counts beside them; what is written is lent to this call alone.
@@ -225,11 +225,16 @@ fn texts(open: usize) -> Vec<Vec<u8>> {
 
 /// A number that the header defines.
 fn defined(name: &str) -> usize {
-    let header = std::path::Path::new(env!("CARGO_MANIFEST_DIR")).join("../include/kuspigo.h");
-    let header = std::fs::read_to_string(header).expect("the header is there");
+    let header = header();
     let line = header.lines().find_map(|line| line.strip_prefix(&format!("#define {name} ")));
     let number = line.and_then(|line| line.split_whitespace().next()).and_then(|number| number.parse().ok());
     number.unwrap_or_else(|| panic!("the header defines the number {name}"))
+}
+
+/// The header's text.
+fn header() -> String {
+    let header = std::path::Path::new(env!("CARGO_MANIFEST_DIR")).join("../include/kuspigo.h");
+    std::fs::read_to_string(header).expect("the header is there")
 }
 
 /// The header's number is at least the most that was measured.
@@ -263,6 +268,10 @@ fn the_emitters_stack_does_and_is_seen_to() {
     let most = accepted().iter().map(|job| of_compile(job, LONGEST_CODE)).max().unwrap();
     println!("compile: {flat} bytes of stack for a job of one node, {most} at most");
     assert!(most > flat + DEEPEST, "{flat} to {most}");
+    let header = header();
+    let sentence = header.split_once("for one node compiling takes ").and_then(|(_, rest)| rest.split('.').next());
+    let told: usize = sentence.and_then(|number| number.parse().ok()).expect("the header tells what one node takes");
+    assert!(flat <= told, "compiling takes {flat} bytes of stack for a job of one node, and the header says {told}");
 }
 
 /// Of jobs and codes that are taken and that are refused.

@@ -59,8 +59,12 @@ fn put_header(out: &mut [u8], version: u16)
     requires { 5 ≤ length out.old }
     ensures { out.new ≡ onto (code_header version) out.old }
 {
-    let [high, low] = version.to_be_bytes();
-    put(out, 0, &[0x57, 0x53, 0x43, high, low]);
+    let version = usize::from(version);
+    put(
+        out,
+        0,
+        &[0x57, 0x53, 0x43, word::high(version), word::low(version)],
+    );
 }
 
 // PUSH of the number whose four bytes are the operand of the node at a place.
@@ -111,8 +115,15 @@ fn put_fork(out: &mut [u8], child: Part) -> Part
     requires { child.size + 3 ≤ length out.old }
     ensures { (result ≡ answer child.next (child.size + 3)) × (out.new ≡ onto (fork_bytes child.size) out.old) }
 {
-    let [.., high, low] = child.size.to_be_bytes();
-    put(out, 0, &[Opcode::Fork.byte(), high, low]);
+    put(
+        out,
+        0,
+        &[
+            Opcode::Fork.byte(),
+            word::high(child.size),
+            word::low(child.size),
+        ],
+    );
     Part {
         size: child.size + 3,
         ..child

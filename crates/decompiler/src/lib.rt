@@ -92,8 +92,19 @@ fn put_header(code: &[u8], nodes: usize, out: &mut [u8])
     requires { (5 ≤ length code.now) × (7 ≤ length out.old) }
     ensures { out.new ≡ onto (job_header code.now nodes) out.old }
 {
-    let [.., high, low] = nodes.to_be_bytes();
-    put(out, 0, &[0x57, 0x53, 0x4A, code[3], code[4], high, low]);
+    put(
+        out,
+        0,
+        &[
+            0x57,
+            0x53,
+            0x4A,
+            code[3],
+            code[4],
+            word::high(nodes),
+            word::low(nodes),
+        ],
+    );
 }
 
 // How far the pass has come: where each part on the stack starts in the job, and how many parts there are; where each open FORK's child
@@ -241,9 +252,10 @@ impl Pass {
         ensures output { out.new ≡ placed_at self.old.size (4 ∷ []) out.old }
     {
         put(out, self.size, &[Kind::Fork.byte()]);
-        let child = u16::from_be_bytes([code[self.place + 1], code[self.place + 2]]);
+        let child = word::number16(code[self.place + 1], code[self.place + 2]);
+        let end = self.place + 3 + child as usize;
         self.stack(3, 1, false);
-        self.ends[self.forked] = self.place + child as usize;
+        self.ends[self.forked] = end;
         self.forked += 1;
     }
 
@@ -272,7 +284,8 @@ impl Pass {
     }
 }
 
-// Writes the job that compiles to this code to the front of `out`.
+// Writes the job that compiles to this code to the front of `out`. Not inlined, so that its room on the stack is not yet taken while the code is scanned.
+#[inline(never)]
 fn restore(code: &[u8], nodes: usize, out: &mut [u8])
     requires { Restorable code.now nodes out.old }
     ensures { (j : Job) → read_code code.now ≡ done j → out.new ≡ onto (bytes_of j) out.old }

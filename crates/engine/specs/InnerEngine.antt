@@ -1,14 +1,16 @@
 -- For the proofs of the functions over lent records only: what each leaves. Nobody has to believe it: `laid_all`, `cleared_all` and
 -- `forgotten_all` (proofs/Laying) say what comes of a fresh state, and `Gathered` speaks of `survey_of` alone, which `survey-fits` ties to `fits`.
-use Rattle.std.specs.Prelude.{ℕ, zero, suc, ◌≡◌, cond, List, [], ◌∷◌, eqb, ℤ, pos, get_or}
+use Rattle.std.specs.Prelude.{ℕ, zero, suc, ◌≡◌, cond, List, [], ◌∷◌, eqb, ltb, ℤ, pos, get_or}
 use Rattle.thread.specs.declared.Thread.{Thread}
 use Rattle.thread.specs.Threads.{blank, spawned}
 use Rattle.machine.specs.Fits.{Typed, TypedThread, RangedThread}
 use Rattle.machine.specs.Steps.{State, state_from}
-use Rattle.progress.specs.InnerProgress.{Driven, Undergone, undergone}
+use Rattle.code.specs.Reader.{read_code}
+use Rattle.progress.specs.InnerProgress.{Driven, Undergone, admitted_to, undergone}
 use Rattle.progress.specs.declared.Progress.{Progress}
 use Rattle.survey.specs.declared.Survey.{Survey}
 use Rattle.survey.specs.InnerRecords.{survey_of}
+use Rattle.survey.specs.InnerWalk.{survey_fits}
 use Rattle.script.specs.Outcome.{Outcome}
 
 -- what is known of the records once they were gathered: their survey, and what each record has by its type
@@ -16,6 +18,16 @@ pub record Gathered (counts : List ℕ) (ts : List Thread) (r : Survey) : Type 0
   pub survey : r ≡ survey_of counts ts
   pub typed : (i : ℕ) → TypedThread (get_or ts i blank)
   pub ranged : (i : ℕ) → RangedThread (get_or ts i blank)
+
+-- with what a call begins, over the survey of its records
+pub record Admitted (code : List ℕ) (registers : ℕ) (counts : List ℕ) (ts : List Thread) (picks : ℕ) (o : Outcome Progress) : Type 0 where
+  pub survey : Survey
+  pub gathered : Gathered counts ts survey
+  pub admitted : o ≡ admitted_to (read_code code) (survey_fits survey code registers counts 0) survey.count picks
+
+-- the lesser of two numbers
+abbrev pub least_of : ℕ → ℕ → ℕ
+least_of a b = cond (ltb a b) a b
 
 -- so many of a list are written over, the first of them being number i; there may be fewer
 unfoldable pub overwritten : {A : Type 0} (new : ℕ → A) (left i : ℕ) → List A → List A

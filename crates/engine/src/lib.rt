@@ -2,7 +2,7 @@
 #![tactic(auto)]
 
 ghost use Rattle.std.specs.Prelude.{◌<◌, cond, ◌≡◌, ltb, get_or, length};
-ghost use Rattle.engine.specs.InnerEngine.{Called, Gathered, drove, underwent};
+ghost use Rattle.engine.specs.InnerEngine.{Admitted, Called, Gathered, drove, underwent};
 ghost use Rattle.machine.specs.Answers.{answered, fresh_call, run_call, step_call};
 ghost use Rattle.machine.specs.Fits.{RangedThread, TypedThread};
 ghost use Rattle.machine.specs.Steps.{state_from};
@@ -161,6 +161,22 @@ fn drive(
     progress
 }
 
+// The progress with which a call begins, unless it is refused. Its contract also hands on the survey, with what the records have by their type. Not inlined,
+// so that the survey's room on the stack is free again when the picks begin.
+#[inline(never)]
+fn admit(
+    code: &[u8],
+    registers: usize,
+    counts: &[u32],
+    threads: &[Thread],
+    picks: usize,
+) -> Result<Progress, Refusal>
+    ensures { Admitted code.now registers counts.now threads.now picks (outcome result) }
+{
+    let survey = gather(threads, counts);
+    progress::admitted(code, survey, registers, counts, picks)
+}
+
 // A list of picks, unless the call is refused. Its contract also hands on what the records have by their type.
 fn call(
     code: &[u8],
@@ -171,8 +187,7 @@ fn call(
 ) -> Result<Progress, Refusal>
     ensures { Called code.now (state_from registers.old counts.old threads.old) picks.now (underwent registers.new counts.new threads.new (outcome result)) }
 {
-    let survey = gather(threads, counts);
-    let progress = progress::admitted(code, survey, registers.len(), counts, picks.len())?;
+    let progress = admit(code, registers.len(), counts, threads, picks.len())?;
     Ok(drive(code, registers, counts, threads, picks, progress))
 }
 

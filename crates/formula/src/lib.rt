@@ -188,8 +188,16 @@ impl Job {
         ensures kept { length self.new.bytes ≡ length self.old.bytes }
         ensures written { self.new.bytes ≡ onto (0x57 ∷ 0x53 ∷ 0x4A ∷ 0 ∷ 1 ∷ bytes16 self.old.nodes) self.old.bytes }
     {
-        let count = (self.nodes as u16).to_be_bytes();
-        self.bytes[..7].copy_from_slice(&[b'W', b'S', b'J', 0, 1, count[0], count[1]]);
+        let header = [
+            b'W',
+            b'S',
+            b'J',
+            0,
+            1,
+            word::high(self.nodes),
+            word::low(self.nodes),
+        ];
+        self.bytes[..7].copy_from_slice(&header);
     }
 }
 

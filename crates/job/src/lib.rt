@@ -282,11 +282,11 @@ pub fn read_job(job: &[u8]) -> Result<Accepted, Refusal>
     if !job.starts_with(b"WSJ") {
         return Err(Reason::Mark.at(0));
     }
-    let version = u16::from_be_bytes([job[3], job[4]]);
+    let version = word::number16(job[3], job[4]);
     if version != 1 {
         return Err(Reason::Version.at(3));
     }
-    let count = u16::from_be_bytes([job[5], job[6]]);
+    let count = word::number16(job[5], job[6]);
     if !(1..=1000).contains(&count) {
         return Err(Reason::Count.at(5));
     }

@@ -153,7 +153,7 @@ fn print(page: &mut Page, input: &[u8])
         put_refused(page, Reason::Cut.at(input.len()));
         return;
     }
-    let n = usize::from(u16::from_be_bytes([input[0], input[1]]));
+    let n = usize::from(word::number16(input[0], input[1]));
     let end = n + 2;
     if input.len() < end {
         put_refused(page, Reason::Cut.at(input.len())); // bytes of the input, not of the job

@@ -42,7 +42,7 @@ fn instruction(opcode: u8, operand: &[u8]) -> Op
         5 => Op::Begin,
         6 => Op::Commit,
         7 => match operand {
-            [high, low, ..] => Op::Fork(u16::from_be_bytes([*high, *low]) as usize),
+            [high, low, ..] => Op::Fork(word::number16(*high, *low) as usize),
             _ => Op::Foreign,
         },
         _ => Op::Foreign,

@@ -112,26 +112,35 @@ impl<'a> Call for RunCall<'a> {
     }
 }
 
+// Any of these calls on the first so many, in place.
+fn lend_first<C: Call>(
+    registers: &mut [i32; 65],
+    counts: &mut [u32; 65],
+    threads: &mut [thread::Thread; 17],
+    lent: Lent,
+    call: C,
+) -> C::Reply
+    ensures { answered registers.new counts.new threads.new result ≡ on_first lent.registers lent.counts lent.records (C.comes_to call) registers.old counts.old threads.old }
+{
+    call.on(
+        &mut registers[..engine::least(lent.registers, 65)],
+        &mut counts[..engine::least(lent.counts, 65)],
+        &mut threads[..engine::least(lent.records, 17)],
+    )
+}
+
 // Any of these calls on the first so many.
-pub fn lend<C: Call>(state: Owned, lent: Lent, call: C) -> Left<C::Reply>
+pub fn lend<C: Call>(mut state: Owned, lent: Lent, call: C) -> Left<C::Reply>
     ensures { answered result.state.registers result.state.counts result.state.threads result.reply ≡ on_first lent.registers lent.counts lent.records (C.comes_to call) state.registers state.counts state.threads }
 {
-    let mut registers = state.registers;
-    let mut counts = state.counts;
-    let mut threads = state.threads;
-    let reply = call.on(
-        &mut registers[..lent.registers.min(65)],
-        &mut counts[..lent.counts.min(65)],
-        &mut threads[..lent.records.min(17)],
+    let reply = lend_first(
+        &mut state.registers,
+        &mut state.counts,
+        &mut state.threads,
+        lent,
+        call,
     );
-    Left {
-        state: Owned {
-            registers,
-            counts,
-            threads,
-        },
-        reply,
-    }
+    Left { state, reply }
 }
 
 // A fresh state.
@@ -165,11 +174,19 @@ pub fn shown(code: &[u8], picks: &[u8]) -> Left<machine::RunReply>
         records: 16,
     };
     let blank = engine::spawned(0, 0);
-    let empty = Owned {
-        registers: [0; 65],
-        counts: [0; 65],
-        threads: [blank; 17],
-    };
-    let laid = fresh(code, empty, lent);
-    run(code, laid.state, lent, picks)
+    let mut registers = [0; 65];
+    let mut counts = [0; 65];
+    let mut threads = [blank; 17];
+    let fresh = FreshCall { code };
+    let laid = lend_first(&mut registers, &mut counts, &mut threads, lent, fresh);
+    let run = RunCall { code, picks };
+    let reply = lend_first(&mut registers, &mut counts, &mut threads, lent, run);
+    Left {
+        state: Owned {
+            registers,
+            counts,
+            threads,
+        },
+        reply,
+    }
 }

@@ -82,9 +82,9 @@ impl Progress {
     fn after(self, event: Event, over: usize) -> Progress
         ensures { result ≡ advanced_to (event_number (shown_event event)) (event_register (shown_event event)) (turn_number (shown_event event)) over self }
     {
-        let steps = self.steps.saturating_add(1);
+        let steps = word::saturating_add(self.steps, 1);
         let next = Progress {
-            over: self.over.saturating_add(over),
+            over: word::saturating_add(self.over, over),
             event: event.number(),
             register: event.register(),
             turn: usize::from(event.is_turn()),
@@ -92,22 +92,22 @@ impl Progress {
         };
         match event {
             Event::Idle => Progress {
-                idle: self.idle.saturating_add(1),
+                idle: word::saturating_add(self.idle, 1),
                 ..next
             },
             Event::Forked(_) => Progress {
                 steps,
-                threads: self.threads.saturating_add(1),
+                threads: word::saturating_add(self.threads, 1),
                 ..next
             },
             Event::Committed => Progress {
                 steps,
-                commits: self.commits.saturating_add(1),
+                commits: word::saturating_add(self.commits, 1),
                 ..next
             },
             Event::SentBack(_) => Progress {
                 steps,
-                back: self.back.saturating_add(1),
+                back: word::saturating_add(self.back, 1),
                 ..next
             },
             Event::Pushed | Event::Summed(_) | Event::Begun | Event::Looked(_) | Event::Wrote => {

@@ -88,7 +88,7 @@ pub fn scan_code(code: &[u8]) -> Result<Scanned, Refusal>
     if !code.starts_with(b"WSC") {
         return Err(foreign());
     }
-    let version = u16::from_be_bytes([code[3], code[4]]);
+    let version = word::number16(code[3], code[4]);
     if version != 1 {
         return Err(foreign());
     }

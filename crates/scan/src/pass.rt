@@ -6,7 +6,7 @@ use std::cmp;
 
 // What an item of the stack stands for.
 #[derive(Clone, Copy, PartialEq, Eq)]
-pub enum Kind {
+pub(crate) enum Kind {
     // a BEGIN whose COMMIT is to come
     Begun,
     // a FORK whose child's end is to come
@@ -17,7 +17,7 @@ pub enum Kind {
 
 // An item of the stack, and the depth that its deepest node has at least in the job.
 #[derive(Clone, Copy)]
-pub struct Item {
+pub(crate) struct Item {
     pub kind: Kind,
     pub reach: u8,
 }
@@ -26,7 +26,7 @@ pub struct Item {
 // code, and the job's nodes, FORKs and bytes so far. (Arrays with their heights beside them and not the kit's ArrayVec: a step on 1,000 nodes takes
 // 17.2 us against 19.0.)
 #[derive(Drop)]
-pub struct Scan {
+pub(crate) struct Scan {
     pub items: [Item; 64],
     pub height: usize,
     pub ends: [usize; 15],
@@ -68,7 +68,7 @@ impl Scan {
     ghost use Rattle.script.specs.Outcome.{mapped};
 
     // Before the first instruction, behind the code's header of 5 bytes; the job has a header of 7.
-    pub fn start() -> Scan
+    pub(crate) fn start() -> Scan
         ensures view { view result ≡ scan_start }
         ensures place { result.place ≡ 5 }
     {
@@ -270,7 +270,7 @@ impl Scan {
     }
 
     // One instruction.
-    pub fn step(&mut self, op: Op) -> Option<()>
+    pub(crate) fn step(&mut self, op: Op) -> Option<()>
         requires place { self.old.place + op_length op ≤ 5005 }
         requires short { ShortFork op }
         ensures view { after result self.new ≡ op_stepped op (view self.old) }
@@ -319,7 +319,7 @@ impl Scan {
     }
 
     // The children that end at this place.
-    pub fn settle(&mut self) -> Option<()>
+    pub(crate) fn settle(&mut self) -> Option<()>
         ensures view { after result self.new ≡ closes (view self.old).ends (view self.old) }
         ensures place { self.new.place ≡ self.old.place }
     {
@@ -333,7 +333,7 @@ impl Scan {
     }
 
     // The end of the code: no FORK is open, and one process is left.
-    pub fn finish(&self) -> Option<()>
+    pub(crate) fn finish(&self) -> Option<()>
         ensures { after result self.now ≡ finished (view self.now) }
     {
         if self.forked != 0 {

@@ -138,7 +138,7 @@ fn needed(low: bool, stale: bool, backs: usize) -> usize
     if !low {
         usize::MAX
     } else if stale {
-        backs.saturating_add(1)
+        word::saturating_add(backs, 1)
     } else {
         backs
     }
@@ -456,7 +456,7 @@ impl Verdict {
         if !is_agreeing(w, row) {
             return None;
         }
-        let commits = self.commits.saturating_add(w.commits);
+        let commits = word::saturating_add(self.commits, w.commits);
         Some(Verdict {
             asked: w.asked,
             commits,
@@ -514,7 +514,7 @@ impl Survey {
         let Some(v) = self.judged(code) else {
             return false;
         };
-        let commits = others.saturating_add(v.commits);
+        let commits = word::saturating_add(others, v.commits);
         is_all_asked(&self.rows, v.asked)
             && is_all_met(&self.rows, commits)
             && is_at_most(counts, commits)

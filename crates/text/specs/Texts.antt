@@ -3,6 +3,7 @@ use Rattle.std.specs.Prelude.{ℕ, zero, suc, ◌+◌, ◌-◌, ◌*◌, Bool, t
 use Rattle.std.specs.List.{list_all, position_or_len, before_first, after_first}
 use Rattle.std.specs.Char.{is_ascii_lowercase}
 use Rattle.text.specs.declared.Number.{Number}
+use Rattle.text.specs.declared.Refused.{Refused}
 
 -- so many bytes, each 0
 unfoldable pub zeros : ℕ → List ℕ
@@ -70,3 +71,8 @@ nearest_up n = cond n.minus 0 (cond (nat_lt 4294967295 n.value) 4294967295 n.val
 -- whether the text is a word: 1 to 12 small letters
 abbrev pub is_word : List ℕ → Bool
 is_word text = nat_lt 0 (length text) && (nat_lt (length text) 13 && list_all is_ascii_lowercase text)
+
+-- the refusal with this number; 0 is none
+abbrev pub told : (number place : ℕ) → Option Refused
+told zero place = None
+told (suc n) place = Some (record { number = suc n; place = place })

@@ -17,6 +17,7 @@ ghost use Rattle.text.specs.Texts.{
   nearest,
   nearest_up,
   is_word,
+  told,
 };
 
 // A number with its sign.
@@ -310,7 +311,9 @@ pub fn write_signed(word: &[u8], n: i32) {
 
 impl Refused {
     // The refusal with this number, 0 being none.
-    pub fn told(number: usize, place: usize) -> Option<Refused> {
+    pub fn told(number: usize, place: usize) -> Option<Refused>
+        ensures { result ≡ told number place }
+    {
         if number == 0 {
             return None;
         }

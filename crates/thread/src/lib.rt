@@ -250,7 +250,7 @@ impl Thread {
                 if self.begin == 0 {
                     (Event::Summed(false), over, self.over, top, place)
                 } else {
-                    let noted = self.over.saturating_add(over);
+                    let noted = word::saturating_add(self.over, over);
                     (Event::Summed(true), 0, noted, top, place)
                 }
             }
@@ -400,7 +400,7 @@ impl Thread {
         let readcounts = self.readcounts;
         if let Some(v) = first_stale(self.reads, &readcounts, counts) {
             let mut back = self.closed(self.begin, self.base);
-            back.backs = back.backs.saturating_add(1);
+            back.backs = word::saturating_add(self.backs, 1);
             return back.did(Event::SentBack(v), 0);
         }
         let writelog = self.writelog;

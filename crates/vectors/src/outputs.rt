@@ -14,7 +14,7 @@ fn write_rest(rest: &[u8]) {
 }
 
 // Writes what is printed, all its lines in one line.
-pub fn write_printed(lines: &[u8]) {
+pub(crate) fn write_printed(lines: &[u8]) {
     text::write(b"prints");
     for line in lines.split_inclusive(|byte| *byte == b'\n') {
         text::write(b" ");
@@ -26,13 +26,13 @@ pub fn write_printed(lines: &[u8]) {
 }
 
 // Writes code that is a result.
-pub fn write_code(code: &[u8]) {
+pub(crate) fn write_code(code: &[u8]) {
     text::write(b"code ");
     text::write_bytes(code);
 }
 
 // Writes a job that is a result.
-pub fn write_job(job: &[u8]) {
+pub(crate) fn write_job(job: &[u8]) {
     text::write(b"job ");
     text::write_bytes(job);
 }
@@ -46,7 +46,7 @@ fn write_refusal(refusal: Refusal) {
 }
 
 // Writes a job's version and the length of its code, or why it is none.
-pub fn write_reading(bytes: &[u8]) {
+pub(crate) fn write_reading(bytes: &[u8]) {
     match job::read_job(bytes) {
         Ok(accepted) => {
             text::write_number(b"accepted version ", usize::from(accepted.version));
@@ -57,7 +57,7 @@ pub fn write_reading(bytes: &[u8]) {
 }
 
 // Writes the forecast of a job, or why there is none.
-pub fn write_forecast(bytes: &[u8]) {
+pub(crate) fn write_forecast(bytes: &[u8]) {
     let told = forecast::forecast(bytes);
     if let Some(refused) = Refused::told(told.refusal, told.place) {
         text::write_refusal(refused);
@@ -85,7 +85,7 @@ fn parse<'a>(text: &[u8], space: &'a mut [u8]) -> Option<&'a [u8]> {
 }
 
 // Runs a command on the bytes that the text spells.
-pub fn run_bytes<C: FnOnce(&[u8])>(text: &[u8], call: C)
+pub(crate) fn run_bytes<C: FnOnce(&[u8])>(text: &[u8], call: C)
     requires { C.IsAlwaysCallable call }
 {
     let mut space = text::room::<{ super::ROOM }>();
@@ -97,7 +97,7 @@ pub fn run_bytes<C: FnOnce(&[u8])>(text: &[u8], call: C)
 
 // Runs a call on the bytes that the text spells and an output, whose size is the label's second word. Writes the result as `write_result` does, and what the
 // call made of what lies behind it.
-pub fn run_output<C: FnOnce(&[u8], &mut [u8]) -> Result<usize, Refusal>, W: FnOnce(&[u8])>(
+pub(crate) fn run_output<C: FnOnce(&[u8], &mut [u8]) -> Result<usize, Refusal>, W: FnOnce(&[u8])>(
     label: &[u8],
     text: &[u8],
     call: C,

@@ -59,12 +59,12 @@ fn run_calls(code: &[u8], m: Memory, lists: &[u8]) -> Option<()> {
 // ---- the case
 
 // The memory with nothing laid down, whatever the list.
-pub fn untouched(_code: &[u8], _list: &[u8]) -> Option<Memory> {
+pub(crate) fn untouched(_code: &[u8], _list: &[u8]) -> Option<Memory> {
     Some(memory::filled())
 }
 
 // A fresh state and the picks that the list spells.
-pub fn set_up(code: &[u8], list: &[u8]) -> Option<Memory> {
+pub(crate) fn set_up(code: &[u8], list: &[u8]) -> Option<Memory> {
     let mut picks = text::room::<{ super::ROOM }>();
     let count = text::parse_picks(list, &mut picks)?;
     Some(calls::begun(code, memory::filled(), &picks[..count]))
@@ -95,7 +95,7 @@ fn write_none(done: Option<()>) {
 }
 
 // Runs a call of the picks that a line's body spells, on the memory that `set_up` makes.
-pub fn run_picks<S: FnOnce(&[u8], &[u8]) -> Option<Memory>, C: FnOnce(&[u8], Memory, &[u8])>(
+pub(crate) fn run_picks<S: FnOnce(&[u8], &[u8]) -> Option<Memory>, C: FnOnce(&[u8], Memory, &[u8])>(
     body: &[u8],
     set_up: S,
     call: C,
@@ -112,6 +112,6 @@ pub fn run_picks<S: FnOnce(&[u8], &[u8]) -> Option<Memory>, C: FnOnce(&[u8], Mem
 }
 
 // Runs the calls of the lists of picks in a line's body.
-pub fn run_lists(body: &[u8]) {
+pub(crate) fn run_lists(body: &[u8]) {
     write_none(run_body(body, set_up, run_calls));
 }

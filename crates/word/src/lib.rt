@@ -85,7 +85,7 @@ impl Iterator for Ascending {
     }
 }
 
-// The number that two bytes hold, the high one first. (This and the two below stay beside std's, since docs/READING.md names them and edits bend them.)
+// The number that two bytes hold, the high one first.
 pub fn number16(high: u8, low: u8) -> u16
     ensures { result ≡ high * 256 + low }
 {

@@ -5,4 +5,4 @@ use Rattle.compiler.proofs.put_fork.Goals as goal
 
 pub returns : goal.returns
 unfolding bytes16
-returns c = (refl, c.put.ensures ∙ rw (c.to_be_bytes.ensures, c.byte.ensures))
+returns c = (refl, c.put.ensures ∙ rw (c.high.ensures, c.low.ensures, c.byte.ensures))

@@ -6,4 +6,4 @@ use Rattle.compiler.proofs.put_header.Goals as goal
 
 pub returns : goal.returns
 unfolding code_mark bytes16
-returns c = c.put.ensures ∙ rw c.to_be_bytes.ensures
+returns c = c.put.ensures ∙ rw (c.high.ensures, c.low.ensures, c.from-version.ensures)

@@ -31,19 +31,22 @@ returns-in_err-progress c =
     let rs = c.args.registers.now in
     let ns = c.args.counts.now in
     let ts = c.args.threads.now in
+    let a = c.in_err-progress.ensures in
     let r : c.from_residual.result ≡ Err c.in_err-progress.field-0.0 = search rules in
     record {
-      went = ap (λ (o : Outcome Progress). underwent rs ns ts o) (ap outcome r) ∙ goes c.args.code.now rs ns ts c.args.picks.now c.gather-survey.result c.gather-survey.ensures (outcome (Err c.in_err-progress.field-0.0)) c.in_err-progress.ensures;
-      typed = c.gather-survey.ensures.typed;
+      went = ap (λ (o : Outcome Progress). underwent rs ns ts o) (ap outcome r) ∙ goes c.args.code.now rs ns ts c.args.picks.now a.survey a.gathered (outcome (Err c.in_err-progress.field-0.0)) a.admitted;
+      typed = a.gathered.typed;
     }
 
 pub drive-requires : goal.drive-requires
 drive-requires c =
-    within c.args.code.now c.args.registers.now c.args.counts.now c.args.threads.now (length c.args.picks.now) c.gather-survey.result c.in_ok-progress.progress c.gather-survey.ensures.survey (bytes_of _ c.type_inv.code) c.gather-survey.ensures.typed (sym c.in_ok-progress.ensures)
+    let a = c.in_ok-progress.ensures in
+    within c.args.code.now c.args.registers.now c.args.counts.now c.args.threads.now (length c.args.picks.now) a.survey c.in_ok-progress.progress a.gathered.survey (bytes_of _ c.type_inv.code) a.gathered.typed (sym a.admitted)
 
 pub returns : goal.returns
 returns c =
+    let a = c.in_ok-progress.ensures in
     record {
-      went = ap (λ (d : Driven). record { state = d.state; progress = done d.progress }) c.drive.ensures ∙ goes c.args.code.now c.args.registers.now c.args.counts.now c.args.threads.now c.args.picks.now c.gather-survey.result c.gather-survey.ensures (done c.in_ok-progress.progress) c.in_ok-progress.ensures;
-      typed = c.gather-survey.ensures.typed;
+      went = ap (λ (d : Driven). record { state = d.state; progress = done d.progress }) c.drive.ensures ∙ goes c.args.code.now c.args.registers.now c.args.counts.now c.args.threads.now c.args.picks.now a.survey a.gathered (done c.in_ok-progress.progress) a.admitted;
+      typed = a.gathered.typed;
     }

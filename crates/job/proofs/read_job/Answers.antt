@@ -20,19 +20,19 @@ pub returns-then-not-starts_with : goal.returns-then-not-starts_with
 returns-then-not-starts_with c = rw c.at-then-not-starts_with.ensures (bad_mark c.args.job.now c.if-job-lt7.false (sym (marked c.args.job.now c.if-job-lt7.false) ∙ sym c.if-not-starts_with.ensures.value))
 
 pub returns-then-version-ne1 : goal.returns-then-version-ne1
-returns-then-version-ne1 c = rw c.at-then-version-ne1.ensures (bad_version c.args.job.now c.if-job-lt7.false (sym (marked c.args.job.now c.if-job-lt7.false) ∙ sym c.if-not-starts_with.ensures.value) (λ e. c.if-version-ne1.true (c.from_be_bytes-version.ensures ∙ e)))
+returns-then-version-ne1 c = rw c.at-then-version-ne1.ensures (bad_version c.args.job.now c.if-job-lt7.false (sym (marked c.args.job.now c.if-job-lt7.false) ∙ sym c.if-not-starts_with.ensures.value) (λ e. c.if-version-ne1.true (c.number16-version.ensures ∙ e)))
 
 pub returns-then-not-contains : goal.returns-then-not-contains
 returns-then-not-contains c =
-    let r : c.contains.result ≡ (is_le (nat_cmp 1 c.from_be_bytes-count.result) && is_le (nat_cmp c.from_be_bytes-count.result 1000)) = rw (c.new.ensures.start, c.new.ensures.end, c.new.ensures.exhausted) at c.contains.ensures.value in
-    rw c.at-then-not-contains.ensures (bad_count c.args.job.now c.if-job-lt7.false (sym (marked c.args.job.now c.if-job-lt7.false) ∙ sym c.if-not-starts_with.ensures.value) (sym c.from_be_bytes-version.ensures ∙ c.if-version-ne1.false) (counted _ _ c.from_be_bytes-count.ensures _ r c.if-not-contains.true))
+    let r : c.contains.result ≡ (is_le (nat_cmp 1 c.number16-count.result) && is_le (nat_cmp c.number16-count.result 1000)) = rw (c.new.ensures.start, c.new.ensures.end, c.new.ensures.exhausted) at c.contains.ensures.value in
+    rw c.at-then-not-contains.ensures (bad_count c.args.job.now c.if-job-lt7.false (sym (marked c.args.job.now c.if-job-lt7.false) ∙ sym c.if-not-starts_with.ensures.value) (sym c.number16-version.ensures ∙ c.if-version-ne1.false) (counted _ _ c.number16-count.ensures _ r c.if-not-contains.true))
 
 pub nodes-requires : goal.nodes-requires
 nodes-requires c =
-    let r : c.contains.result ≡ (is_le (nat_cmp 1 c.from_be_bytes-count.result) && is_le (nat_cmp c.from_be_bytes-count.result 1000)) = rw (c.new.ensures.start, c.new.ensures.end, c.new.ensures.exhausted) at c.contains.ensures.value in
-    (c.if-job-lt7.false, rw c.from.ensures (leb-true _ 1000 (both (leb 1 c.from_be_bytes-count.result) (leb c.from_be_bytes-count.result 1000) (counted c.from_be_bytes-count.result c.from_be_bytes-count.result refl _ r c.if-not-contains.false)).1))
+    let r : c.contains.result ≡ (is_le (nat_cmp 1 c.number16-count.result) && is_le (nat_cmp c.number16-count.result 1000)) = rw (c.new.ensures.start, c.new.ensures.end, c.new.ensures.exhausted) at c.contains.ensures.value in
+    (c.if-job-lt7.false, rw c.from.ensures (leb-true _ 1000 (both (leb 1 c.number16-count.result) (leb c.number16-count.result 1000) (counted c.number16-count.result c.number16-count.result refl _ r c.if-not-contains.false)).1))
 
 pub returns : goal.returns
 returns c =
-    let r : c.contains.result ≡ (is_le (nat_cmp 1 c.from_be_bytes-count.result) && is_le (nat_cmp c.from_be_bytes-count.result 1000)) = rw (c.new.ensures.start, c.new.ensures.end, c.new.ensures.exhausted) at c.contains.ensures.value in
-    c.nodes.ensures ∙ (rw (c.from.ensures, c.from_be_bytes-version.ensures, c.from_be_bytes-count.ensures) (passed c.args.job.now c.if-job-lt7.false (sym (marked c.args.job.now c.if-job-lt7.false) ∙ sym c.if-not-starts_with.ensures.value) (sym c.from_be_bytes-version.ensures ∙ c.if-version-ne1.false) (counted _ _ c.from_be_bytes-count.ensures _ r c.if-not-contains.false)))
+    let r : c.contains.result ≡ (is_le (nat_cmp 1 c.number16-count.result) && is_le (nat_cmp c.number16-count.result 1000)) = rw (c.new.ensures.start, c.new.ensures.end, c.new.ensures.exhausted) at c.contains.ensures.value in
+    c.nodes.ensures ∙ (rw (c.from.ensures, c.number16-version.ensures, c.number16-count.ensures) (passed c.args.job.now c.if-job-lt7.false (sym (marked c.args.job.now c.if-job-lt7.false) ∙ sym c.if-not-starts_with.ensures.value) (sym c.number16-version.ensures ∙ c.if-version-ne1.false) (counted _ _ c.number16-count.ensures _ r c.if-not-contains.false)))

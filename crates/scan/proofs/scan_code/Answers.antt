@@ -15,10 +15,10 @@ pub returns-then-not-starts_with : goal.returns-then-not-starts_with
 returns-then-not-starts_with c = rw c.foreign-then-not-starts_with.ensures (bad_mark c.args.code.now (bytes_of c.args.code.now c.type_inv.code) c.if-code-lt5.false (sym (is_marked c.args.code.now c.if-code-lt5.false) ∙ (sym c.starts_with.ensures.value ∙ c.if-not-starts_with.true)))
 
 pub returns-then-version-ne1 : goal.returns-then-version-ne1
-returns-then-version-ne1 c = rw c.foreign-then-version-ne1.ensures (bad_version c.args.code.now (bytes_of c.args.code.now c.type_inv.code) c.if-code-lt5.false (sym (is_marked c.args.code.now c.if-code-lt5.false) ∙ (sym c.starts_with.ensures.value ∙ c.if-not-starts_with.false)) (λ e. c.if-version-ne1.true (c.from_be_bytes-version.ensures ∙ e)))
+returns-then-version-ne1 c = rw c.foreign-then-version-ne1.ensures (bad_version c.args.code.now (bytes_of c.args.code.now c.type_inv.code) c.if-code-lt5.false (sym (is_marked c.args.code.now c.if-code-lt5.false) ∙ (sym c.starts_with.ensures.value ∙ c.if-not-starts_with.false)) (λ e. c.if-version-ne1.true (c.number16-version.ensures ∙ e)))
 
 pub returns-in_default : goal.returns-in_default
-returns-in_default c = rw c.foreign-in_default.ensures (is_foreign c.args.code.now (bytes_of c.args.code.now c.type_inv.code) c.if-code-lt5.false (sym (is_marked c.args.code.now c.if-code-lt5.false) ∙ (sym c.starts_with.ensures.value ∙ c.if-not-starts_with.false)) (sym c.from_be_bytes-version.ensures ∙ c.if-version-ne1.false) (subst (Followed c.args.code.now) c.in_default.is c.instructions.ensures))
+returns-in_default c = rw c.foreign-in_default.ensures (is_foreign c.args.code.now (bytes_of c.args.code.now c.type_inv.code) c.if-code-lt5.false (sym (is_marked c.args.code.now c.if-code-lt5.false) ∙ (sym c.starts_with.ensures.value ∙ c.if-not-starts_with.false)) (sym c.number16-version.ensures ∙ c.if-version-ne1.false) (subst (Followed c.args.code.now) c.in_default.is c.instructions.ensures))
 
 pub returns : goal.returns
-returns c = rw c.from_be_bytes-version.ensures (is_job c.args.code.now (bytes_of c.args.code.now c.type_inv.code) c.if-code-lt5.false (sym (is_marked c.args.code.now c.if-code-lt5.false) ∙ (sym c.starts_with.ensures.value ∙ c.if-not-starts_with.false)) (sym c.from_be_bytes-version.ensures ∙ c.if-version-ne1.false) c.in-Some.scan (subst (Followed c.args.code.now) c.in-Some.is c.instructions.ensures))
+returns c = rw c.number16-version.ensures (is_job c.args.code.now (bytes_of c.args.code.now c.type_inv.code) c.if-code-lt5.false (sym (is_marked c.args.code.now c.if-code-lt5.false) ∙ (sym c.starts_with.ensures.value ∙ c.if-not-starts_with.false)) (sym c.number16-version.ensures ∙ c.if-version-ne1.false) c.in-Some.scan (subst (Followed c.args.code.now) c.in-Some.is c.instructions.ensures))

@@ -5,10 +5,6 @@ use Rattle.decompiler.specs.declared.Pass.{Pass}
 use Rattle.decompiler.specs.InnerState.{part_pushed, child_opened}
 use Rattle.decompiler.proofs.Pass.fork.Goals as goal
 
-pub overflow_add-self-3 : goal.overflow_add-self-3
-unfolding part_pushed
-overflow_add-self-3 c = omega (arith, ap (λ (s : Pass). s.place) c.stack.ensures)
-
 pub offset_bounds-self-self : goal.offset_bounds-self-self
 unfolding part_pushed
 offset_bounds-self-self c = omega (arith, ap (λ (s : Pass). s.forked) c.stack.ensures)
@@ -17,10 +13,10 @@ pub bounds-self-self : goal.bounds-self-self
 unfolding part_pushed
 bounds-self-self c = omega (arith, ap (λ (s : Pass). s.forked) c.stack.ensures)
 
-pub overflow_add-self-4 : goal.overflow_add-self-4
+pub overflow_add-self-3 : goal.overflow_add-self-3
 unfolding part_pushed
-overflow_add-self-4 c = omega (arith, ap (λ (s : Pass). s.forked) c.stack.ensures)
+overflow_add-self-3 c = omega (arith, ap (λ (s : Pass). s.forked) c.stack.ensures)
 
 pub returns-clause-state : goal.returns-clause-state
 unfolding part_pushed child_opened
-returns-clause-state c = rw (c.stack.ensures, c.from_be_bytes-child.ensures)
+returns-clause-state c = rw (c.stack.ensures, c.number16-child.ensures)
