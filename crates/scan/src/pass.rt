@@ -108,21 +108,25 @@ impl Scan {
         if reach > 64 {
             return None;
         }
-        if self.nodes + nodes > 1000 {
+        // The counts are read before the item is stored: behind that they would be loaded again.
+        let nodes = self.nodes + nodes;
+        if nodes > 1000 {
             return None;
         }
-        if self.forks + forks > 15 {
+        let forks = self.forks + forks;
+        if forks > 15 {
             return None;
         }
+        let size = self.size + size;
         self.items[height] = Item {
             kind,
             reach: reach as u8,
         };
         self.height = height + 1;
         self.inside = inside;
-        self.nodes += nodes;
-        self.forks += forks;
-        self.size += size;
+        self.nodes = nodes;
+        self.forks = forks;
+        self.size = size;
         Some(())
     }
 
@@ -254,8 +258,10 @@ impl Scan {
         ensures view { after result self.new ≡ mapped (further size) (topped (view self.old) (kind_number kind) inside 0 size) }
         ensures place { OnSome result (self.new.place ≡ self.old.place + size) }
     {
+        // read before the item is stored, as the counts are
+        let place = self.place + size;
         self.push(kind, inside, 0, size)?;
-        self.place += size;
+        self.place = place;
         Some(())
     }
 
